@@ -1,0 +1,33 @@
+-- `context::Position::after` meets its contract. Assumes nothing.
+use mathlib.Core.Path.{refl, ap, _∙_}
+use Prim.Native.Nat.{_+_}
+use native.Mathlib.Omega.{arith}
+use Rattle.context.specs.Cells.{isWhiteSpace}
+use Rattle.context.specs.Trim.{trimmedAfter}
+use Rattle.context.proofs.Trimming.{trimmed-le}
+use Rattle.context.proofs.Writes.{advanced-blanks}
+use borrow.Author.Needs.{needs}
+use Rattle.context.proofs.Position.after.Statement.{statement}
+use Rattle.context.proofs.Position.after.Tie as tie
+
+add-from : tie.Need-add-from
+add-from c = search needs
+
+add-t6 : tie.Need-add-t6
+add-t6 c = search needs
+
+trimmed-length-requires : tie.Need-trimmed-length-requires
+trimmed-length-requires c κs = search needs
+
+trimmed-after-requires : tie.Need-trimmed-after-requires
+trimmed-after-requires c κs = omega (arith, trimmed-le isWhiteSpace (c .before .before .before .args .text .now))
+
+returns : tie.Need-returns
+returns c =
+    let a = c .before .before .before .before .args in
+    advanced-blanks (a .blanks) (a .text .now) (a .self) _ _ refl
+    (c .trimmed-after .ensures ∙ ap (trimmedAfter (a .self .length + a .blanks) (a .self .trimmed)) (c .before .trimmed-length .ensures))
+
+pub after-spec : {M : Type 1} → statement M
+after-spec =
+    tie.close (tie.spec add-from add-t6 trimmed-length-requires trimmed-after-requires returns)

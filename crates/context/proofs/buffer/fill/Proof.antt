@@ -1,0 +1,70 @@
+-- `context::buffer::fill` meets its contract: after i turns the first i of the n bytes are laid over the part. Assumes nothing.
+use mathlib.Core.Path.{_≡_, refl, sym, _∙_}
+use Prim.Native.Nat.{_≤_, _<_, _-_, min}
+use native.Mathlib.Nat.{min-le-left, min-le-right}
+use native.Mathlib.Omega.{arith}
+use lib.ListN.{length, take, replicate, length-replicate, getD-replicate, length-set}
+use borrow.Author.Needs.{needs}
+use Rattle.context.specs.Splice.{splice}
+use Rattle.context.proofs.Splicing.{splice-nil, loop-turn, loop-end}
+use Rattle.context.proofs.buffer.fill.Statement.{statement}
+use Rattle.context.proofs.buffer.fill.Tie as tie
+
+abbrev Inv-loop : tie.InvT-loop
+Inv-loop out₀ n b end i₀ out i = (out ≡ splice 0 (take i (replicate n b)) out₀) × (length out ≡ length out₀) × (i ≤ end) × (end ≡ min n (length out₀))
+
+abbrev μ-loop : tie.MeasureT-loop
+μ-loop out₀ n b end i₀ out i = end - i
+
+least-requires : tie.Need-least-requires Inv-loop μ-loop
+least-requires c κs = tt
+
+loop-holds : tie.Need-loop-holds Inv-loop μ-loop
+loop-holds c = (sym (splice-nil 0 _), refl, omega arith, c .least .ensures)
+
+slice-write-out : tie.Need-slice-write-out Inv-loop μ-loop
+slice-write-out c = omega (arith, min-le-right (c .before .before .before .before .args .n) (length (c .before .before .before .before .args .out .now)))
+
+add-i : tie.Need-add-i Inv-loop μ-loop
+add-i c = search needs
+
+loop-less : tie.Need-loop-less Inv-loop μ-loop
+loop-less c = search needs
+
+loop-again : tie.Need-loop-again Inv-loop μ-loop
+loop-again c =
+    let at = c .before in
+    let a = at .before .before .before .args in
+    let n = a .n in
+    let len = length-replicate n (a .b) in
+    let low = min-le-left n (length (a .out .now)) in
+    let more : at .loop .i < n = omega arith in (
+      loop-turn (replicate n (a .b)) (a .out .now) (at .loop .out) (at .loop .i) (a .b) 0 (at .loop .inv .0) (rw len more) (getD-replicate n (at .loop .i) (a .b) 0 more),
+      length-set (at .loop .out) (at .loop .i) (a .b) ∙ at .loop .inv .1,
+      omega arith,
+      at .loop .inv .3,
+    )
+
+same-length : tie.Need-same-length Inv-loop μ-loop
+same-length c = search needs
+
+returns : tie.Need-returns Inv-loop μ-loop
+returns c =
+    let at = c .before in
+    let a = at .before .before .before .args in
+    loop-end (replicate (a .n) (a .b)) (a .out .now) (at .loop .out) (at .loop .i) (at .loop .inv .0) (rw length-replicate (omega arith))
+
+pub fill-spec : {M : Type 1} → statement M
+fill-spec =
+    tie.close
+    (tie.spec
+    Inv-loop
+    μ-loop
+    least-requires
+    loop-holds
+    slice-write-out
+    add-i
+    loop-less
+    loop-again
+    same-length
+    returns)

@@ -1,0 +1,154 @@
+// Bytes written into a lent part, as far as it goes, and what is asked of a text before it is written.
+ghost use mathlib.Core.Path.{_≡_};
+ghost use mathlib.Core.List.{map};
+ghost use Prim.Native.Nat.{min, _+_, _^_, _<_};
+ghost use lib.ListN.{replicate};
+ghost use Rattle.context.specs.Cells.{count, isWhiteSpace, toCase};
+ghost use Rattle.context.specs.Trim.{trimmedAfter, trimmedLength};
+ghost use Rattle.context.specs.Splice.{splice};
+ghost use Rattle.context.specs.Context.{endsInNewline};
+
+pub(crate) fn least(a: usize, b: usize) -> usize
+    ensures { λ r. ⌜ r ≡ min a b ⌝ }
+{
+    if a < b { a } else { b }
+}
+
+pub(crate) fn to_case(uppercase: bool, b: u8) -> u8
+    ensures { λ r. ⌜ r ≡ toCase uppercase b ⌝ }
+{
+    if uppercase {
+        if b < 97 {
+            return b;
+        }
+        if 122 < b {
+            return b;
+        }
+        return b - 32;
+    }
+    if b < 65 {
+        return b;
+    }
+    if 90 < b {
+        return b;
+    }
+    b + 32
+}
+
+pub(crate) fn is_white_space(b: u8) -> bool
+    ensures { λ r. ⌜ r ≡ isWhiteSpace b ⌝ }
+{
+    if b == 32 {
+        return true;
+    }
+    if b < 9 {
+        return false;
+    }
+    b <= 13
+}
+
+// n times the byte b, from the part's start.
+pub(crate) fn fill(out: &mut [u8], n: usize, b: u8)
+    ensures { λ _. ⌜ now (out .exit) ≡ splice 0 (replicate n b) (now (out .entry)) ⌝ }
+{
+    let end = least(n, out.len());
+    let mut i: usize = 0;
+    while i < end {
+        out[i] = b;
+        i += 1;
+    }
+}
+
+// The text, from the part's start.
+pub(crate) fn copy(out: &mut [u8], text: &[u8])
+    ensures { λ _. ⌜ now (out .exit) ≡ splice 0 (now (text .entry)) (now (out .entry)) ⌝ }
+{
+    let end = least(text.len(), out.len());
+    let mut i: usize = 0;
+    while i < end {
+        out[i] = text[i];
+        i += 1;
+    }
+}
+
+// The text in upper or lower case. A loop of its own, so that the plain one can be a block copy.
+pub(crate) fn copy_in_case(out: &mut [u8], uppercase: bool, text: &[u8])
+    ensures { λ _. ⌜ now (out .exit) ≡ splice 0 (map (toCase uppercase) (now (text .entry))) (now (out .entry)) ⌝ }
+{
+    let end = least(text.len(), out.len());
+    let mut i: usize = 0;
+    while i < end {
+        out[i] = to_case(uppercase, text[i]);
+        i += 1;
+    }
+}
+
+// The same from offset `at` on: the part that begins there is lent.
+pub(crate) fn fill_at(out: &mut [u8], at: usize, n: usize, b: u8)
+    ensures { λ _. ⌜ now (out .exit) ≡ splice at (replicate n b) (now (out .entry)) ⌝ }
+{
+    if at < out.len() {
+        fill(&mut out[at..], n, b);
+    }
+}
+
+pub(crate) fn copy_at(out: &mut [u8], at: usize, text: &[u8])
+    ensures { λ _. ⌜ now (out .exit) ≡ splice at (now (text .entry)) (now (out .entry)) ⌝ }
+{
+    if at < out.len() {
+        copy(&mut out[at..], text);
+    }
+}
+
+pub(crate) fn copy_in_case_at(out: &mut [u8], at: usize, uppercase: bool, text: &[u8])
+    ensures { λ _. ⌜ now (out .exit) ≡ splice at (map (toCase uppercase) (now (text .entry))) (now (out .entry)) ⌝ }
+{
+    if at < out.len() {
+        copy_in_case(&mut out[at..], uppercase, text);
+    }
+}
+
+pub(crate) fn trimmed_length(text: &[u8]) -> usize
+    ensures { λ r. ⌜ r ≡ trimmedLength isWhiteSpace (now (text .entry)) ⌝ }
+{
+    let mut n = text.len();
+    while 0 < n {
+        let i = n - 1;
+        if is_white_space(text[i]) {
+            n = i;
+        } else {
+            return n;
+        }
+    }
+    0
+}
+
+pub(crate) fn trimmed_after(n: usize, k: usize, j: usize) -> usize
+    requires { ⌜ n + j < 2 ^ 64 ⌝ }
+    ensures { λ r. ⌜ r ≡ trimmedAfter n k j ⌝ }
+{
+    if j == 0 { k } else { n + j }
+}
+
+pub(crate) fn count_newlines(text: &[u8]) -> usize
+    ensures { λ r. ⌜ r ≡ count 10 (now (text .entry)) ⌝ }
+{
+    let mut k: usize = 0;
+    let mut i: usize = 0;
+    while i < text.len() {
+        if text[i] == 10 {
+            k += 1;
+        }
+        i += 1;
+    }
+    k
+}
+
+pub(crate) fn ends_in_newline(text: &[u8]) -> bool
+    ensures { λ r. ⌜ r ≡ endsInNewline (now (text .entry)) ⌝ }
+{
+    if text.len() == 0 {
+        return false;
+    }
+    text[text.len() - 1] == 10
+}

@@ -1,0 +1,4 @@
+pub mod Same
+pub mod Capitals
+pub mod Entry
+pub mod Lookup

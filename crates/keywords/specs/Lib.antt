@@ -1,0 +1,4 @@
+pub mod Names
+pub mod Words
+pub mod Table
+pub mod Index

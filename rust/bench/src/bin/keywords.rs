@@ -1,0 +1,98 @@
+//! Times the word tests of the source and of the port on the same words, in one run.
+
+use oracle::random::Random;
+use oracle::source;
+use std::hint::black_box;
+use std::process::ExitCode;
+use std::time::Instant;
+
+const USAGE: &str = "usage: keywords   prints what a word costs in each test, in nanoseconds; takes no argument";
+
+/// Names as queries have them, of many lengths.
+const NAMES: &str =
+    "a b t id ts x1 url sum max uid name date hits city count price total event users toDate orders status user_id \
+    country uniqExact quantile event_id order_id sessions browser duration arrayJoin event_time page_views \
+    created_at groupArray toStartOfDay customer_id toYYYYMMDD event_date user_agent temperature is_mobile \
+    referer_domain toStartOfInterval search_phrase watch_id_column total_amount_eur";
+
+/// Few enough that text and words stay in the nearest cache.
+const WORDS: usize = 1024;
+const PASSES: usize = 64;
+const ROUNDS: usize = 31;
+
+fn main() -> ExitCode {
+    if std::env::args().len() > 1 {
+        eprintln!("keywords: {USAGE}");
+        return ExitCode::from(2);
+    }
+    if let Some(missing) = bench::missing() {
+        eprintln!("keywords: {missing}");
+        return ExitCode::from(2);
+    }
+    print_times();
+    ExitCode::SUCCESS
+}
+
+fn print_times() {
+    let mut random = Random::of(1, 0, 0);
+    let texts = [
+        ("keywords", text(|| keyword(&mut random))),
+        ("names", text(|| name(&mut random))),
+        ("half and half", text(|| if random.percent(50) { keyword(&mut random) } else { name(&mut random) })),
+    ];
+    println!("{:<17} {:<14} {:>10} {:>9} {:>6}", "test", "words", "source ns", "port ns", "ratio");
+    for (label, text) in &texts {
+        row("is_keyword", label, text, source::is_keyword, bench::is_keyword);
+    }
+    for (label, text) in &texts {
+        row("is_value_keyword", label, text, source::is_value_keyword, bench::is_value_keyword);
+    }
+}
+
+/// A text of so many words, each followed by a blank.
+fn text(mut word: impl FnMut() -> String) -> String {
+    (0..WORDS).map(|_| word() + " ").collect()
+}
+
+/// An entry of the list, in small letters or in capitals.
+fn keyword(random: &mut Random) -> String {
+    let word = random.pick(source::keywords());
+    if random.percent(50) {
+        word.to_lowercase()
+    } else {
+        word.to_string()
+    }
+}
+
+fn name(random: &mut Random) -> String {
+    let names: Vec<&str> = NAMES.split(' ').collect();
+    random.pick(&names).to_string()
+}
+
+/// Prints the median of the rounds of each side, which take turns.
+fn row(test: &str, label: &str, text: &str, source: fn(&str) -> bool, port: fn(&[u8]) -> bool) {
+    let words: Vec<&str> = text.split_terminator(' ').collect();
+    let mut times = [Vec::new(), Vec::new()];
+    for _ in 0..ROUNDS {
+        times[0].push(time(&words, source));
+        times[1].push(time(&words, |word| port(word.as_bytes())));
+    }
+    let [source, port] = times.map(median);
+    println!("{test:<17} {label:<14} {source:>10.1} {port:>9.1} {:>6.1}", source / port);
+}
+
+/// Nanoseconds for a word.
+fn time(words: &[&str], test: impl Fn(&str) -> bool) -> f64 {
+    let start = Instant::now();
+    for _ in 0..PASSES {
+        for word in words {
+            black_box(test(black_box(word)));
+        }
+    }
+    start.elapsed().as_nanos() as f64 / (PASSES * words.len()) as f64
+}
+
+fn median(mut times: Vec<f64>) -> f64 {
+    times.sort_by(f64::total_cmp);
+    times[times.len() / 2]
+}

@@ -1,0 +1,107 @@
+//! The port's word tests answer as the source's do.
+
+use oracle::random::Random;
+use oracle::source;
+
+const ASCII: std::ops::Range<u8> = 0..128;
+
+/// Whether a test may run; where not, says so in one line that the test runner does not swallow.
+fn may_run(test: &str) -> bool {
+    use std::io::Write;
+    if let Some(missing) = bench::missing() {
+        let _ = std::io::stderr().write_all(format!("skipped {test}: {missing}\n").as_bytes());
+        return false;
+    }
+    true
+}
+
+fn compare(word: &[u8]) {
+    let text = std::str::from_utf8(word).expect("ASCII");
+    assert_eq!(bench::is_keyword(word), source::is_keyword(text), "is_keyword of {text:?}");
+    assert_eq!(bench::is_value_keyword(word), source::is_value_keyword(text), "is_value_keyword of {text:?}");
+}
+
+#[test]
+fn every_word_of_at_most_two_bytes() {
+    if !may_run("every_word_of_at_most_two_bytes") {
+        return;
+    }
+    compare(&[]);
+    for first in ASCII {
+        compare(&[first]);
+        for second in ASCII {
+            compare(&[first, second]);
+        }
+    }
+}
+
+#[test]
+fn every_entry_in_every_mix_of_cases() {
+    if !may_run("every_entry_in_every_mix_of_cases") {
+        return;
+    }
+    for word in source::keywords() {
+        for small in 0..1u32 << word.len() {
+            let letter = |(i, byte): (usize, u8)| if small >> i & 1 == 1 { byte.to_ascii_lowercase() } else { byte };
+            compare(&word.bytes().enumerate().map(letter).collect::<Vec<u8>>());
+        }
+    }
+}
+
+#[test]
+fn every_entry_with_one_byte_changed_removed_or_added() {
+    if !may_run("every_entry_with_one_byte_changed_removed_or_added") {
+        return;
+    }
+    for word in source::keywords() {
+        let word = word.as_bytes();
+        for at in 0..=word.len() {
+            let (before, after) = word.split_at(at);
+            for byte in ASCII {
+                compare(&[before, &[byte], after].concat());
+            }
+            if let [_, rest @ ..] = after {
+                compare(&[before, rest].concat());
+                for byte in ASCII {
+                    compare(&[before, &[byte], rest].concat());
+                }
+            }
+        }
+    }
+}
+
+#[test]
+fn random_words() {
+    if !may_run("random_words") {
+        return;
+    }
+    let mut random = Random::of(1, 0, 0);
+    for _ in 0..300_000 {
+        let length = random.within(0, 16);
+        compare(&(0..length).map(|_| b'A' + random.below(26) as u8).collect::<Vec<u8>>());
+        compare(&(0..length).map(|_| random.below(128) as u8).collect::<Vec<u8>>());
+        // The front of one entry and the back of another.
+        let [one, other] = [(); 2].map(|_| random.pick(source::keywords()).as_bytes());
+        let (end, start) = (random.below(one.len()), random.below(other.len()));
+        compare(&[&one[..end], &other[start..]].concat());
+    }
+}
+
+/// The port takes any bytes: one above 127 is no letter.
+#[test]
+fn a_byte_above_127_makes_no_keyword() {
+    if !bench::AT_HAND {
+        may_run("a_byte_above_127_makes_no_keyword");
+        return;
+    }
+    for byte in 128..=255 {
+        for word in [[byte, b'Y'], [b'B', byte]] {
+            assert!(!bench::is_keyword(&word), "{word:?}");
+        }
+        for at in 0..4 {
+            let mut word = *b"NULL";
+            word[at] = byte;
+            assert!(!bench::is_keyword(&word) && !bench::is_value_keyword(&word), "{word:?}");
+        }
+    }
+}

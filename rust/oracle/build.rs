@@ -1,0 +1,125 @@
+//! Finds the original source, mounts its files unchanged as modules, and reads its tables of kinds and routines.
+
+use std::path::{Path, PathBuf};
+use std::{env, fs};
+
+const VARIABLE: &str = "CLICKHOUSE_ANALYZER_SRC";
+
+fn main() {
+    println!("cargo::rustc-check-cfg=cfg(has_source)");
+    // The source names a feature that this crate does not have.
+    println!("cargo::rustc-check-cfg=cfg(feature, values(\"serde\"))");
+    println!("cargo::rerun-if-env-changed={VARIABLE}");
+    let source = source_folder().join("src");
+    for file in FILES {
+        println!("cargo::rerun-if-changed={}", source.join(file).display());
+    }
+    let present = FILES.iter().all(|file| source.join(file).is_file());
+    if present {
+        println!("cargo::rustc-cfg=has_source");
+        write("source.rs", &modules(&source));
+        write("tables.rs", &tables(&source));
+    } else {
+        println!("cargo::warning=no source in {}: set {VARIABLE} to the folder that holds src/", source.display());
+        write("source.rs", "");
+        write("tables.rs", &table_text(&[], &[]));
+    }
+}
+
+const TOKEN: &str = "lexer/token.rs";
+const SYNTAX_KIND: &str = "parser/syntax_kind.rs";
+const SYNTAX_TREE: &str = "parser/syntax_tree.rs";
+const FORMATTER: &str = "formatter/mod.rs";
+const CONTEXT: &str = "formatter/context.rs";
+const FORMAT_NODE: &str = "formatter/format_node.rs";
+const FILES: [&str; 6] = [TOKEN, SYNTAX_KIND, SYNTAX_TREE, FORMATTER, CONTEXT, FORMAT_NODE];
+
+/// The folder that holds src/: the variable's, else shared/docs/src beside the repository.
+fn source_folder() -> PathBuf {
+    if let Some(folder) = env::var_os(VARIABLE) {
+        return PathBuf::from(folder);
+    }
+    let package = PathBuf::from(env::var_os("CARGO_MANIFEST_DIR").expect("cargo names the package"));
+    package.join("../../../shared/docs/src")
+}
+
+fn write(name: &str, text: &str) {
+    let folder = PathBuf::from(env::var_os("OUT_DIR").expect("cargo names the output folder"));
+    fs::write(folder.join(name), text).expect("the output folder can be written");
+}
+
+/// The original crate's module tree. `format_node` is mounted a second time to reach its private word tests.
+fn modules(source: &Path) -> String {
+    let path = |file: &str| format!("{:?}", source.join(file).canonicalize().expect("a file seen before"));
+    format!(
+        "pub mod lexer {{ #[path = {token}] pub mod token; }}
+pub mod parser {{
+    #[path = {kind}] pub mod syntax_kind;
+    #[path = {tree}] pub mod syntax_tree;
+}}
+#[allow(dead_code)] #[path = {formatter}] pub mod formatter;
+#[allow(dead_code)] mod formatter_opened {{
+    use crate::formatter::FormatConfig;
+    #[path = {context}] mod context;
+    pub mod format_node {{
+        include!({node});
+        pub fn opened_is_keyword(text: &str) -> bool {{ is_keyword(text) }}
+        pub fn opened_is_value_keyword(text: &str) -> bool {{ is_value_keyword(text) }}
+        pub fn opened_keywords() -> &'static [&'static str] {{ KEYWORDS }}
+    }}
+}}
+",
+        token = path(TOKEN),
+        kind = path(SYNTAX_KIND),
+        tree = path(SYNTAX_TREE),
+        formatter = path(FORMATTER),
+        context = path(CONTEXT),
+        node = path(FORMAT_NODE),
+    )
+}
+
+fn tables(source: &Path) -> String {
+    let read = |file: &str| fs::read_to_string(source.join(file)).expect("a file seen before");
+    table_text(&variants(&read(SYNTAX_KIND)), &dispatch_rows(&read(FORMAT_NODE)))
+}
+
+/// The part of `text` between two marks, without line comments.
+fn part(text: &str, from: &str, to: &str) -> String {
+    let (_, rest) = text.split_once(from).expect("the part's first mark");
+    let (inner, _) = rest.split_once(to).expect("the part's last mark");
+    inner.lines().map(|line| line.split("//").next().unwrap_or("")).collect::<Vec<_>>().join("\n")
+}
+
+/// The variants of `SyntaxKind` in their order.
+fn variants(text: &str) -> Vec<String> {
+    let inner = part(text, "pub enum SyntaxKind {", "\n}");
+    inner.split(',').map(|name| name.trim().to_string()).filter(|name| !name.is_empty()).collect()
+}
+
+/// The named rows of `format_node`: a kind and the routine it goes to.
+fn dispatch_rows(text: &str) -> Vec<(String, String)> {
+    let inner = part(text, "match tree.kind {", "_ => format_passthrough");
+    let mut rows = Vec::new();
+    let mut kinds = Vec::new();
+    for word in inner.split(|c: char| !c.is_alphanumeric() && c != '_' && c != ':') {
+        if let Some(kind) = word.strip_prefix("SyntaxKind::") {
+            kinds.push(kind.to_string());
+        } else if word.starts_with("format_") {
+            rows.extend(kinds.drain(..).map(|kind| (kind, word.to_string())));
+        }
+    }
+    rows
+}
+
+fn table_text(names: &[String], rows: &[(String, String)]) -> String {
+    let values: Vec<String> =
+        names.iter().map(|name| format!("crate::parser::syntax_kind::SyntaxKind::{name}")).collect();
+    format!(
+        "/// The kinds' names in the source's order.\npub static NAMES: &[&str] = &{names:?};\n\
+         /// The named rows of the source's dispatch: a kind's name and its routine's.\n\
+         pub static ROWS: &[(&str, &str)] = &{rows:?};\n\
+         /// The kinds as the source's own values, in its order.\n\
+         #[cfg(has_source)]\npub static VALUES: &[crate::parser::syntax_kind::SyntaxKind] = &[{}];\n",
+        values.join(", ")
+    )
+}

@@ -1,0 +1,82 @@
+//! The two calls, measuring and laying out, as document 01 answers them.
+
+use crate::source;
+use crate::tape::{self, Node, MOST_BYTES};
+
+/// One call: text, tape, settings, and the output space with its bytes before the call.
+#[derive(Clone, Debug, PartialEq)]
+pub struct Case {
+    pub text: Vec<u8>,
+    pub tape: Vec<u8>,
+    pub width: u64,
+    pub case: u64,
+    pub space: Vec<u8>,
+}
+
+/// An answer's two numbers: 0 and a length, or a refusal and its place.
+#[derive(Clone, Copy, Debug, PartialEq)]
+pub struct Answer {
+    pub number: u64,
+    pub second: u64,
+}
+
+/// What both calls answer, and the output space after laying out.
+#[derive(Clone, Debug, PartialEq)]
+pub struct Answered {
+    pub measured: Answer,
+    pub laid_out: Answer,
+    pub space: Vec<u8>,
+}
+
+pub const MOST_WIDTH: u64 = 16;
+
+/// Both calls on one input.
+pub fn answer(case: &Case) -> Answered {
+    match formatted(case) {
+        Ok(output) => accepted(&output, &case.space),
+        Err(refusal) => Answered { measured: refusal, laid_out: refusal, space: case.space.clone() },
+    }
+}
+
+/// What `format` returns, or the refusal among 1 to 12.
+pub fn formatted(case: &Case) -> Result<String, Answer> {
+    let root = accepted_tree(case)?;
+    let text = std::str::from_utf8(&case.text).expect("4 was tried");
+    let width = usize::try_from(case.width).expect("1 was tried");
+    Ok(source::format(&root, width, case.case == 1, text))
+}
+
+/// The tree of an accepted input, or the first refusal among 1 to 12.
+pub fn accepted_tree(case: &Case) -> Result<Node, Answer> {
+    if case.width > MOST_WIDTH {
+        return refused(1, 0);
+    }
+    if case.case > 1 {
+        return refused(2, 0);
+    }
+    if case.text.len() > MOST_BYTES {
+        return refused(3, 0);
+    }
+    if let Some(place) = case.text.iter().position(|byte| *byte > 127) {
+        return refused(4, place);
+    }
+    if case.tape.len() > MOST_BYTES {
+        return refused(5, 0);
+    }
+    tape::read(&case.tape, case.text.len()).or_else(|fault| refused(fault.number, fault.place))
+}
+
+fn refused<T>(number: u64, place: usize) -> Result<T, Answer> {
+    Err(Answer { number, second: place as u64 })
+}
+
+fn accepted(output: &str, space: &[u8]) -> Answered {
+    let needed = output.len();
+    let measured = Answer { number: 0, second: needed as u64 };
+    let mut space = space.to_vec();
+    let Some(first) = space.get_mut(..needed) else {
+        return Answered { measured, laid_out: Answer { number: 13, ..measured }, space };
+    };
+    first.copy_from_slice(output.as_bytes());
+    Answered { measured, laid_out: measured, space }
+}

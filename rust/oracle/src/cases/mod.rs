@@ -1,0 +1,96 @@
+//! Cases: inputs by the thousand, each made from a seed, a class and an index alone. Making them needs the source.
+
+mod damaged;
+mod jobs;
+mod limits;
+mod masked;
+mod query;
+mod wild;
+
+use crate::answers::{formatted, Case};
+use crate::masking::Pair;
+use crate::random::Random;
+
+#[derive(Clone, Copy, Debug, PartialEq)]
+pub enum Class {
+    /// Trees as a parser makes them, over SELECT queries.
+    Parser,
+    /// Trees of any carried kind with any legal spans over any text.
+    Wild,
+    /// Calls of the two classes above with one or more faults.
+    Damaged,
+    /// Jobs for the desk's program, good and damaged.
+    Jobs,
+    /// Two texts and one tape under the masking rule.
+    Masked,
+    /// Sizes and settings at their limits and one past them.
+    Limits,
+}
+
+impl Class {
+    pub const ALL: [(&'static str, Class); 6] = [
+        ("parser", Class::Parser),
+        ("wild", Class::Wild),
+        ("damaged", Class::Damaged),
+        ("jobs", Class::Jobs),
+        ("masked", Class::Masked),
+        ("limits", Class::Limits),
+    ];
+
+    pub fn named(name: &str) -> Option<Class> {
+        Class::ALL.iter().find(|(known, _)| *known == name).map(|(_, class)| *class)
+    }
+}
+
+/// A case of any class.
+pub enum Made {
+    Call(Case),
+    Job(Vec<u8>),
+    Pair(Pair),
+}
+
+/// The case of this seed, class and index.
+pub fn make(seed: u64, class: Class, index: u64) -> Made {
+    let mut random = Random::of(seed, class as u64, index);
+    match class {
+        Class::Jobs => Made::Job(jobs::make(&mut random)),
+        Class::Masked => Made::Pair(masked::make(&mut random)),
+        Class::Limits => Made::Call(limits::make(&mut random, index)),
+        Class::Parser => Made::Call(with_space(query::make(&mut random), &mut random)),
+        Class::Wild => Made::Call(with_space(wild::make(&mut random), &mut random)),
+        Class::Damaged => Made::Call(damaged::make(&mut random)),
+    }
+}
+
+/// The call of this seed, class and index; for the classes that make calls.
+pub fn call(seed: u64, class: Class, index: u64) -> Case {
+    match make(seed, class, index) {
+        Made::Call(case) => case,
+        _ => panic!("{class:?} makes no single calls"),
+    }
+}
+
+/// A parser's or a wild call with an empty output space.
+fn some_call(random: &mut Random) -> Case {
+    if random.percent(50) {
+        query::make(random)
+    } else {
+        wild::make(random)
+    }
+}
+
+/// Text and tape with settings in their range and an empty output space.
+fn with_settings(text: Vec<u8>, tape: Vec<u8>, random: &mut Random) -> Case {
+    let width = random.below(17) as u64;
+    let case = random.below(2) as u64;
+    Case { text, tape, width, case, space: Vec::new() }
+}
+
+/// The call with an output space about as long as it needs; a refused call gets a few bytes.
+fn with_space(mut case: Case, random: &mut Random) -> Case {
+    let needed = formatted(&case).map_or(5, |output| output.len());
+    let lengths = [needed, needed, needed.saturating_sub(1), needed + 5, 0];
+    let length = lengths[random.below(lengths.len())];
+    case.space = (0..length).map(|_| random.next() as u8).collect();
+    case
+}

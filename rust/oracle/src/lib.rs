@@ -1,0 +1,17 @@
+//! The oracle: answers to calls and jobs by document 01, with the layout made by the original Rust source.
+//!
+//! `answers::answer` answers a call, `job::printed` a job, and `cases::make` makes inputs for both.
+
+pub mod answers;
+pub mod builder;
+pub mod cases;
+pub mod coverage;
+pub mod job;
+pub mod kinds;
+pub mod masking;
+pub mod random;
+pub mod source;
+pub mod tape;
+
+// The source's own modules lexer, parser and formatter; nothing where it is not at hand.
+include!(concat!(env!("OUT_DIR"), "/source.rs"));

@@ -1,0 +1,133 @@
+//! The command line of the oracle: prints a case with its answer, or answers a job.
+
+use oracle::answers::{accepted_tree, answer, Answer, Case};
+use oracle::cases::{make, Class, Made};
+use oracle::masking::{breaches, claim, Pair};
+use oracle::tape::{Child, Node};
+use oracle::{job, kinds, source};
+use std::io::{self, Read, Write};
+use std::process::ExitCode;
+
+const USAGE: &str = "usage: oracle case SEED CLASS INDEX   prints a case and its answer
+       oracle job < FILE                 answers a job as the desk's program does
+CLASS is parser, wild, damaged, jobs, masked or limits; SEED and INDEX are numbers from 0 to 2^64-1";
+
+fn main() -> ExitCode {
+    let arguments: Vec<String> = std::env::args().skip(1).collect();
+    let arguments: Vec<&str> = arguments.iter().map(String::as_str).collect();
+    match run(&arguments).and_then(|output| io::stdout().write_all(&output).map_err(|error| error.to_string())) {
+        Ok(()) => ExitCode::SUCCESS,
+        Err(message) => {
+            eprintln!("oracle: {message}");
+            ExitCode::from(2)
+        }
+    }
+}
+
+fn run(arguments: &[&str]) -> Result<Vec<u8>, String> {
+    match arguments {
+        ["job"] => answer_job(),
+        ["case", seed, class, index] => print_case(seed, class, index).map(String::into_bytes),
+        _ => Err(USAGE.to_string()),
+    }
+}
+
+fn source_at_hand() -> Result<(), String> {
+    source::AT_HAND.then_some(()).ok_or(source::HINT.to_string())
+}
+
+fn answer_job() -> Result<Vec<u8>, String> {
+    source_at_hand()?;
+    let mut bytes = Vec::new();
+    // One byte past the buffer tells a job that is too long.
+    let input = io::stdin().lock().take(job::BUFFER as u64 + 1).read_to_end(&mut bytes);
+    input.map_err(|error| format!("the job cannot be read: {error}"))?;
+    Ok(job::printed(&bytes))
+}
+
+fn print_case(seed: &str, class: &str, index: &str) -> Result<String, String> {
+    let number = |text: &str| text.parse::<u64>().map_err(|_| format!("{text} is not a number\n{USAGE}"));
+    let (seed, index) = (number(seed)?, number(index)?);
+    let class = Class::named(class).ok_or(format!("{class} is not a class\n{USAGE}"))?;
+    source_at_hand()?;
+    Ok(match make(seed, class, index) {
+        Made::Call(case) => call_text(&case),
+        Made::Job(bytes) => job_text(&bytes),
+        Made::Pair(pair) => pair_text(&pair),
+    })
+}
+
+fn call_text(case: &Case) -> String {
+    let answered = answer(case);
+    format!(
+        "{}measured {}, laid out {}\nspace after: \"{}\"\n",
+        input_text(case),
+        numbers(answered.measured),
+        numbers(answered.laid_out),
+        answered.space.escape_ascii()
+    )
+}
+
+fn input_text(case: &Case) -> String {
+    let mut text = format!(
+        "width {}, case {}, space {} bytes\ntext, {} bytes: \"{}\"\ntape, {} bytes:\n",
+        case.width,
+        case.case,
+        case.space.len(),
+        case.text.len(),
+        case.text.escape_ascii(),
+        case.tape.len()
+    );
+    match accepted_tree(case) {
+        Ok(root) => print_node(&root, &case.text, 1, &mut text),
+        Err(_) => text.push_str(&format!("  {}\n", hexadecimal(&case.tape))),
+    }
+    text
+}
+
+fn print_node(node: &Node, text: &[u8], level: usize, out: &mut String) {
+    let indent = "  ".repeat(level);
+    out.push_str(&format!("{indent}{} {} to {}\n", kinds::name(node.kind), node.start, node.end));
+    for child in &node.children {
+        match child {
+            Child::Node(node) => print_node(node, text, level + 1, out),
+            Child::Token(token) => {
+                let part = &text[token.start as usize..token.end as usize];
+                let name = kinds::name(token.kind);
+                out.push_str(&format!(
+                    "{indent}  {name} {} to {} \"{}\"\n",
+                    token.start,
+                    token.end,
+                    part.escape_ascii()
+                ));
+            }
+        }
+    }
+}
+
+fn job_text(bytes: &[u8]) -> String {
+    format!(
+        "job, {} bytes:\n  {}\nprinted: \"{}\"\n",
+        bytes.len(),
+        hexadecimal(bytes),
+        job::printed(bytes).escape_ascii()
+    )
+}
+
+fn pair_text(pair: &Pair) -> String {
+    let conditions = breaches(pair);
+    format!(
+        "first\n{}second\n{}conditions not met: {conditions:?}\nclaim: {:?}\n",
+        call_text(&pair.case(0)),
+        call_text(&pair.case(1)),
+        claim(pair)
+    )
+}
+
+fn numbers(answer: Answer) -> String {
+    format!("{} {}", answer.number, answer.second)
+}
+
+fn hexadecimal(bytes: &[u8]) -> String {
+    bytes.iter().map(|byte| format!("{byte:02X}")).collect::<Vec<_>>().join(" ")
+}

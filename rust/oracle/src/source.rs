@@ -1,0 +1,114 @@
+//! The compiled source behind one door: its layout of a tree, its word tests and its keyword table.
+
+use crate::tape::Node;
+
+/// Whether the source was at hand when this crate was built.
+pub const AT_HAND: bool = cfg!(has_source);
+
+/// What to do where it was not.
+pub const HINT: &str = "the source is not at hand: set CLICKHOUSE_ANALYZER_SRC to the folder that holds src/";
+
+/// The source's `format` of a tree.
+pub fn format(root: &Node, width: usize, upper: bool, text: &str) -> String {
+    format_tree(&tree(root), width, upper, text)
+}
+
+#[cfg(has_source)]
+mod present {
+    use crate::formatter::{format, FormatConfig};
+    use crate::formatter_opened::format_node;
+    use crate::kinds::VALUES;
+    use crate::lexer::token::Token;
+    use crate::parser::syntax_tree::{SyntaxChild, SyntaxTree};
+    use crate::tape::{Child, Node};
+
+    /// The source's own tree.
+    pub type Tree = SyntaxTree;
+
+    /// A node as the source's own tree, spans as in the tape.
+    pub fn tree(node: &Node) -> Tree {
+        let children = node.children.iter().map(child).collect();
+        SyntaxTree { kind: VALUES[usize::from(node.kind)], children, start: node.start, end: node.end }
+    }
+
+    fn child(child: &Child) -> SyntaxChild {
+        match child {
+            Child::Token(t) => SyntaxChild::Token(Token::new(VALUES[usize::from(t.kind)], t.start, t.end)),
+            Child::Node(node) => SyntaxChild::Tree(tree(node)),
+        }
+    }
+
+    /// The source's `format` of its own tree.
+    pub fn format_tree(tree: &Tree, width: usize, upper: bool, text: &str) -> String {
+        format(tree, &FormatConfig { indent_width: width, uppercase_keywords: upper }, text)
+    }
+
+    /// The name and number that the source itself gives the kind of this number.
+    pub fn own_name_and_number(kind: u16) -> (String, u16) {
+        let value = VALUES[usize::from(kind)];
+        (format!("{value:?}"), value as u16)
+    }
+
+    /// The source's private `is_keyword`.
+    pub fn is_keyword(text: &str) -> bool {
+        format_node::opened_is_keyword(text)
+    }
+
+    /// The source's private `is_value_keyword`.
+    pub fn is_value_keyword(text: &str) -> bool {
+        format_node::opened_is_value_keyword(text)
+    }
+
+    /// The source's private table `KEYWORDS`.
+    pub fn keywords() -> &'static [&'static str] {
+        format_node::opened_keywords()
+    }
+}
+
+#[cfg(has_source)]
+pub use present::*;
+
+/// The same names where the source is not at hand: every call ends with the hint.
+#[cfg(not(has_source))]
+mod absent {
+    use super::HINT;
+    use crate::tape::Node;
+
+    pub struct Tree;
+
+    pub fn tree(_node: &Node) -> Tree {
+        panic!("{HINT}")
+    }
+
+    pub fn format_tree(_tree: &Tree, _width: usize, _upper: bool, _text: &str) -> String {
+        panic!("{HINT}")
+    }
+
+    pub fn own_name_and_number(_kind: u16) -> (String, u16) {
+        panic!("{HINT}")
+    }
+
+    pub fn is_keyword(_text: &str) -> bool {
+        panic!("{HINT}")
+    }
+
+    pub fn is_value_keyword(_text: &str) -> bool {
+        panic!("{HINT}")
+    }
+
+    pub fn keywords() -> &'static [&'static str] {
+        panic!("{HINT}")
+    }
+}
+
+#[cfg(not(has_source))]
+pub use absent::*;
+
+/// Whether a test that needs the source may run; where not, says so in one line that the test runner does not swallow.
+pub fn at_hand_for(test: &str) -> bool {
+    use std::io::Write;
+    if !AT_HAND {
+        let _ = std::io::stderr().write_all(format!("skipped {test}: {HINT}\n").as_bytes());
+    }
+    AT_HAND
+}

@@ -1,0 +1,292 @@
+//! Answers 1 to 13: the table's small inputs with their places, the order of the tests, and the limits.
+
+mod common;
+
+use common::{assert_refused, call, nested_files, plain, sheet_b, FILE};
+use oracle::answers::{answer, formatted, Answer, Case};
+use oracle::kinds::{COUNT, NOT_CARRIED};
+use oracle::tape::{push_close, push_open, push_token, MOST_BYTES};
+
+fn one_open(kind: u16) -> Vec<u8> {
+    let mut tape = Vec::new();
+    push_open(&mut tape, kind, 0, 0);
+    tape
+}
+
+/// A File over an empty span that holds a token of this span.
+fn file_with_token(start: u32, end: u32) -> Vec<u8> {
+    let mut tape = one_open(FILE);
+    push_token(&mut tape, FILE, start, end);
+    push_close(&mut tape);
+    tape
+}
+
+fn file_over(start: u32, end: u32) -> Vec<u8> {
+    let mut tape = Vec::new();
+    push_open(&mut tape, FILE, start, end);
+    push_close(&mut tape);
+    tape
+}
+
+#[test]
+fn width_17_is_1() {
+    assert_refused(&Case { width: 17, ..plain(b"", nested_files(1)) }, 1, 0);
+}
+
+#[test]
+fn widths_are_read_in_all_64_bits() {
+    for width in [256 + 4, (1 << 32) + 4, u64::MAX] {
+        assert_refused(&Case { width, ..plain(b"", nested_files(1)) }, 1, 0);
+    }
+}
+
+#[test]
+fn case_2_is_2() {
+    assert_refused(&Case { case: 2, ..plain(b"", nested_files(1)) }, 2, 0);
+}
+
+#[test]
+fn cases_are_read_in_all_64_bits() {
+    for case in [256, 257, (1 << 32) + 1, u64::MAX] {
+        assert_refused(&Case { case, ..plain(b"", nested_files(1)) }, 2, 0);
+    }
+}
+
+#[test]
+fn text_of_262145_blanks_is_3() {
+    assert_refused(&plain(&[b' '; MOST_BYTES + 1], nested_files(1)), 3, 0);
+}
+
+#[test]
+fn bytes_c3_a9_are_4_at_0() {
+    assert_refused(&plain(b"\xC3\xA9", nested_files(1)), 4, 0);
+}
+
+#[test]
+fn the_first_byte_above_127_is_the_place() {
+    assert_refused(&plain(b"a\x7F\x80\xFF", nested_files(1)), 4, 2);
+}
+
+#[test]
+fn tape_of_262145_closes_is_5() {
+    assert_refused(&plain(b"", vec![3; MOST_BYTES + 1]), 5, 0);
+}
+
+#[test]
+fn tape_of_262144_closes_is_read() {
+    assert_refused(&plain(b"", vec![3; MOST_BYTES]), 12, 0);
+}
+
+#[test]
+fn command_04_is_6_at_0() {
+    assert_refused(&plain(b"", vec![4]), 6, 0);
+    assert_refused(&plain(b"", vec![0]), 6, 0);
+}
+
+#[test]
+fn cut_command_is_7_at_0() {
+    assert_refused(&plain(b"", vec![1, 0, 0]), 7, 0);
+}
+
+#[test]
+fn kind_past_the_last_is_8() {
+    assert_refused(&plain(b"", one_open(65_535)), 8, 0);
+    assert_refused(&plain(b"", one_open(COUNT)), 8, 0);
+}
+
+#[test]
+fn token_of_a_kind_past_the_last_is_8() {
+    let mut tape = one_open(FILE);
+    push_token(&mut tape, COUNT, 0, 0);
+    assert_refused(&plain(b"", tape), 8, 11);
+}
+
+#[test]
+fn each_kind_not_carried_is_9_as_a_node() {
+    for (name, kind) in NOT_CARRIED {
+        println!("{name}");
+        assert_refused(&plain(b"", one_open(kind)), 9, 0);
+    }
+}
+
+#[test]
+fn token_past_the_text_is_10_at_11() {
+    assert_refused(&plain(b"", file_with_token(0, 1)), 10, 11);
+}
+
+#[test]
+fn token_with_start_above_end_is_10() {
+    assert_refused(&plain(b"ab", file_with_token(2, 1)), 10, 11);
+}
+
+#[test]
+fn node_past_the_text_is_10() {
+    assert_refused(&plain(b"", file_over(0, 1)), 10, 0);
+    assert_refused(&plain(b"", file_over(u32::MAX, u32::MAX)), 10, 0);
+}
+
+#[test]
+fn the_65th_open_node_is_11_at_704() {
+    assert_refused(&plain(b"", nested_files(65)), 11, 704);
+}
+
+#[test]
+fn close_with_no_node_open_is_12_at_0() {
+    assert_refused(&plain(b"", vec![3]), 12, 0);
+}
+
+#[test]
+fn token_with_no_node_open_is_12() {
+    let mut tape = Vec::new();
+    push_token(&mut tape, FILE, 0, 0);
+    assert_refused(&plain(b"", tape), 12, 0);
+}
+
+#[test]
+fn any_whole_command_after_the_root_is_12() {
+    let open = one_open(FILE);
+    let mut token = Vec::new();
+    push_token(&mut token, FILE, 0, 0);
+    for command in [open, token, vec![3]] {
+        assert_refused(&plain(b"", [nested_files(1), command].concat()), 12, 12);
+    }
+}
+
+#[test]
+fn after_the_root_a_wrong_byte_is_6_and_a_cut_command_7() {
+    assert_refused(&plain(b"", [nested_files(1), vec![9]].concat()), 6, 12);
+    assert_refused(&plain(b"", [nested_files(1), vec![2]].concat()), 7, 12);
+}
+
+#[test]
+fn tape_without_a_finished_root_is_12_at_its_length() {
+    assert_refused(&plain(b"", Vec::new()), 12, 0);
+    assert_refused(&plain(b"", one_open(FILE)), 12, 11);
+}
+
+#[test]
+fn settings_and_sizes_are_tried_in_order() {
+    let long = vec![0x80; MOST_BYTES + 1];
+    let tape = vec![4; MOST_BYTES + 1];
+    let mut case = Case { width: 17, case: 2, ..plain(&long, tape) };
+    assert_refused(&case, 1, 0);
+    case.width = 16;
+    assert_refused(&case, 2, 0);
+    case.case = 1;
+    assert_refused(&case, 3, 0);
+    case.text.truncate(MOST_BYTES);
+    assert_refused(&case, 4, 0);
+    case.text.clear();
+    assert_refused(&case, 5, 0);
+    case.tape.truncate(MOST_BYTES);
+    assert_refused(&case, 6, 0);
+}
+
+#[test]
+fn within_a_command_12_precedes_8_9_and_10() {
+    for kind in [COUNT, NOT_CARRIED[0].1, FILE] {
+        let mut tape = nested_files(1);
+        push_open(&mut tape, kind, 0, 1);
+        assert_refused(&plain(b"", tape), 12, 12);
+    }
+}
+
+#[test]
+fn within_a_command_8_precedes_10_and_11() {
+    let mut tape = one_open(FILE).repeat(64);
+    push_open(&mut tape, COUNT, 0, 1);
+    assert_refused(&plain(b"", tape), 8, 704);
+}
+
+#[test]
+fn within_a_command_9_precedes_10_which_precedes_11() {
+    let mut tape = one_open(FILE).repeat(64);
+    push_open(&mut tape, NOT_CARRIED[0].1, 0, 1);
+    assert_refused(&plain(b"", tape), 9, 704);
+    let mut tape = one_open(FILE).repeat(64);
+    push_open(&mut tape, FILE, 0, 1);
+    assert_refused(&plain(b"", tape), 10, 704);
+}
+
+#[test]
+fn the_first_faulty_command_decides() {
+    let tape = [file_with_token(0, 1), vec![9]].concat();
+    assert_refused(&plain(b"", tape), 10, 11);
+}
+
+#[test]
+fn nodes_below_a_copied_node_are_checked_too() {
+    let error = 0;
+    let tape = [one_open(error), one_open(NOT_CARRIED[0].1)].concat();
+    assert_refused(&plain(b"", tape), 9, 11);
+}
+
+#[test]
+fn b_with_26_bytes_is_13_with_the_needed_length() {
+    needs_source!();
+    let answered = answer(&Case { space: vec![0xEE; 26], ..call(sheet_b) });
+    assert_eq!(answered.measured, Answer { number: 0, second: 27 });
+    assert_eq!(answered.laid_out, Answer { number: 13, second: 27 });
+    assert_eq!(answered.space, vec![0xEE; 26]);
+}
+
+#[test]
+fn the_tape_is_refused_before_13() {
+    needs_source!();
+    let case = plain(b"", file_with_token(0, 1));
+    assert_eq!(answer(&case).laid_out.number, 10);
+}
+
+#[test]
+fn width_16_is_accepted() {
+    needs_source!();
+    let case = Case { width: 16, ..call(sheet_b) };
+    assert_eq!(formatted(&case).unwrap().len(), 27 + 2 * 12);
+}
+
+#[test]
+fn the_64th_open_node_is_accepted() {
+    needs_source!();
+    assert_eq!(answer(&plain(b"", nested_files(64))).measured, Answer { number: 0, second: 0 });
+}
+
+#[test]
+fn text_of_262144_bytes_is_accepted() {
+    needs_source!();
+    let case = plain(&[b'x'; MOST_BYTES], file_with_token(0, MOST_BYTES as u32));
+    assert_eq!(answer(&case).measured, Answer { number: 0, second: MOST_BYTES as u64 + 1 });
+}
+
+#[test]
+fn tokens_may_have_a_kind_that_is_not_carried() {
+    needs_source!();
+    let mut tape = one_open(FILE);
+    push_token(&mut tape, NOT_CARRIED[0].1, 0, 1);
+    push_close(&mut tape);
+    assert_eq!(formatted(&plain(b"a", tape)).unwrap(), "a\n");
+}
+
+#[test]
+fn node_with_start_above_end_may_pass_the_text() {
+    needs_source!();
+    assert_eq!(formatted(&plain(b"", file_over(u32::MAX, 7))).unwrap(), "");
+}
+
+#[test]
+fn an_empty_token_at_the_text_end_is_accepted() {
+    needs_source!();
+    assert_eq!(formatted(&plain(b"ab", file_with_token(2, 2))).unwrap(), "");
+}
+
+#[test]
+fn a_layout_that_fits_only_after_trimming_is_accepted() {
+    needs_source!();
+    let text = [b"a".as_slice(), &[b' '; 2000]].concat();
+    let mut tape = file_with_token(0, 2001);
+    tape.pop();
+    (0..40).for_each(|_| push_token(&mut tape, FILE, 1, 2001));
+    push_close(&mut tape);
+    let answered = answer(&Case { space: vec![0; 2], ..plain(&text, tape) });
+    assert_eq!(answered.laid_out, Answer { number: 0, second: 2 });
+    assert_eq!(answered.space, b"a\n");
+}
