@@ -4,5 +4,6 @@
 set -eu
 cd "$(dirname "$0")"
 rt staticlib keywords
+rt staticlib formatter
 cargo test --offline --quiet --manifest-path rust/Cargo.toml
 rt ci

@@ -3,14 +3,14 @@
 use mathlib.Core.Path.{_≡_, refl, sym, ap, subst₂, _∙_}
 use mathlib.Core.Bool.{Bool, false}
 use mathlib.Core.List.{List, [], _∷_, _++_, map}
-use Prim.Native.Nat.{ℕ, zero, suc, _+_, _-_, _<_}
+use Prim.Native.Nat.{ℕ, zero, suc, _+_, _<_}
 use native.Mathlib.Nat.{add-zero, add-suc, suc-add}
 use native.Mathlib.Omega.{arith}
 use lib.Dec.{eqb}
 use lib.ListN.{length, getD, take, length-map}
 use Rattle.context.specs.Cells.{Text, Cell, isWhiteSpace, toCase, tokenText, bytesOf, fresh, copiedFrom, spanCells, cellInCase}
 use Rattle.context.specs.Trim.{trim, trimmedLength}
-use Rattle.context.specs.Context.{Step, lead, writeToken, writeKeyword, writeRaw, afterWrite, lastByte, cellIsWhiteSpace, endLine, finish}
+use Rattle.context.specs.Context.{Step, writeToken, writeKeyword, writeRaw, afterWrite, lastByte, cellIsWhiteSpace, endLine, finish}
 use Rattle.context.specs.Alike.{CellLike, Like}
 use Rattle.context.specs.declared.FormatConfig.{FormatConfig}
 use Rattle.context.specs.declared.State.{State}

@@ -44,7 +44,8 @@ impl Coverage {
     }
 }
 
-fn sort(child: &Child, text: &[u8]) -> String {
+/// The sort of a child: the word, token kind or node kind that some routine asks for, or another.
+pub fn sort(child: &Child, text: &[u8]) -> String {
     let word = bare_word(child, text);
     match (child, WORDS.iter().find(|known| word.as_deref() == Some(known.as_bytes()))) {
         (_, Some(word)) => format!("BareWord {word}"),

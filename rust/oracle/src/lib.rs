@@ -3,6 +3,7 @@
 //! `answers::answer` answers a call, `job::printed` a job, and `cases::make` makes inputs for both.
 
 pub mod answers;
+pub mod arms;
 pub mod builder;
 pub mod cases;
 pub mod coverage;

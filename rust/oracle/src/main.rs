@@ -1,16 +1,18 @@
-//! The command line of the oracle: prints a case with its answer, or answers a job.
+//! The command line of the oracle: prints cases with their answers, or answers a job.
 
 use oracle::answers::{accepted_tree, answer, Answer, Case};
 use oracle::cases::{make, Class, Made};
 use oracle::masking::{breaches, claim, Pair};
 use oracle::tape::{Child, Node};
-use oracle::{job, kinds, source};
+use oracle::{arms, job, kinds, source};
 use std::io::{self, Read, Write};
 use std::process::ExitCode;
 
-const USAGE: &str = "usage: oracle case SEED CLASS INDEX   prints a case and its answer
-       oracle job < FILE                 answers a job as the desk's program does
-CLASS is parser, wild, damaged, jobs, masked or limits; SEED and INDEX are numbers from 0 to 2^64-1";
+const USAGE: &str = "usage: oracle case SEED CLASS INDEX            prints a case and its answer
+       oracle vectors SEED CLASS FIRST COUNT   prints the calls of COUNT cases for a program, a line each
+       oracle arms                             prints the arms of the source's routines, which vectors name
+       oracle job < FILE                       answers a job as the desk's program does
+CLASS is parser, wild, damaged, jobs, masked, limits or small; the others are numbers from 0 to 2^64-1";
 
 fn main() -> ExitCode {
     let arguments: Vec<String> = std::env::args().skip(1).collect();
@@ -28,6 +30,8 @@ fn run(arguments: &[&str]) -> Result<Vec<u8>, String> {
     match arguments {
         ["job"] => answer_job(),
         ["case", seed, class, index] => print_case(seed, class, index).map(String::into_bytes),
+        ["vectors", seed, class, first, count] => print_vectors(seed, class, first, count).map(String::into_bytes),
+        ["arms"] => print_arms().map(String::into_bytes),
         _ => Err(USAGE.to_string()),
     }
 }
@@ -45,16 +49,62 @@ fn answer_job() -> Result<Vec<u8>, String> {
     Ok(job::printed(&bytes))
 }
 
+fn number(text: &str) -> Result<u64, String> {
+    text.parse().map_err(|_| format!("{text} is not a number\n{USAGE}"))
+}
+
+fn class_named(name: &str) -> Result<Class, String> {
+    Class::named(name).ok_or(format!("{name} is not a class\n{USAGE}"))
+}
+
 fn print_case(seed: &str, class: &str, index: &str) -> Result<String, String> {
-    let number = |text: &str| text.parse::<u64>().map_err(|_| format!("{text} is not a number\n{USAGE}"));
-    let (seed, index) = (number(seed)?, number(index)?);
-    let class = Class::named(class).ok_or(format!("{class} is not a class\n{USAGE}"))?;
+    let (seed, class, index) = (number(seed)?, class_named(class)?, number(index)?);
     source_at_hand()?;
     Ok(match make(seed, class, index) {
         Made::Call(case) => call_text(&case),
         Made::Job(bytes) => job_text(&bytes),
         Made::Pair(pair) => pair_text(&pair),
     })
+}
+
+/// A line for each call: class and index; the input; both answers and the space afterwards; the arms taken. Tabs between them.
+fn print_vectors(seed: &str, name: &str, first: &str, count: &str) -> Result<String, String> {
+    let (seed, class, first, count) = (number(seed)?, class_named(name)?, number(first)?, number(count)?);
+    let last = first.checked_add(count).ok_or(format!("{first} and {count} pass the last index\n{USAGE}"))?;
+    source_at_hand()?;
+    let lines = (first..last).map(|index| match make(seed, class, index) {
+        Made::Call(case) => Ok(vector(&format!("{name} {index}"), &case)),
+        Made::Pair(pair) => Ok(["first", "second"]
+            .iter()
+            .enumerate()
+            .map(|(which, text)| vector(&format!("{name} {index} {text}"), &pair.case(which)))
+            .collect()),
+        Made::Job(_) => Err(format!("{name} makes no calls\n{USAGE}")),
+    });
+    lines.collect()
+}
+
+fn vector(name: &str, case: &Case) -> String {
+    let answered = answer(case);
+    let taken: Vec<String> = arms::taken(case).into_iter().collect();
+    let fields = [
+        name.to_string(),
+        case.width.to_string(),
+        case.case.to_string(),
+        hexadecimal(&case.text),
+        hexadecimal(&case.tape),
+        hexadecimal(&case.space),
+        numbers(answered.measured),
+        numbers(answered.laid_out),
+        hexadecimal(&answered.space),
+        taken.join(";"),
+    ];
+    fields.join("\t") + "\n"
+}
+
+fn print_arms() -> Result<String, String> {
+    source_at_hand()?;
+    Ok(arms::every().into_iter().map(|name| name + "\n").collect())
 }
 
 fn call_text(case: &Case) -> String {

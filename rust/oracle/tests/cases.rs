@@ -45,7 +45,7 @@ fn another_seed_class_or_index_gives_other_numbers() {
 fn a_case_is_made_again_alike() {
     needs_source!();
     for index in 0..50 {
-        for class in [Class::Parser, Class::Wild, Class::Damaged, Class::Limits] {
+        for class in [Class::Parser, Class::Wild, Class::Damaged, Class::Limits, Class::Small] {
             assert_eq!(call(SEED, class, index), call(SEED, class, index), "{class:?} {index}");
         }
         assert_eq!(job(index), job(index));
@@ -53,9 +53,9 @@ fn a_case_is_made_again_alike() {
 }
 
 #[test]
-fn parser_and_wild_calls_are_accepted_and_only_space_is_short() {
+fn parser_wild_and_small_calls_are_accepted_and_only_space_is_short() {
     needs_source!();
-    for class in [Class::Parser, Class::Wild] {
+    for class in [Class::Parser, Class::Wild, Class::Small] {
         let counts = answers_of(class, 2_000);
         assert_eq!(counts.keys().copied().collect::<Vec<_>>(), [0, 13], "{class:?}");
         assert!(counts[&13] > 200, "{class:?}");
@@ -154,8 +154,8 @@ fn long_jobs_stand_on_both_sides_of_the_buffer() {
 #[test]
 fn the_first_cases_are_the_ones_they_always_were() {
     needs_source!();
-    let classes = [Class::Parser, Class::Wild, Class::Damaged, Class::Jobs, Class::Masked, Class::Limits];
-    let sums = classes.map(|class| (0..24).fold(0, |sum, index| checksum(sum, &bytes_of(make(SEED, class, index)))));
+    let sums =
+        Class::ALL.map(|(_, class)| (0..24).fold(0, |sum, index| checksum(sum, &bytes_of(make(SEED, class, index)))));
     let expected = [
         11_202_158_228_322_769_669,
         15_632_258_231_340_237_505,
@@ -163,6 +163,7 @@ fn the_first_cases_are_the_ones_they_always_were() {
         8_009_621_990_073_209_210,
         964_324_876_942_875_903,
         17_773_102_487_889_945_319,
+        11_363_470_445_640_504_557,
     ];
     assert_eq!(sums, expected);
 }

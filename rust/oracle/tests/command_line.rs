@@ -2,6 +2,8 @@
 
 mod common;
 
+use oracle::answers::answer;
+use oracle::cases::{call, Class};
 use std::io::Write;
 use std::process::{Command, Output, Stdio};
 
@@ -36,6 +38,9 @@ fn a_bad_call_gets_a_message_and_status_2() {
     assert_bad_call(&["case", "-1", "parser", "0"], "-1 is not a number");
     assert_bad_call(&["case", "0", "parser", "18446744073709551616"], "18446744073709551616 is not a number");
     assert_bad_call(&["case", "0", "Parser", "0"], "Parser is not a class");
+    assert_bad_call(&["vectors", "0", "parser", "0"], "usage: oracle");
+    assert_bad_call(&["vectors", "0", "parser", "18446744073709551615", "1"], "pass the last index");
+    assert_bad_call(&["arms", "parser"], "usage: oracle");
 }
 
 #[test]
@@ -57,11 +62,52 @@ fn each_class_prints_its_case_and_answer() {
         ("wild", "measured "),
         ("damaged", "measured "),
         ("limits", "measured "),
+        ("small", "measured "),
         ("jobs", "printed: "),
         ("masked", "claim: Ok"),
     ] {
         let output = oracle(&["case", "1", class, "10"], b"");
         assert!(output.status.success(), "{class}");
         assert!(String::from_utf8(output.stdout).unwrap().contains(part), "{class}");
+    }
+}
+
+fn lines(arguments: &[&str]) -> Vec<String> {
+    let output = oracle(arguments, b"");
+    assert!(output.status.success(), "{arguments:?}");
+    String::from_utf8(output.stdout).unwrap().lines().map(str::to_string).collect()
+}
+
+#[test]
+fn vectors_are_the_calls_a_line_each() {
+    needs_source!();
+    for (class, names) in [
+        ("small", vec!["small 7", "small 8"]),
+        ("masked", vec!["masked 7 first", "masked 7 second", "masked 8 first", "masked 8 second"]),
+    ] {
+        let lines = lines(&["vectors", "1", class, "7", "2"]);
+        let firsts: Vec<&str> = lines.iter().filter_map(|line| line.split('\t').next()).collect();
+        assert_eq!(firsts, names);
+    }
+    assert!(lines(&["vectors", "1", "parser", "7", "0"]).is_empty());
+    assert_bad_call(&["vectors", "1", "jobs", "7", "2"], "jobs makes no calls");
+}
+
+#[test]
+fn a_vector_holds_the_call_and_its_answer() {
+    needs_source!();
+    let bytes = |field: &str| -> Vec<u8> {
+        field.split_whitespace().map(|byte| u8::from_str_radix(byte, 16).unwrap()).collect()
+    };
+    for (index, line) in lines(&["vectors", "1", "small", "0", "20"]).iter().enumerate() {
+        let case = call(1, Class::Small, index as u64);
+        let answered = answer(&case);
+        let fields: Vec<&str> = line.split('\t').collect();
+        assert_eq!(fields.len(), 10);
+        assert_eq!(fields[1..3], [case.width.to_string(), case.case.to_string()]);
+        assert_eq!([3, 4, 5, 8].map(|field| bytes(fields[field])), [case.text, case.tape, case.space, answered.space]);
+        let answers = [answered.measured, answered.laid_out];
+        assert_eq!(fields[6..8], answers.map(|answer| format!("{} {}", answer.number, answer.second)));
+        assert_eq!(fields[9].is_empty(), answered.laid_out.number != 0, "only a layout that is written shows arms");
     }
 }

@@ -3,6 +3,7 @@
 mod common;
 
 use oracle::answers::accepted_tree;
+use oracle::arms;
 use oracle::cases::{call, Class};
 use oracle::coverage::{Coverage, NODE_KINDS, WORDS};
 use oracle::kinds;
@@ -49,6 +50,29 @@ fn every_routine_meets_every_sort_of_child() {
             kinds::TOKENS.iter().chain(&NODE_KINDS).chain(&others).copied().chain(words.iter().map(String::as_str))
         {
             assert!(coverage.children.contains_key(&(routine, sort.to_string())), "{routine} never met {sort}");
+        }
+    }
+}
+
+/// The calls that scripts/definition_runs.py picks from.
+#[test]
+fn small_calls_take_every_arm() {
+    needs_source!();
+    let mut left = arms::every();
+    for index in 0..100_000 {
+        arms::taken(&call(1, Class::Small, index)).iter().for_each(|arm| _ = left.remove(arm));
+    }
+    assert!(left.is_empty(), "{left:?}");
+}
+
+#[test]
+fn only_named_arms_are_taken() {
+    needs_source!();
+    let every = arms::every();
+    for class in [Class::Parser, Class::Wild, Class::Small] {
+        for index in 0..500 {
+            let taken = arms::taken(&call(SEED, class, index));
+            assert!(taken.is_subset(&every), "{class:?} {index}: {:?}", taken.difference(&every));
         }
     }
 }

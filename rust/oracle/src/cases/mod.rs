@@ -5,6 +5,7 @@ mod jobs;
 mod limits;
 mod masked;
 mod query;
+mod small;
 mod wild;
 
 use crate::answers::{formatted, Case};
@@ -25,16 +26,19 @@ pub enum Class {
     Masked,
     /// Sizes and settings at their limits and one past them.
     Limits,
+    /// A node of each carried kind and of each routine in turn, with a few children.
+    Small,
 }
 
 impl Class {
-    pub const ALL: [(&'static str, Class); 6] = [
+    pub const ALL: [(&'static str, Class); 7] = [
         ("parser", Class::Parser),
         ("wild", Class::Wild),
         ("damaged", Class::Damaged),
         ("jobs", Class::Jobs),
         ("masked", Class::Masked),
         ("limits", Class::Limits),
+        ("small", Class::Small),
     ];
 
     pub fn named(name: &str) -> Option<Class> {
@@ -59,6 +63,7 @@ pub fn make(seed: u64, class: Class, index: u64) -> Made {
         Class::Parser => Made::Call(with_space(query::make(&mut random), &mut random)),
         Class::Wild => Made::Call(with_space(wild::make(&mut random), &mut random)),
         Class::Damaged => Made::Call(damaged::make(&mut random)),
+        Class::Small => Made::Call(with_space(small::make(&mut random, index), &mut random)),
     }
 }
 

@@ -4,7 +4,7 @@ use mathlib.Core.List.{List, [], _∷_}
 use mathlib.Core.Bool.{false}
 use lib.ListN.{length}
 use denote.Ref.{now}
-use Prim.Native.Nat.{ℕ, _-_}
+use Prim.Native.Nat.{ℕ}
 use native.Mathlib.Omega.{arith}
 use Rattle.context.specs.Context.{endsInNewline}
 use borrow.Author.Needs.{needs}

@@ -1,0 +1,3 @@
+-- The laws that the functions' proofs and the crates above cite.
+pub mod Runs
+pub mod Choices

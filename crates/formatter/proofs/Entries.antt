@@ -1,0 +1,173 @@
+-- From the walk to the two calls. Assumes nothing.
+use mathlib.Core.Path.{_≡_, sym, ap, subst, _∙_}
+use mathlib.Core.Bool.{Bool}
+use mathlib.Core.List.{List, _++_}
+use Prim.Native.Nat.{ℕ, _+_, _^_, _≤_, _<_}
+use native.Mathlib.Omega.{arith}
+use lib.ListN.{length, take, drop, set}
+use borrow.Author.Tests.{le-leb, lt-leb}
+use Rattle.context.specs.Cells.{Cell, bytesOf, isWhiteSpace}
+use Rattle.context.specs.Trim.{trimmedLength}
+use Rattle.context.specs.Splice.{splice}
+use Rattle.context.specs.Context.{newState, finish}
+use Rattle.context.specs.Store.{new, advanced, Store, appended}
+use Rattle.context.specs.declared.FormatConfig.{FormatConfig}
+use Rattle.context.specs.declared.FormatterContext.{FormatterContext}
+use Rattle.context.proofs.Trimming.{after-none, trimmed-le}
+use Rattle.tape.specs.declared.Head.{Head}
+use Rattle.tape.specs.declared.Fault.{Fault}
+use Rattle.tape.specs.declared.Checked.{Checked}
+use Rattle.tape.specs.declared.Checked.the-variants.{Accepted, Refused}
+use Rattle.tape.specs.Tree.{Tree, hasError}
+use Rattle.tape.specs.Tape.{Read, refused, got, readTree, verdict}
+use Rattle.tape.specs.Call.{readCall}
+use Rattle.tape.specs.Faults.{number}
+use Rattle.tape.proofs.Acceptance.{accepted-call}
+use Rattle.layout.specs.declared.Answer.{Answer}
+use Rattle.layout.specs.FormatNode.{formatNode}
+use Rattle.layout.specs.Calls.{calls}
+use Rattle.layout.specs.Layout.{original, piecesOf, format}
+use Rattle.layout.specs.Run.{run}
+use Rattle.layout.specs.Outcome.{Outcome, refusal, laid, ofRead, configOf, outcome, Result, fitted, measured, laidOut}
+use Rattle.layout.proofs.Running.{after, run-appends, kept, finish-none, finish-length, finish-stored}
+use Rattle.formatter.specs.declared.Walk.{Walk}
+use Rattle.formatter.specs.Promise.{NodeReady, NodeDone}
+use Rattle.formatter.specs.Entry.{Ready, allCells, Trims, Fills, Measures, LaysOut}
+
+-- ── the walk from the start
+
+pub root-ready : {text tape : List ℕ} {config : FormatConfig} {errors : Bool} {c : FormatterContext} → Ready text tape config errors → c ≡ new
+    → NodeReady text tape config errors 63 0 c
+root-ready {text} {tape} {config} {errors} p e =
+    let a = p .accepted in
+    rw e (record {
+      sizes = p .sizes;
+      inside = a .root .inside;
+      room = record { level = omega arith; length = omega arith };
+      span = subst (λ (h : Head). h .start ≤ h .end → h .end ≤ length text) (a .root .head) (a .root .span);
+      kids = a .tree .kids;
+      lies = a .kids;
+      low = omega (arith, a .depth);
+      clean = λ f. ap (λ (h : Head). hasError (record { head = h; kids = a .tree .kids })) (sym (a .root .head)) ∙ p .has-error ∙ f;
+    })
+
+same-tree : {t u : Tree} {p q : ℕ} → _≡_ {A = Read Tree} (got t p) (got u q) → t ≡ u
+same-tree e = cc
+
+record Walked (bs xs : List ℕ) (w : Walk) (ys : List ℕ) : Type 0 where
+  trimmed : w .context .position .trimmed ≡ trimmedLength isWhiteSpace bs
+  bytes : ys ≡ splice 0 bs xs
+  short : w .context .position .trimmed ≤ 2 ^ 60
+
+walked : {text tape : List ℕ} {config : FormatConfig} {errors : Bool} {c : FormatterContext} {xs ys : List ℕ} {w : Walk} → Ready text tape config errors → c ≡ new
+    → NodeDone text tape config 0 c xs w ys → (t : Tree) (p : ℕ) → readTree (length text) tape ≡ got t p → Walked (bytesOf (allCells config text t)) xs w ys
+unfolding piecesOf original appended advanced
+walked {text} {tape} {config} {errors} {c} {xs} {ys} {w} r e d t p q =
+    let a = r .accepted in
+    let u = d .all (a .tree .kids) (a .kids) in
+    let k : a .tree ≡ t = same-tree (sym (a .read) ∙ q) in
+    let X = allCells config text t in
+    let v : _≡_ {A = Store} (w .context, ys) (appended (after config text (calls formatNode text t) newState) (bytesOf X) (new, xs)) =
+    u .did
+    ∙ ap (λ (h : Head). run config text (calls formatNode text (record { head = h; kids = a .tree .kids })) (c, xs)) (sym (a .root .head))
+    ∙ ap (λ (z : Tree). run config text (calls formatNode text z) (c, xs)) k
+    ∙ ap (λ (z : FormatterContext). run config text (calls formatNode text t) (z, xs)) e
+    ∙ run-appends config text (calls formatNode text t) (new, xs) in
+    let n : w .context .position .trimmed ≡ trimmedLength isWhiteSpace (bytesOf X) =
+    ap (λ (z : Store). z .0 .position .trimmed) v ∙ after-none (trimmedLength isWhiteSpace (bytesOf X)) in
+    let l : w .context .position .length ≡ 0 + length (bytesOf X) = ap (λ (z : Store). z .0 .position .length) v in
+    let b = ap (λ (z : FormatterContext). z .position .length) e in
+    record {
+      trimmed = n;
+      bytes = ap (λ (z : Store). z .1) v;
+      short = omega (arith, trimmed-le isWhiteSpace (bytesOf X), d .grew .length, d .inside, r .sizes .tape-fits, b);
+    }
+
+module _ {text tape : List ℕ} {config : FormatConfig} {errors : Bool} {c : FormatterContext} {w : Walk} (r : Ready text tape config errors) (e : c ≡ new) where
+  pub trims : {xs ys : List ℕ} → NodeDone text tape config 0 c xs w ys → Trims text tape config (w .context .position .trimmed)
+  trims d = record { short = walked r e d (r .accepted .tree) _ (r .accepted .read) .short; all = λ t p q. walked r e d t p q .trimmed }
+
+  pub fills : {xs ys : List ℕ} (k : ℕ) → Trims text tape config k → 0 < k → k < length xs → NodeDone text tape config 0 c (take k xs) w ys
+      → Fills text tape config xs (set (ys ++ drop k xs) k 10)
+  unfolding format
+  fills {xs} {ys} k n z h d =
+      record { all = λ t p q. finish-stored (allCells config text t) k xs ys (n .all t p q) (λ x. omega arith) (omega arith) (walked r e d t p q .bytes) }
+
+-- ── the answers where the tape is accepted
+
+module _ (X : List Cell) (k : ℕ) (n : k ≡ kept X) where
+  length-some : (k ≡ 0 → ⊥) → length (finish X) ≡ k + 1
+  length-some z = finish-length X (λ e. z (n ∙ e)) ∙ ap (λ (m : ℕ). m + 1) (sym n)
+
+  pub measured-none : k ≡ 0 → record { number = 0; value = 0 } ≡ measured (laid (finish X))
+  unfolding measured
+  measured-none z = rw (finish-none X (sym n ∙ z))
+
+  pub measured-some : (k ≡ 0 → ⊥) → record { number = 0; value = k + 1 } ≡ measured (laid (finish X))
+  unfolding measured
+  measured-some z = rw (length-some z)
+
+  pub laid-none : (xs : List ℕ) → k ≡ 0 → _≡_ {A = Result} (record { answer = record { number = 0; value = 0 }; space = xs }) (laidOut (laid (finish X)) xs)
+  unfolding laidOut
+  laid-none xs z = rw (finish-none X (sym n ∙ z), le-leb 0 (length xs) (omega arith))
+
+  pub laid-short : (xs : List ℕ) → (k ≡ 0 → ⊥) → length xs ≤ k
+      → _≡_ {A = Result} (record { answer = record { number = 13; value = k + 1 }; space = xs }) (laidOut (laid (finish X)) xs)
+  unfolding laidOut
+  laid-short xs z h =
+      ap (λ (m : ℕ). record { answer = record { number = 13; value = m }; space = xs }) (sym (length-some z))
+      ∙ ap (λ (b : Bool). fitted b (finish X) xs) (sym (lt-leb (length (finish X)) (length xs) (omega (arith, length-some z))))
+
+  pub laid-done : (xs ys : List ℕ) → (k ≡ 0 → ⊥) → k < length xs → ys ≡ bytesOf (finish X) ++ drop (length (finish X)) xs
+      → _≡_ {A = Result} (record { answer = record { number = 0; value = k + 1 }; space = ys }) (laidOut (laid (finish X)) xs)
+  unfolding laidOut
+  laid-done xs ys z h e =
+      rw e
+      (ap (λ (m : ℕ). record { answer = record { number = 0; value = m }; space = bytesOf (finish X) ++ drop (length (finish X)) xs }) (sym (length-some z))
+      ∙ ap (λ (b : Bool). fitted b (finish X) xs) (sym (le-leb (length (finish X)) (length xs) (omega (arith, length-some z)))))
+
+-- ── the whole calls
+
+module _ (width case : ℕ) (text tape : List ℕ) where
+  refused-is : (f : Fault) (p : ℕ) → Refused f p ≡ verdict (readCall width case text tape) → outcome original width case text tape ≡ refusal f p
+  unfolding outcome
+  refused-is f p e = go (readCall width case text tape) e
+    where
+      go : (r : Read Tree) → Refused f p ≡ verdict r → ofRead r (format original (configOf width case) text) ≡ refusal f p
+      go (refused g q) u = sym (same u)
+        where
+          same : {f g : Fault} {p q : ℕ} → _≡_ {A = Checked} (Refused f p) (Refused g q) → refusal f p ≡ refusal g q
+          same x = cc
+      go (got t q) u = absurd (let z : _≡_ {A = ℕ} 0 1 = cc in omega arith)
+
+  pub refused-measure : {f : Fault} {n p : ℕ} → n ≡ number f → Refused f p ≡ verdict (readCall width case text tape)
+      → record { number = n; value = p } ≡ measured (outcome original width case text tape)
+  unfolding measured
+  refused-measure {f} {n} {p} k e = ap (λ (m : ℕ). record { number = m; value = p }) k ∙ sym (ap measured (refused-is f p e))
+
+  pub refused-layout : {f : Fault} {n p : ℕ} (xs : List ℕ) → n ≡ number f → Refused f p ≡ verdict (readCall width case text tape)
+      → _≡_ {A = Result} (record { answer = record { number = n; value = p }; space = xs }) (laidOut (outcome original width case text tape) xs)
+  unfolding laidOut
+  refused-layout {f} {n} {p} xs k e =
+      ap (λ (m : ℕ). record { answer = record { number = m; value = p }; space = xs }) k ∙ sym (ap (λ (o : Outcome). laidOut o xs) (refused-is f p e))
+
+  module _ {errors : Bool} (e : Accepted errors ≡ verdict (readCall width case text tape)) where
+    pub ready : Ready text tape (configOf width case) errors
+    ready =
+        let k = accepted-call width case text tape (sym e) in
+        record { sizes = record { text = k .text-fits; tape-fits = k .tape-fits; width = k .width-fits }; accepted = k .accepted; has-error = k .has-error }
+
+    accepted-is : outcome original width case text tape ≡ laid (format original (configOf width case) text (ready .accepted .tree))
+    unfolding outcome ready
+    accepted-is = ap (λ (r : Read Tree). ofRead r (format original (configOf width case) text)) (accepted-call width case text tape (sym e) .read)
+
+    pub measures : {config : FormatConfig} {r : Answer} → config ≡ configOf width case → Measures text tape config r → r ≡ measured (outcome original width case text tape)
+    measures {config} {r} c m =
+        let u = subst (λ (z : FormatConfig). Measures text tape z r) c m in
+        u .all (ready .accepted .tree) _ (ready .accepted .read) ∙ ap measured (sym accepted-is)
+
+    pub lays-out : {config : FormatConfig} {r : Answer} {xs ys : List ℕ} → config ≡ configOf width case → LaysOut text tape config xs r ys
+        → _≡_ {A = Result} (record { answer = r; space = ys }) (laidOut (outcome original width case text tape) xs)
+    lays-out {config} {r} {xs} {ys} c m =
+        let u = subst (λ (z : FormatConfig). LaysOut text tape z xs r ys) c m in
+        u .all (ready .accepted .tree) _ (ready .accepted .read) ∙ ap (λ (o : Outcome). laidOut o xs) (sym accepted-is)

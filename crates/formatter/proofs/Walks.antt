@@ -1,0 +1,294 @@
+-- The laws by which the routines and the dispatch meet their promises, one for each kind of need. Assumes nothing.
+use mathlib.Core.Path.{_≡_, refl, sym, ap, subst, _∙_}
+use mathlib.Core.Bool.{Bool, true, false, cond}
+use mathlib.Core.List.{List, _++_, map}
+use Prim.Native.Nat.{ℕ, _+_, _-_, _≤_, _<_}
+use native.Mathlib.Omega.{arith}
+use lib.ListN.{length, getD}
+use lib.Dec.{eqb}
+use borrow.Author.Tests.{eqb-true, eqb-false}
+use Rattle.context.specs.Cells.{Text}
+use Rattle.context.specs.Store.{Store, Room}
+use Rattle.context.specs.declared.FormatConfig.{FormatConfig}
+use Rattle.context.specs.declared.FormatterContext.{FormatterContext}
+use Rattle.tape.specs.declared.Head.{Head}
+use Rattle.tape.specs.Tree.{Children, done, token, node, size, height, countListItems, copied, hasErrorBelow, hasError}
+use Rattle.tape.specs.Tape.{headAt}
+use Rattle.tape.specs.Lies.{Lies, NodeAt, Skipped, Scanned}
+use Rattle.tape.proofs.Trees.{some-size, lies-inside, lies-byte, lies-close, lies-token, lies-node, lies-one}
+use Rattle.tape.proofs.Errors.{no-error-node, no-error-root, not-copied}
+use Rattle.layout.specs.declared.Local.{Local}
+use Rattle.layout.specs.declared.Routine.{Routine}
+use Rattle.layout.specs.Arms.{Spacing, seen, Arms}
+use Rattle.layout.specs.FormatNode.{armsOf, routineOf, formatNode}
+use Rattle.layout.specs.Calls.{Call, apart, on, formatErrorVerbatim, walk, calls}
+use Rattle.layout.specs.Run.{runSpacing, run}
+use Rattle.layout.proofs.Running.{run-append, run-apart}
+use Rattle.arms.specs.Promise.{Ran, Spaced, TokenReady, Acted}
+use Rattle.formatter.specs.declared.Walk.{Walk}
+use Rattle.formatter.specs.Promise.{Grew, NodeReady, RoutineDone, NodeDone}
+
+-- ── the calls of a row of children
+
+module _ (config : FormatConfig) (source : Text) (r : Arms) (l : Local) (w : Store) where
+  abbrev play : List Call → Store → Store
+  play = run config source
+
+  run-done : play (walk formatNode source r l done) w ≡ runSpacing (r .atEnd l) w
+  unfolding walk
+  run-done = run-apart config source (r .atEnd l) w
+
+  run-token : (h : Head) (rest : Children)
+      → play (walk formatNode source r l (token h rest)) w
+      ≡ play (walk formatNode source r ((r .atToken l (seen source h)) .0) rest) (play (map (on h) ((r .atToken l (seen source h)) .1)) w)
+  unfolding walk
+  run-token h rest = run-append config source (map (on h) ((r .atToken l (seen source h)) .1)) _ w
+
+  run-node : (h : Head) (kids rest : Children) (N : Local × List Spacing × List Spacing) → r .atNode l (h .kind) (countListItems kids) ≡ N
+      → play (walk formatNode source r l (node h kids rest)) w
+      ≡ play (walk formatNode source r (N .0) rest) (runSpacing (N .2) (play (calls formatNode source (record { head = h; kids = kids })) (runSpacing (N .1) w)))
+  unfolding walk calls
+  run-node h kids rest N e =
+      let a = r .atNode l (h .kind) (countListItems kids) in
+      let inside = calls formatNode source (record { head = h; kids = kids }) in
+      run-append config source (map apart (a .1)) _ w
+      ∙ ap (play (inside ++ (map apart (a .2) ++ walk formatNode source r (a .0) rest))) (run-apart config source (a .1) w)
+      ∙ run-append config source inside _ _
+      ∙ run-append config source (map apart (a .2)) _ _
+      ∙ ap (play (walk formatNode source r (a .0) rest)) (run-apart config source (a .2) _)
+      ∙ ap (λ (n : Local × List Spacing × List Spacing). play (walk formatNode source r (n .0) rest) (runSpacing (n .2) (play inside (runSpacing (n .1) w)))) e
+
+-- ── the loop over a node's children; Q is the routine, once it is known
+
+pub record Rest (source : Text) (config : FormatConfig) (at : ℕ) (R : Children → Arms) (Q : Arms) (c : FormatterContext) (xs ys : List ℕ) (i : ℕ) (ctx : FormatterContext) (l : Local) (left all : Children) : Type 0 where
+  pub at-end : at + 11 + size all ≡ i + size left
+  pub same-run : run config source (walk formatNode source (R all) (R all .begin) all) (c, xs) ≡ run config source (walk formatNode source Q l left) (ctx, ys)
+
+pub record Loop (source tape : List ℕ) (config : FormatConfig) (errors : Bool) (left at : ℕ) (R : Children → Arms) (Q : Arms) (c : FormatterContext) (xs ys : List ℕ) (i : ℕ) (ctx : FormatterContext) (l : Local) : Type 0 where
+  pub inside : i < length tape
+  pub past : at + 11 ≤ i
+  pub grew : Grew 11 at c i ctx
+  pub same : length ys ≡ length xs
+  pub kids : Children
+  pub lies : Lies (length source) tape i kids
+  pub low : height kids ≤ left
+  pub clean : errors ≡ false → hasErrorBelow kids ≡ false
+  pub rest : (all : Children) → Lies (length source) tape (at + 11) all → Rest source config at R Q c xs ys i ctx l kids all
+
+pub loop-first : {source tape : List ℕ} {config : FormatConfig} {errors : Bool} {left at : ℕ} {c : FormatterContext} (R : Children → Arms) (Q : Arms) (xs : List ℕ)
+    → NodeReady source tape config errors left at c → ((all : Children) → Lies (length source) tape (at + 11) all → R all ≡ Q)
+    → Loop source tape config errors left at R Q c xs xs (at + 11) c (Q .begin)
+loop-first {source} {tape} {config} {errors} {left} {at} {c} R Q xs p e =
+    record {
+      inside = lies-inside _ _ _ (p .kids) (p .lies);
+      past = omega arith;
+      grew = omega arith;
+      same = refl;
+      kids = p .kids;
+      lies = p .lies;
+      low = p .low;
+      clean = λ q. (no-error-root _ (p .clean q)) .1;
+      rest = λ all z.
+          let s = lies-one _ _ _ _ (p .kids) all (p .lies) z in
+          record {
+            at-end = omega (arith, ap size s);
+            same-run =
+                ap (λ (r : Arms). run config source (walk formatNode source r (r .begin) all) (c, xs)) (e all z)
+                ∙ ap (λ (k : Children). run config source (walk formatNode source Q (Q .begin) k) (c, xs)) (sym s);
+          };
+    }
+
+pub opened-at : {source tape : List ℕ} {config : FormatConfig} {errors : Bool} {left at : ℕ} {c : FormatterContext} → NodeReady source tape config errors left at c → NodeAt tape at
+opened-at p = record { len = _; kids = p .kids; inside = p .inside; lies = p .lies }
+
+module _ {source tape : List ℕ} {config : FormatConfig} {errors : Bool} {left at : ℕ} {R : Children → Arms} {Q : Arms} {c : FormatterContext} {xs ys : List ℕ} {i : ℕ} {ctx : FormatterContext} {l : Local}
+    (p : NodeReady source tape config errors left at c) (v : Loop source tape config errors left at R Q c xs ys i ctx l) where
+  -- a command that is no close opens a node if it is no token
+  opens : ((getD tape i 0 ≡ 3) → ⊥) → ((getD tape i 0 ≡ 2) → ⊥) → getD tape i 0 ≡ 1
+  opens e f = let b = lies-byte _ _ _ (v .kids) (v .lies) in omega arith
+
+  pub loop-fits : ((getD tape i 0 ≡ 3) → ⊥) → i + 11 ≤ length tape
+  loop-fits e = go (eqb (getD tape i 0) 2) refl
+    where
+      go : (t : Bool) → eqb (getD tape i 0) 2 ≡ t → i + 11 ≤ length tape
+      go true q = (lies-token _ _ _ (v .kids) (v .lies) (eqb-true _ _ q)) .2 .inside
+      go false q = (lies-node _ _ _ (v .kids) (v .lies) (opens e (eqb-false _ _ q))) .3 .inside
+
+  -- a token
+
+  pub token-ready : (h : Head) → getD tape i 0 ≡ 2 → h ≡ headAt tape i → TokenReady 4 source config h ctx
+  token-ready h e q =
+      let z = lies-token _ _ _ (v .kids) (v .lies) e in
+      rw q (record { text-fits = p .sizes .text; width-fits = p .sizes .width; ordered = z .2 .ordered; within = z .2 .within; room = omega arith })
+
+  pub token-next : {h : Head} {zs : List ℕ} {a : FormatterContext} {k : Local} → getD tape i 0 ≡ 2 → h ≡ headAt tape i
+      → Acted 4 config source h ((Q .atToken l (seen source h)) .1) ctx ys a zs → k ≡ (Q .atToken l (seen source h)) .0 → length zs ≡ length ys
+      → Loop source tape config errors left at R Q c xs zs (i + 11) a k
+  unfolding size height hasErrorBelow
+  token-next {h} {zs} {a} {k} e q d m n =
+      let z = lies-token _ _ _ (v .kids) (v .lies) e in
+      record {
+        inside = lies-inside _ _ _ (z .0) (z .3);
+        past = omega arith;
+        grew = omega (arith, d .spent .level, d .spent .length, z .2 .inside);
+        same = n ∙ v .same;
+        kids = z .0;
+        lies = z .3;
+        low = omega (arith, v .low, ap height (z .1));
+        clean = λ f. sym (ap hasErrorBelow (z .1)) ∙ v .clean f;
+        rest = λ all y. record {
+          at-end = omega (arith, v .rest all y .at-end, ap size (z .1));
+          same-run =
+              v .rest all y .same-run
+              ∙ ap (λ (x : Children). run config source (walk formatNode source Q l x) (ctx, ys)) (z .1 ∙ ap (λ (x : Head). token x (z .0)) (sym q))
+              ∙ run-token config source Q l (ctx, ys) h (z .0)
+              ∙ ap (run config source (walk formatNode source Q ((Q .atToken l (seen source h)) .0) (z .0))) (sym (d .did))
+              ∙ ap (λ (x : Local). run config source (walk formatNode source Q x (z .0)) (a, zs)) (sym m);
+        };
+      }
+
+  -- a node
+
+  pub side-ready : Room 4 ctx
+  side-ready = omega arith
+
+  pub left-pos : ((getD tape i 0 ≡ 3) → ⊥) → ((getD tape i 0 ≡ 2) → ⊥) → 1 ≤ left
+  unfolding height
+  left-pos e f =
+      let q = lies-node _ _ _ (v .kids) (v .lies) (opens e f) in
+      omega (arith, v .low, ap height (q .2))
+
+  pub child-at : ((getD tape i 0 ≡ 3) → ⊥) → ((getD tape i 0 ≡ 2) → ⊥) → NodeAt tape i
+  child-at e f =
+      let q = lies-node _ _ _ (v .kids) (v .lies) (opens e f) in
+      record { len = _; kids = q .0; inside = q .3 .inside; lies = q .4 }
+
+  pub node-ready : {n : ℕ} {a : FormatterContext} {x : List Spacing} {zs : List ℕ} → ((getD tape i 0 ≡ 3) → ⊥) → ((getD tape i 0 ≡ 2) → ⊥)
+      → Spaced n x ctx ys a zs → n ≤ 4 → NodeReady source tape config errors (left - 1) i a
+  unfolding height hasErrorBelow hasError
+  node-ready e f d h =
+      let q = lies-node _ _ _ (v .kids) (v .lies) (opens e f) in
+      record {
+        sizes = p .sizes;
+        inside = q .3 .inside;
+        room = omega (arith, d .spent .level, d .spent .length);
+        span = q .3 .span;
+        kids = q .0;
+        lies = q .4;
+        low = omega (arith, v .low, ap height (q .2));
+        clean = λ g.
+            let k = no-error-node (headAt tape i) (q .0) (q .1) (sym (ap hasErrorBelow (q .2)) ∙ v .clean g) in
+            rw (k .0, k .1);
+      }
+
+  pub after-ready : {n : ℕ} {a : FormatterContext} {x : List Spacing} {w : Walk} {zs us : List ℕ} → Spaced n x ctx ys a zs → NodeDone source tape config i a zs w us → n ≤ 4 → Room 4 (w .context)
+  after-ready d e h = omega (arith, d .spent .level, d .spent .length, e .grew .level, e .grew .length, e .inside, p .sizes .tape-fits)
+
+  pub node-next : {h : Head} {m n : ℕ} {a b : FormatterContext} {k : Local} {w : Walk} {zs us vs : List ℕ} (N : Local × List Spacing × List Spacing)
+      → ((getD tape i 0 ≡ 3) → ⊥) → ((getD tape i 0 ≡ 2) → ⊥) → h ≡ headAt tape i
+      → ((kids : Children) → Lies (length source) tape (i + 11) kids → Q .atNode l (h .kind) (countListItems kids) ≡ N)
+      → Spaced m (N .1) ctx ys a zs → NodeDone source tape config i a zs w us → k ≡ N .0 → Spaced n (N .2) (w .context) us b vs
+      → m ≤ 4 → n ≤ 4 → length vs ≡ length ys → Loop source tape config errors left at R Q c xs vs (w .at) b k
+  unfolding size height hasErrorBelow
+  node-next {h} {a = a} {b = b} {k = k} {w = w} {zs = zs} {us = us} {vs = vs} N e f q j before d kept after m4 n4 n =
+      let z = lies-node _ _ _ (v .kids) (v .lies) (opens e f) in
+      let y = d .all (z .0) (z .4) in
+      let o : Lies (length source) tape (w .at) (z .1) = subst (λ (x : ℕ). Lies (length source) tape x (z .1)) (sym (y .at)) (z .5) in
+      record {
+        inside = lies-inside _ _ _ (z .1) o;
+        past = omega (arith, d .on);
+        grew = omega (arith, before .spent .level, before .spent .length, after .spent .level, after .spent .length, d .grew .level, d .grew .length);
+        same = n ∙ v .same;
+        kids = z .1;
+        lies = o;
+        low = omega (arith, v .low, ap height (z .2));
+        clean = λ g. (no-error-node (headAt tape i) (z .0) (z .1) (sym (ap hasErrorBelow (z .2)) ∙ v .clean g)) .2;
+        rest = λ all x. record {
+          at-end = omega (arith, v .rest all x .at-end, ap size (z .2), y .at);
+          same-run =
+              v .rest all x .same-run
+              ∙ ap (λ (t : Children). run config source (walk formatNode source Q l t) (ctx, ys)) (z .2 ∙ ap (λ (t : Head). node t (z .0) (z .1)) (sym q))
+              ∙ run-node config source Q l (ctx, ys) h (z .0) (z .1) N (j (z .0) (z .4))
+              ∙ ap (λ (u : Store). run config source (walk formatNode source Q (N .0) (z .1)) (runSpacing (N .2) (run config source (calls formatNode source (record { head = h; kids = z .0 })) u))) (sym (before .did))
+              ∙ ap (λ (t : Head). run config source (walk formatNode source Q (N .0) (z .1)) (runSpacing (N .2) (run config source (calls formatNode source (record { head = t; kids = z .0 })) (a, zs)))) q
+              ∙ ap (λ (u : Store). run config source (walk formatNode source Q (N .0) (z .1)) (runSpacing (N .2) u)) (sym (y .did))
+              ∙ ap (run config source (walk formatNode source Q (N .0) (z .1))) (sym (after .did))
+              ∙ ap (λ (t : Local). run config source (walk formatNode source Q t (z .1)) (b, vs)) (sym kept);
+        };
+      }
+
+  -- the end
+  pub loop-last : {n : ℕ} {e : FormatterContext} {zs : List ℕ} → getD tape i 0 ≡ 3 → Spaced n (Q .atEnd l) ctx ys e zs → n ≤ 4
+      → RoutineDone source tape config at R c xs (record { at = i + 1; context = e }) zs
+  unfolding size
+  loop-last {e = e} {zs = zs} q d h =
+      let z = lies-close _ _ _ (v .kids) (v .lies) q in
+      record {
+        on = omega (arith, v .past);
+        inside = omega (arith, v .inside);
+        grew = omega (arith, d .spent .level, d .spent .length);
+        all = λ all x. record {
+          at = omega (arith, v .rest all x .at-end, ap size z);
+          did =
+              d .did ∙ sym (run-done config source Q l (ctx, ys))
+              ∙ ap (λ (k : Children). run config source (walk formatNode source Q l k) (ctx, ys)) (sym z) ∙ sym (v .rest all x .same-run);
+        };
+      }
+
+-- ── the dispatch
+
+module _ {source tape : List ℕ} {config : FormatConfig} {errors : Bool} {left at : ℕ} {c : FormatterContext} {h : Head} where
+  -- where the tape has no Error node nothing is copied
+  pub clean-node : NodeReady source tape config errors left at c → h ≡ headAt tape at → errors ≡ false → Scanned (copied (h .kind)) tape at false
+  clean-node p q e =
+      record {
+        all = λ len kids z.
+            let s = lies-one _ _ _ _ (p .kids) kids (p .lies) z in
+            let k = no-error-root _ (p .clean e) in
+            sym (ap (λ (x : Head). copied (x .kind) kids) q ∙ not-copied (headAt tape at .kind) kids (k .0) (sym (ap hasErrorBelow s) ∙ k .1));
+      }
+
+  pub copy-ready : NodeReady source tape config errors left at c → h ≡ headAt tape at
+      → (length source ≤ 262144) × (h .start ≤ h .end → h .end ≤ length source) × Room 1 c
+  copy-ready p q = (p .sizes .text, rw q (p .span), omega arith)
+
+  pub node-copied : {xs ys : List ℕ} {a : FormatterContext} {j : ℕ} → NodeReady source tape config errors left at c → h ≡ headAt tape at → Scanned (copied (h .kind)) tape at true
+      → Skipped tape at j → Ran 1 config source (formatErrorVerbatim h) c xs a ys → NodeDone source tape config at c xs (record { at = j; context = a }) ys
+  unfolding calls
+  node-copied {xs} {ys} {a} {j} p q o s d =
+      record {
+        on = s .on;
+        inside = s .inside;
+        grew = omega (arith, d .spent .level, d .spent .length, s .past _ (p .kids) (p .lies), some-size (p .kids));
+        all = λ kids z. record {
+          at = s .past _ kids z;
+          did =
+              d .did
+              ∙ ap (λ (b : Bool). run config source (cond b (formatErrorVerbatim h) (walk formatNode source (formatNode (h .kind) kids) (formatNode (h .kind) kids .begin) kids)) (c, xs)) (o .all _ kids z)
+              ∙ ap (λ (x : Head). run config source (calls formatNode source (record { head = x; kids = kids })) (c, xs)) q;
+        };
+      }
+
+module _ {source tape : List ℕ} {config : FormatConfig} {at : ℕ} {c : FormatterContext} {xs ys : List ℕ} {h : Head} where
+  pub node-by : {w : Walk} (r : Routine) → h ≡ headAt tape at → Scanned (copied (h .kind)) tape at false → r ≡ routineOf (h .kind)
+      → RoutineDone source tape config at (armsOf r) c xs w ys → NodeDone source tape config at c xs w ys
+  unfolding calls formatNode
+  node-by {w} r q o e d =
+      record {
+        on = d .on;
+        inside = d .inside;
+        grew = d .grew;
+        all = λ kids z.
+            let y = d .all kids z in
+            record {
+              at = y .at;
+              did =
+                  y .did
+                  ∙ ap (λ (x : Routine). run config source (walk formatNode source (armsOf x kids) (armsOf x kids .begin) kids) (c, xs)) e
+                  ∙ ap (λ (b : Bool). run config source (cond b (formatErrorVerbatim h) (walk formatNode source (formatNode (h .kind) kids) (formatNode (h .kind) kids .begin) kids)) (c, xs)) (o .all _ kids z)
+                  ∙ ap (λ (x : Head). run config source (calls formatNode source (record { head = x; kids = kids })) (c, xs)) q;
+            };
+      }
+
+pub scanned-as : {A : Type 0} {f : Children → A} {tape : List ℕ} {i : ℕ} {x y : A} → Scanned f tape i x → x ≡ y → Scanned f tape i y
+scanned-as o e = record { all = λ n k z. sym e ∙ o .all n k z }

@@ -1,0 +1,43 @@
+-- What the parts of the two calls ask and promise, where the tape is accepted. Assumes nothing: these are definitions.
+use mathlib.Core.Path.{_≡_}
+use mathlib.Core.Bool.{Bool}
+use mathlib.Core.List.{List, _++_}
+use Prim.Native.Nat.{ℕ, _^_, _≤_}
+use lib.ListN.{length, drop}
+use Rattle.context.specs.Cells.{Text, Cell, bytesOf, isWhiteSpace}
+use Rattle.context.specs.Trim.{trimmedLength}
+use Rattle.context.specs.declared.FormatConfig.{FormatConfig}
+use Rattle.tape.specs.Tree.{Tree, hasError}
+use Rattle.tape.specs.Tape.{got, readTree}
+use Rattle.tape.specs.Lies.{AcceptedTape}
+use Rattle.layout.specs.declared.Answer.{Answer}
+use Rattle.layout.specs.Layout.{written, original, piecesOf, format}
+use Rattle.layout.specs.Outcome.{Result, laid, laidOut, measured}
+use Rattle.formatter.specs.Promise.{Sizes}
+
+-- the tape is accepted, and `errors` says whether its tree has an Error node
+pub record Ready (text tape : List ℕ) (config : FormatConfig) (errors : Bool) : Type 0 where
+  pub sizes : Sizes text tape config
+  pub accepted : AcceptedTape (length text) tape
+  pub has-error : hasError (accepted .tree) ≡ errors
+
+-- all that is written for the tree, before it is trimmed
+abbrev pub allCells : FormatConfig → Text → Tree → List Cell
+allCells config text t = written (piecesOf original config text t)
+
+-- k is the trimmed length
+pub record Trims (text tape : List ℕ) (config : FormatConfig) (k : ℕ) : Type 0 where
+  pub short : k ≤ 2 ^ 60
+  pub all : (t : Tree) (p : ℕ) → readTree (length text) tape ≡ got t p → k ≡ trimmedLength isWhiteSpace (bytesOf (allCells config text t))
+
+-- the layout stands in front of the space
+pub record Fills (text tape : List ℕ) (config : FormatConfig) (xs ys : List ℕ) : Type 0 where
+  pub all : (t : Tree) (p : ℕ) → readTree (length text) tape ≡ got t p → ys ≡ bytesOf (format original config text t) ++ drop (length (format original config text t)) xs
+
+-- the answers
+pub record Measures (text tape : List ℕ) (config : FormatConfig) (r : Answer) : Type 0 where
+  pub all : (t : Tree) (p : ℕ) → readTree (length text) tape ≡ got t p → r ≡ measured (laid (format original config text t))
+
+pub record LaysOut (text tape : List ℕ) (config : FormatConfig) (xs : List ℕ) (r : Answer) (ys : List ℕ) : Type 0 where
+  pub all : (t : Tree) (p : ℕ) → readTree (length text) tape ≡ got t p
+      → _≡_ {A = Result} (record { answer = r; space = ys }) (laidOut (laid (format original config text t)) xs)

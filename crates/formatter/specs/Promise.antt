@@ -1,0 +1,68 @@
+-- What the routines and the dispatch ask and promise. Assumes nothing: these are definitions.
+use mathlib.Core.Path.{_≡_}
+use mathlib.Core.Bool.{Bool, false}
+use mathlib.Core.List.{List}
+use Prim.Native.Nat.{ℕ, _+_, _*_, _^_, _≤_, _<_}
+use lib.ListN.{length}
+use Rattle.context.specs.Cells.{Text}
+use Rattle.context.specs.Store.{Store}
+use Rattle.context.specs.declared.FormatConfig.{FormatConfig}
+use Rattle.context.specs.declared.FormatterContext.{FormatterContext}
+use Rattle.tape.specs.Tree.{Children, size, height, hasError}
+use Rattle.tape.specs.Tape.{headAt}
+use Rattle.tape.specs.Lies.{Lies}
+use Rattle.layout.specs.Arms.{Arms}
+use Rattle.layout.specs.FormatNode.{formatNode}
+use Rattle.layout.specs.Calls.{Call, walk, calls}
+use Rattle.layout.specs.Run.{run}
+use Rattle.formatter.specs.declared.Walk.{Walk}
+
+-- the limits that the entry tests
+pub record Sizes (source tape : List ℕ) (config : FormatConfig) : Type 0 where
+  pub text : length source ≤ 262144
+  pub tape-fits : length tape ≤ 262144
+  pub width : config .«indent_width» ≤ 16
+
+-- what was written up to the place i is bounded by i + n
+pub record RoomAt (n i : ℕ) (c : FormatterContext) : Type 0 where
+  pub level : c .state .«indent_level» ≤ i + n
+  pub length : c .position .length ≤ 2 ^ 32 * (i + n)
+
+-- from c at i to r at j the state grew by no more than the place, less n
+pub record Grew (n i : ℕ) (c : FormatterContext) (j : ℕ) (r : FormatterContext) : Type 0 where
+  pub level : r .state .«indent_level» + i + n ≤ c .state .«indent_level» + j
+  pub length : r .position .length + 2 ^ 32 * (i + n) ≤ c .position .length + 2 ^ 32 * j
+
+-- a node opens at i, its children lie after it, at most so many levels deep; where `errors` is not set it has no Error node
+pub record NodeReady (source tape : List ℕ) (config : FormatConfig) (errors : Bool) (left i : ℕ) (c : FormatterContext) : Type 0 where
+  pub sizes : Sizes source tape config
+  pub inside : i + 11 ≤ length tape
+  pub room : RoomAt 8 i c
+  pub span : headAt tape i .start ≤ headAt tape i .end → headAt tape i .end ≤ length source
+  pub kids : Children
+  pub lies : Lies (length source) tape (i + 11) kids
+  pub low : height kids ≤ left
+  pub clean : errors ≡ false → hasError (record { head = headAt tape i; kids = kids }) ≡ false
+
+-- for these children, w and ys come of the calls
+pub record Comes (source : Text) (config : FormatConfig) (i : ℕ) (cs : List Call) (c : FormatterContext) (xs : List ℕ) (w : Walk) (ys : List ℕ) (kids : Children) : Type 0 where
+  pub at : w .at ≡ i + 11 + size kids
+  pub did : _≡_ {A = Store} (w .context, ys) (run config source cs (c, xs))
+
+-- a routine that does not look ahead
+abbrev pub always : Arms → Children → Arms
+always r kids = r
+
+-- by a routine
+pub record RoutineDone (source tape : List ℕ) (config : FormatConfig) (i : ℕ) (R : Children → Arms) (c : FormatterContext) (xs : List ℕ) (w : Walk) (ys : List ℕ) : Type 0 where
+  pub on : i < w .at
+  pub inside : w .at ≤ length tape
+  pub grew : Grew 8 i c (w .at) (w .context)
+  pub all : (kids : Children) → Lies (length source) tape (i + 11) kids → Comes source config i (walk formatNode source (R kids) (R kids .begin) kids) c xs w ys kids
+
+-- by the node's own routine, or copied as typed
+pub record NodeDone (source tape : List ℕ) (config : FormatConfig) (i : ℕ) (c : FormatterContext) (xs : List ℕ) (w : Walk) (ys : List ℕ) : Type 0 where
+  pub on : i < w .at
+  pub inside : w .at ≤ length tape
+  pub grew : Grew 8 i c (w .at) (w .context)
+  pub all : (kids : Children) → Lies (length source) tape (i + 11) kids → Comes source config i (calls formatNode source (record { head = headAt tape i; kids = kids })) c xs w ys kids

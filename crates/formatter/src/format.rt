@@ -1,0 +1,1171 @@
+// format_node.rs: each routine's loop over the children of its node, and the dispatch. They form one cycle of calls over the tape: with
+// each call of `node` a level less is left, and each turn of a loop moves on along the tape. Their names are short, since the proof of a
+// cycle is named after all of its members.
+use crate::Walk;
+use crate::dispatch::routine_of;
+use arms::routines::alter_command_list_token;
+use arms::routines::binary_expression_token;
+use arms::routines::brace_list_token;
+use arms::routines::bracket_list_token;
+use arms::routines::case_expression_before;
+use arms::routines::case_expression_token;
+use arms::routines::comma_list_token;
+use arms::routines::data_type_token;
+use arms::routines::file_before;
+use arms::routines::file_token;
+use arms::routines::function_call_token;
+use arms::routines::inline_comma_list_token;
+use arms::routines::inline_tight_parens_token;
+use arms::routines::inline_token;
+use arms::routines::join_clause_token;
+use arms::routines::list_clause_after;
+use arms::routines::list_clause_before;
+use arms::routines::list_clause_end;
+use arms::routines::list_clause_local;
+use arms::routines::list_clause_token;
+use arms::routines::multi_item;
+use arms::routines::paren_list_token;
+use arms::routines::passthrough_token;
+use arms::routines::query_list_before;
+use arms::routines::query_list_token;
+use arms::routines::select_clause_after;
+use arms::routines::select_clause_before;
+use arms::routines::select_clause_token;
+use arms::routines::select_statement_before;
+use arms::routines::select_statement_token;
+use arms::routines::settings_clause_after;
+use arms::routines::settings_clause_before;
+use arms::routines::several_items;
+use arms::routines::simple_clause_token;
+use arms::routines::subquery_token;
+use arms::routines::unary_expression_token;
+use arms::routines::union_clause_before;
+use arms::routines::union_clause_local;
+use arms::routines::union_clause_token;
+use arms::routines::when_clause_token;
+use arms::routines::with_clause_after;
+use arms::routines::with_clause_before;
+use arms::tokens::emit_other;
+use arms::tokens::format_error_verbatim;
+use arms::tokens::space_after;
+use arms::tokens::space_if;
+use context::FormatConfig;
+use context::FormatterContext;
+use layout::Local;
+use layout::PrevKind;
+use layout::Routine;
+use tape::commands::head_at;
+use tape::scan::has_error_child;
+use tape::scan::skip;
+use tape::syntax_kind;
+ghost use mathlib.Core.Path.{_≡_};
+ghost use mathlib.Core.Bool.{false};
+ghost use Rattle.tape.specs.Lies.{NodeAt, Scanned};
+ghost use Rattle.tape.specs.Tree.{copied};
+ghost use Rattle.layout.specs.Routines.{formatAlterCommandList, formatBinaryExpression, formatBraceList, formatBracketList, formatCaseExpression, formatCommaList, formatDataType, formatFile, formatFunctionCall, formatInline, formatInlineCommaList, formatInlineNoSpaces, formatInlineTightParens, formatJoinClause, formatListClause, formatParenList, formatPassthrough, formatQueryList, formatSelectClause, formatSelectStatement, formatSettingsClause, formatSimpleClause, formatSubquery, formatUnaryExpression, formatUnionClause, formatWhenClause, formatWithClause};
+ghost use Rattle.formatter.specs.Promise.{NodeDone, NodeReady, RoutineDone, always};
+
+// format_file
+fn file(
+    source: &[u8],
+    tape: &[u8],
+    config: FormatConfig,
+    errors: bool,
+    out: &mut [u8],
+    left: usize,
+    at: usize,
+    c: FormatterContext,
+) -> Walk
+    requires { ⌜ NodeReady (now source) (now tape) config errors left at c ⌝ }
+    ensures { λ r. ⌜ RoutineDone (now (source .entry)) (now (tape .entry)) config at (always formatFile) c (now (out .entry)) r (now (out .exit)) ⌝ }
+{
+    let mut i = at + 11;
+    let mut ctx = c;
+    let mut local = Local {
+        flag: false,
+        prev: PrevKind::Nothing,
+    };
+    while tape[i] != 3 {
+        let h = head_at(tape, i);
+        if tape[i] == 2 {
+            ctx = file_token(source, config, out, ctx, h);
+            i += 11;
+        } else {
+            let a = file_before(out, ctx, local);
+            let w = node(source, tape, config, errors, out, left - 1, i, a);
+            ctx = w.context;
+            local = Local {
+                flag: true,
+                prev: PrevKind::Nothing,
+            };
+            i = w.at;
+        }
+    }
+    Walk {
+        at: i + 1,
+        context: ctx,
+    }
+}
+
+// format_query_list
+fn query_list(
+    source: &[u8],
+    tape: &[u8],
+    config: FormatConfig,
+    errors: bool,
+    out: &mut [u8],
+    left: usize,
+    at: usize,
+    c: FormatterContext,
+) -> Walk
+    requires { ⌜ NodeReady (now source) (now tape) config errors left at c ⌝ }
+    ensures { λ r. ⌜ RoutineDone (now (source .entry)) (now (tape .entry)) config at (always formatQueryList) c (now (out .entry)) r (now (out .exit)) ⌝ }
+{
+    let mut i = at + 11;
+    let mut ctx = c;
+    let mut local = Local {
+        flag: true,
+        prev: PrevKind::Nothing,
+    };
+    while tape[i] != 3 {
+        let h = head_at(tape, i);
+        if tape[i] == 2 {
+            ctx = query_list_token(source, config, out, ctx, h);
+            i += 11;
+        } else {
+            let a = query_list_before(out, ctx, local);
+            let w = node(source, tape, config, errors, out, left - 1, i, a);
+            ctx = w.context;
+            local = Local {
+                flag: false,
+                prev: PrevKind::Nothing,
+            };
+            i = w.at;
+        }
+    }
+    Walk {
+        at: i + 1,
+        context: ctx,
+    }
+}
+
+// format_select_statement
+fn statement(
+    source: &[u8],
+    tape: &[u8],
+    config: FormatConfig,
+    errors: bool,
+    out: &mut [u8],
+    left: usize,
+    at: usize,
+    c: FormatterContext,
+) -> Walk
+    requires { ⌜ NodeReady (now source) (now tape) config errors left at c ⌝ }
+    ensures { λ r. ⌜ RoutineDone (now (source .entry)) (now (tape .entry)) config at (always formatSelectStatement) c (now (out .entry)) r (now (out .exit)) ⌝ }
+{
+    let mut i = at + 11;
+    let mut ctx = c;
+    let mut local = Local {
+        flag: true,
+        prev: PrevKind::Nothing,
+    };
+    while tape[i] != 3 {
+        let h = head_at(tape, i);
+        if tape[i] == 2 {
+            ctx = select_statement_token(source, config, out, ctx, h);
+            i += 11;
+        } else {
+            let a = select_statement_before(out, ctx, local);
+            let w = node(source, tape, config, errors, out, left - 1, i, a);
+            ctx = w.context;
+            local = Local {
+                flag: false,
+                prev: PrevKind::Nothing,
+            };
+            i = w.at;
+        }
+    }
+    Walk {
+        at: i + 1,
+        context: ctx,
+    }
+}
+
+// format_select_clause
+fn select(
+    source: &[u8],
+    tape: &[u8],
+    config: FormatConfig,
+    errors: bool,
+    out: &mut [u8],
+    left: usize,
+    at: usize,
+    c: FormatterContext,
+) -> Walk
+    requires { ⌜ NodeReady (now source) (now tape) config errors left at c ⌝ }
+    ensures { λ r. ⌜ RoutineDone (now (source .entry)) (now (tape .entry)) config at (always formatSelectClause) c (now (out .entry)) r (now (out .exit)) ⌝ }
+{
+    let mut i = at + 11;
+    let mut ctx = c;
+    let local = Local {
+        flag: false,
+        prev: PrevKind::Nothing,
+    };
+    while tape[i] != 3 {
+        let h = head_at(tape, i);
+        if tape[i] == 2 {
+            ctx = select_clause_token(source, config, out, ctx, h);
+            i += 11;
+        } else {
+            let a = select_clause_before(out, ctx, local, h.kind);
+            let w = node(source, tape, config, errors, out, left - 1, i, a);
+            let b = w.context;
+            ctx = select_clause_after(b, local, h.kind);
+            i = w.at;
+        }
+    }
+    Walk {
+        at: i + 1,
+        context: ctx,
+    }
+}
+
+// format_simple_clause
+fn simple(
+    source: &[u8],
+    tape: &[u8],
+    config: FormatConfig,
+    errors: bool,
+    out: &mut [u8],
+    left: usize,
+    at: usize,
+    c: FormatterContext,
+) -> Walk
+    requires { ⌜ NodeReady (now source) (now tape) config errors left at c ⌝ }
+    ensures { λ r. ⌜ RoutineDone (now (source .entry)) (now (tape .entry)) config at (always formatSimpleClause) c (now (out .entry)) r (now (out .exit)) ⌝ }
+{
+    let mut i = at + 11;
+    let mut ctx = c;
+    let mut local = Local {
+        flag: false,
+        prev: PrevKind::Nothing,
+    };
+    while tape[i] != 3 {
+        let h = head_at(tape, i);
+        if tape[i] == 2 {
+            let a = simple_clause_token(source, config, out, ctx, local, h);
+            ctx = a.context;
+            local = a.local;
+            i += 11;
+        } else {
+            let a = space_if(ctx, local.flag);
+            let w = node(source, tape, config, errors, out, left - 1, i, a);
+            ctx = w.context;
+            local = Local {
+                flag: true,
+                prev: PrevKind::Nothing,
+            };
+            i = w.at;
+        }
+    }
+    Walk {
+        at: i + 1,
+        context: ctx,
+    }
+}
+
+// format_group_by_clause, format_order_by_clause: `list` is the kind of their list
+fn list_by(
+    source: &[u8],
+    tape: &[u8],
+    config: FormatConfig,
+    errors: bool,
+    out: &mut [u8],
+    left: usize,
+    at: usize,
+    c: FormatterContext,
+    list: u16,
+) -> Walk
+    requires { ⌜ NodeReady (now source) (now tape) config errors left at c ⌝ }
+    ensures { λ r. ⌜ RoutineDone (now (source .entry)) (now (tape .entry)) config at (formatListClause list) c (now (out .entry)) r (now (out .exit)) ⌝ }
+{
+    let multi = multi_item(tape, at, list);
+    let mut i = at + 11;
+    let mut ctx = c;
+    let mut local = Local {
+        flag: false,
+        prev: PrevKind::Nothing,
+    };
+    while tape[i] != 3 {
+        let h = head_at(tape, i);
+        if tape[i] == 2 {
+            ctx = list_clause_token(source, config, out, ctx, multi, h);
+            i += 11;
+        } else {
+            let several = several_items(tape, i, list, h.kind);
+            let a = list_clause_before(out, ctx, list, multi, local, h.kind, several);
+            let w = node(source, tape, config, errors, out, left - 1, i, a);
+            let b = w.context;
+            ctx = list_clause_after(b, list, h.kind, several);
+            local = list_clause_local(list, multi, local, h.kind);
+            i = w.at;
+        }
+    }
+    let end = list_clause_end(ctx, multi, local);
+    Walk {
+        at: i + 1,
+        context: end,
+    }
+}
+
+// format_limit_by_clause, format_join_clause
+fn join(
+    source: &[u8],
+    tape: &[u8],
+    config: FormatConfig,
+    errors: bool,
+    out: &mut [u8],
+    left: usize,
+    at: usize,
+    c: FormatterContext,
+) -> Walk
+    requires { ⌜ NodeReady (now source) (now tape) config errors left at c ⌝ }
+    ensures { λ r. ⌜ RoutineDone (now (source .entry)) (now (tape .entry)) config at (always formatJoinClause) c (now (out .entry)) r (now (out .exit)) ⌝ }
+{
+    let mut i = at + 11;
+    let mut ctx = c;
+    let mut local = Local {
+        flag: false,
+        prev: PrevKind::Nothing,
+    };
+    while tape[i] != 3 {
+        let h = head_at(tape, i);
+        if tape[i] == 2 {
+            let a = join_clause_token(source, config, out, ctx, local, h);
+            ctx = a.context;
+            local = a.local;
+            i += 11;
+        } else {
+            let a = space_if(ctx, local.flag);
+            let w = node(source, tape, config, errors, out, left - 1, i, a);
+            ctx = w.context;
+            local = Local {
+                flag: true,
+                prev: PrevKind::Nothing,
+            };
+            i = w.at;
+        }
+    }
+    Walk {
+        at: i + 1,
+        context: ctx,
+    }
+}
+
+// format_settings_clause
+fn settings(
+    source: &[u8],
+    tape: &[u8],
+    config: FormatConfig,
+    errors: bool,
+    out: &mut [u8],
+    left: usize,
+    at: usize,
+    c: FormatterContext,
+) -> Walk
+    requires { ⌜ NodeReady (now source) (now tape) config errors left at c ⌝ }
+    ensures { λ r. ⌜ RoutineDone (now (source .entry)) (now (tape .entry)) config at (always formatSettingsClause) c (now (out .entry)) r (now (out .exit)) ⌝ }
+{
+    let mut i = at + 11;
+    let mut ctx = c;
+    let local = Local {
+        flag: false,
+        prev: PrevKind::Nothing,
+    };
+    while tape[i] != 3 {
+        let h = head_at(tape, i);
+        if tape[i] == 2 {
+            ctx = select_clause_token(source, config, out, ctx, h);
+            i += 11;
+        } else {
+            let a = settings_clause_before(out, ctx, local, h.kind);
+            let w = node(source, tape, config, errors, out, left - 1, i, a);
+            let b = w.context;
+            ctx = settings_clause_after(b, local, h.kind);
+            i = w.at;
+        }
+    }
+    Walk {
+        at: i + 1,
+        context: ctx,
+    }
+}
+
+// format_with_clause
+fn with_clause(
+    source: &[u8],
+    tape: &[u8],
+    config: FormatConfig,
+    errors: bool,
+    out: &mut [u8],
+    left: usize,
+    at: usize,
+    c: FormatterContext,
+) -> Walk
+    requires { ⌜ NodeReady (now source) (now tape) config errors left at c ⌝ }
+    ensures { λ r. ⌜ RoutineDone (now (source .entry)) (now (tape .entry)) config at (always formatWithClause) c (now (out .entry)) r (now (out .exit)) ⌝ }
+{
+    let mut i = at + 11;
+    let mut ctx = c;
+    while tape[i] != 3 {
+        let h = head_at(tape, i);
+        if tape[i] == 2 {
+            ctx = select_clause_token(source, config, out, ctx, h);
+            i += 11;
+        } else {
+            let a = with_clause_before(out, ctx);
+            let w = node(source, tape, config, errors, out, left - 1, i, a);
+            let b = w.context;
+            ctx = with_clause_after(b);
+            i = w.at;
+        }
+    }
+    Walk {
+        at: i + 1,
+        context: ctx,
+    }
+}
+
+// format_comma_list
+fn commas(
+    source: &[u8],
+    tape: &[u8],
+    config: FormatConfig,
+    errors: bool,
+    out: &mut [u8],
+    left: usize,
+    at: usize,
+    c: FormatterContext,
+) -> Walk
+    requires { ⌜ NodeReady (now source) (now tape) config errors left at c ⌝ }
+    ensures { λ r. ⌜ RoutineDone (now (source .entry)) (now (tape .entry)) config at (always formatCommaList) c (now (out .entry)) r (now (out .exit)) ⌝ }
+{
+    let mut i = at + 11;
+    let mut ctx = c;
+    let mut local = Local {
+        flag: false,
+        prev: PrevKind::Nothing,
+    };
+    while tape[i] != 3 {
+        let h = head_at(tape, i);
+        if tape[i] == 2 {
+            let a = comma_list_token(source, config, out, ctx, local, h);
+            ctx = a.context;
+            local = a.local;
+            i += 11;
+        } else {
+            let a = space_if(ctx, !local.flag);
+            let w = node(source, tape, config, errors, out, left - 1, i, a);
+            ctx = w.context;
+            local = Local {
+                flag: false,
+                prev: PrevKind::Nothing,
+            };
+            i = w.at;
+        }
+    }
+    Walk {
+        at: i + 1,
+        context: ctx,
+    }
+}
+
+// format_inline_comma_list
+fn inline_commas(
+    source: &[u8],
+    tape: &[u8],
+    config: FormatConfig,
+    errors: bool,
+    out: &mut [u8],
+    left: usize,
+    at: usize,
+    c: FormatterContext,
+) -> Walk
+    requires { ⌜ NodeReady (now source) (now tape) config errors left at c ⌝ }
+    ensures { λ r. ⌜ RoutineDone (now (source .entry)) (now (tape .entry)) config at (always formatInlineCommaList) c (now (out .entry)) r (now (out .exit)) ⌝ }
+{
+    let mut i = at + 11;
+    let mut ctx = c;
+    while tape[i] != 3 {
+        let h = head_at(tape, i);
+        if tape[i] == 2 {
+            ctx = inline_comma_list_token(source, config, out, ctx, h);
+            i += 11;
+        } else {
+            let w = node(source, tape, config, errors, out, left - 1, i, ctx);
+            ctx = w.context;
+            i = w.at;
+        }
+    }
+    Walk {
+        at: i + 1,
+        context: ctx,
+    }
+}
+
+// format_binary_expression
+fn binary(
+    source: &[u8],
+    tape: &[u8],
+    config: FormatConfig,
+    errors: bool,
+    out: &mut [u8],
+    left: usize,
+    at: usize,
+    c: FormatterContext,
+) -> Walk
+    requires { ⌜ NodeReady (now source) (now tape) config errors left at c ⌝ }
+    ensures { λ r. ⌜ RoutineDone (now (source .entry)) (now (tape .entry)) config at (always formatBinaryExpression) c (now (out .entry)) r (now (out .exit)) ⌝ }
+{
+    let mut i = at + 11;
+    let mut ctx = c;
+    while tape[i] != 3 {
+        let h = head_at(tape, i);
+        if tape[i] == 2 {
+            ctx = binary_expression_token(source, config, out, ctx, h);
+            i += 11;
+        } else {
+            let w = node(source, tape, config, errors, out, left - 1, i, ctx);
+            ctx = w.context;
+            i = w.at;
+        }
+    }
+    Walk {
+        at: i + 1,
+        context: ctx,
+    }
+}
+
+// format_unary_expression
+fn unary(
+    source: &[u8],
+    tape: &[u8],
+    config: FormatConfig,
+    errors: bool,
+    out: &mut [u8],
+    left: usize,
+    at: usize,
+    c: FormatterContext,
+) -> Walk
+    requires { ⌜ NodeReady (now source) (now tape) config errors left at c ⌝ }
+    ensures { λ r. ⌜ RoutineDone (now (source .entry)) (now (tape .entry)) config at (always formatUnaryExpression) c (now (out .entry)) r (now (out .exit)) ⌝ }
+{
+    let mut i = at + 11;
+    let mut ctx = c;
+    while tape[i] != 3 {
+        let h = head_at(tape, i);
+        if tape[i] == 2 {
+            ctx = unary_expression_token(source, config, out, ctx, h);
+            i += 11;
+        } else {
+            let w = node(source, tape, config, errors, out, left - 1, i, ctx);
+            ctx = w.context;
+            i = w.at;
+        }
+    }
+    Walk {
+        at: i + 1,
+        context: ctx,
+    }
+}
+
+// format_function_call
+fn call(
+    source: &[u8],
+    tape: &[u8],
+    config: FormatConfig,
+    errors: bool,
+    out: &mut [u8],
+    left: usize,
+    at: usize,
+    c: FormatterContext,
+) -> Walk
+    requires { ⌜ NodeReady (now source) (now tape) config errors left at c ⌝ }
+    ensures { λ r. ⌜ RoutineDone (now (source .entry)) (now (tape .entry)) config at (always formatFunctionCall) c (now (out .entry)) r (now (out .exit)) ⌝ }
+{
+    let mut i = at + 11;
+    let mut ctx = c;
+    while tape[i] != 3 {
+        let h = head_at(tape, i);
+        if tape[i] == 2 {
+            ctx = function_call_token(source, config, out, ctx, h);
+            i += 11;
+        } else {
+            let w = node(source, tape, config, errors, out, left - 1, i, ctx);
+            ctx = w.context;
+            i = w.at;
+        }
+    }
+    Walk {
+        at: i + 1,
+        context: ctx,
+    }
+}
+
+// format_case_expression
+fn case_of(
+    source: &[u8],
+    tape: &[u8],
+    config: FormatConfig,
+    errors: bool,
+    out: &mut [u8],
+    left: usize,
+    at: usize,
+    c: FormatterContext,
+) -> Walk
+    requires { ⌜ NodeReady (now source) (now tape) config errors left at c ⌝ }
+    ensures { λ r. ⌜ RoutineDone (now (source .entry)) (now (tape .entry)) config at (always formatCaseExpression) c (now (out .entry)) r (now (out .exit)) ⌝ }
+{
+    let mut i = at + 11;
+    let mut ctx = c;
+    let local = Local {
+        flag: false,
+        prev: PrevKind::Nothing,
+    };
+    while tape[i] != 3 {
+        let h = head_at(tape, i);
+        if tape[i] == 2 {
+            ctx = case_expression_token(source, config, out, ctx, h);
+            i += 11;
+        } else {
+            let a = case_expression_before(out, ctx, local, h.kind);
+            let w = node(source, tape, config, errors, out, left - 1, i, a);
+            ctx = w.context;
+            i = w.at;
+        }
+    }
+    Walk {
+        at: i + 1,
+        context: ctx,
+    }
+}
+
+// format_when_clause
+fn when_then(
+    source: &[u8],
+    tape: &[u8],
+    config: FormatConfig,
+    errors: bool,
+    out: &mut [u8],
+    left: usize,
+    at: usize,
+    c: FormatterContext,
+) -> Walk
+    requires { ⌜ NodeReady (now source) (now tape) config errors left at c ⌝ }
+    ensures { λ r. ⌜ RoutineDone (now (source .entry)) (now (tape .entry)) config at (always formatWhenClause) c (now (out .entry)) r (now (out .exit)) ⌝ }
+{
+    let mut i = at + 11;
+    let mut ctx = c;
+    while tape[i] != 3 {
+        let h = head_at(tape, i);
+        if tape[i] == 2 {
+            ctx = when_clause_token(source, config, out, ctx, h);
+            i += 11;
+        } else {
+            let w = node(source, tape, config, errors, out, left - 1, i, ctx);
+            ctx = w.context;
+            i = w.at;
+        }
+    }
+    Walk {
+        at: i + 1,
+        context: ctx,
+    }
+}
+
+// format_subquery
+fn subquery(
+    source: &[u8],
+    tape: &[u8],
+    config: FormatConfig,
+    errors: bool,
+    out: &mut [u8],
+    left: usize,
+    at: usize,
+    c: FormatterContext,
+) -> Walk
+    requires { ⌜ NodeReady (now source) (now tape) config errors left at c ⌝ }
+    ensures { λ r. ⌜ RoutineDone (now (source .entry)) (now (tape .entry)) config at (always formatSubquery) c (now (out .entry)) r (now (out .exit)) ⌝ }
+{
+    let mut i = at + 11;
+    let mut ctx = c;
+    while tape[i] != 3 {
+        let h = head_at(tape, i);
+        if tape[i] == 2 {
+            ctx = subquery_token(source, config, out, ctx, h);
+            i += 11;
+        } else {
+            let w = node(source, tape, config, errors, out, left - 1, i, ctx);
+            ctx = w.context;
+            i = w.at;
+        }
+    }
+    Walk {
+        at: i + 1,
+        context: ctx,
+    }
+}
+
+// format_paren_list
+fn parens(
+    source: &[u8],
+    tape: &[u8],
+    config: FormatConfig,
+    errors: bool,
+    out: &mut [u8],
+    left: usize,
+    at: usize,
+    c: FormatterContext,
+) -> Walk
+    requires { ⌜ NodeReady (now source) (now tape) config errors left at c ⌝ }
+    ensures { λ r. ⌜ RoutineDone (now (source .entry)) (now (tape .entry)) config at (always formatParenList) c (now (out .entry)) r (now (out .exit)) ⌝ }
+{
+    let mut i = at + 11;
+    let mut ctx = c;
+    while tape[i] != 3 {
+        let h = head_at(tape, i);
+        if tape[i] == 2 {
+            ctx = paren_list_token(source, config, out, ctx, h);
+            i += 11;
+        } else {
+            let w = node(source, tape, config, errors, out, left - 1, i, ctx);
+            ctx = w.context;
+            i = w.at;
+        }
+    }
+    Walk {
+        at: i + 1,
+        context: ctx,
+    }
+}
+
+// format_bracket_list
+fn brackets(
+    source: &[u8],
+    tape: &[u8],
+    config: FormatConfig,
+    errors: bool,
+    out: &mut [u8],
+    left: usize,
+    at: usize,
+    c: FormatterContext,
+) -> Walk
+    requires { ⌜ NodeReady (now source) (now tape) config errors left at c ⌝ }
+    ensures { λ r. ⌜ RoutineDone (now (source .entry)) (now (tape .entry)) config at (always formatBracketList) c (now (out .entry)) r (now (out .exit)) ⌝ }
+{
+    let mut i = at + 11;
+    let mut ctx = c;
+    while tape[i] != 3 {
+        let h = head_at(tape, i);
+        if tape[i] == 2 {
+            ctx = bracket_list_token(source, config, out, ctx, h);
+            i += 11;
+        } else {
+            let w = node(source, tape, config, errors, out, left - 1, i, ctx);
+            ctx = w.context;
+            i = w.at;
+        }
+    }
+    Walk {
+        at: i + 1,
+        context: ctx,
+    }
+}
+
+// format_brace_list
+fn braces(
+    source: &[u8],
+    tape: &[u8],
+    config: FormatConfig,
+    errors: bool,
+    out: &mut [u8],
+    left: usize,
+    at: usize,
+    c: FormatterContext,
+) -> Walk
+    requires { ⌜ NodeReady (now source) (now tape) config errors left at c ⌝ }
+    ensures { λ r. ⌜ RoutineDone (now (source .entry)) (now (tape .entry)) config at (always formatBraceList) c (now (out .entry)) r (now (out .exit)) ⌝ }
+{
+    let mut i = at + 11;
+    let mut ctx = c;
+    while tape[i] != 3 {
+        let h = head_at(tape, i);
+        if tape[i] == 2 {
+            ctx = brace_list_token(source, config, out, ctx, h);
+            i += 11;
+        } else {
+            let w = node(source, tape, config, errors, out, left - 1, i, ctx);
+            ctx = w.context;
+            i = w.at;
+        }
+    }
+    Walk {
+        at: i + 1,
+        context: ctx,
+    }
+}
+
+// format_data_type
+fn data_type(
+    source: &[u8],
+    tape: &[u8],
+    config: FormatConfig,
+    errors: bool,
+    out: &mut [u8],
+    left: usize,
+    at: usize,
+    c: FormatterContext,
+) -> Walk
+    requires { ⌜ NodeReady (now source) (now tape) config errors left at c ⌝ }
+    ensures { λ r. ⌜ RoutineDone (now (source .entry)) (now (tape .entry)) config at (always formatDataType) c (now (out .entry)) r (now (out .exit)) ⌝ }
+{
+    let mut i = at + 11;
+    let mut ctx = c;
+    while tape[i] != 3 {
+        let h = head_at(tape, i);
+        if tape[i] == 2 {
+            ctx = data_type_token(source, config, out, ctx, h);
+            i += 11;
+        } else {
+            let w = node(source, tape, config, errors, out, left - 1, i, ctx);
+            ctx = w.context;
+            i = w.at;
+        }
+    }
+    Walk {
+        at: i + 1,
+        context: ctx,
+    }
+}
+
+// format_inline_tight_parens
+fn tight(
+    source: &[u8],
+    tape: &[u8],
+    config: FormatConfig,
+    errors: bool,
+    out: &mut [u8],
+    left: usize,
+    at: usize,
+    c: FormatterContext,
+) -> Walk
+    requires { ⌜ NodeReady (now source) (now tape) config errors left at c ⌝ }
+    ensures { λ r. ⌜ RoutineDone (now (source .entry)) (now (tape .entry)) config at (always formatInlineTightParens) c (now (out .entry)) r (now (out .exit)) ⌝ }
+{
+    let mut i = at + 11;
+    let mut ctx = c;
+    let mut local = Local {
+        flag: false,
+        prev: PrevKind::Nothing,
+    };
+    while tape[i] != 3 {
+        let h = head_at(tape, i);
+        if tape[i] == 2 {
+            let a = inline_tight_parens_token(source, config, out, ctx, local, h);
+            ctx = a.context;
+            local = a.local;
+            i += 11;
+        } else {
+            let prev = local.prev;
+            let a = space_if(ctx, space_after(prev));
+            let w = node(source, tape, config, errors, out, left - 1, i, a);
+            ctx = w.context;
+            local = Local {
+                flag: false,
+                prev: PrevKind::Kind(syntax_kind::BARE_WORD),
+            };
+            i = w.at;
+        }
+    }
+    Walk {
+        at: i + 1,
+        context: ctx,
+    }
+}
+
+// format_inline
+fn inline(
+    source: &[u8],
+    tape: &[u8],
+    config: FormatConfig,
+    errors: bool,
+    out: &mut [u8],
+    left: usize,
+    at: usize,
+    c: FormatterContext,
+) -> Walk
+    requires { ⌜ NodeReady (now source) (now tape) config errors left at c ⌝ }
+    ensures { λ r. ⌜ RoutineDone (now (source .entry)) (now (tape .entry)) config at (always formatInline) c (now (out .entry)) r (now (out .exit)) ⌝ }
+{
+    let mut i = at + 11;
+    let mut ctx = c;
+    let mut local = Local {
+        flag: false,
+        prev: PrevKind::Nothing,
+    };
+    while tape[i] != 3 {
+        let h = head_at(tape, i);
+        if tape[i] == 2 {
+            let a = inline_token(source, config, out, ctx, local, h);
+            ctx = a.context;
+            local = a.local;
+            i += 11;
+        } else {
+            let prev = local.prev;
+            let a = space_if(ctx, space_after(prev));
+            let w = node(source, tape, config, errors, out, left - 1, i, a);
+            ctx = w.context;
+            local = Local {
+                flag: false,
+                prev: PrevKind::Kind(syntax_kind::BARE_WORD),
+            };
+            i = w.at;
+        }
+    }
+    Walk {
+        at: i + 1,
+        context: ctx,
+    }
+}
+
+// format_inline_no_spaces
+fn no_spaces(
+    source: &[u8],
+    tape: &[u8],
+    config: FormatConfig,
+    errors: bool,
+    out: &mut [u8],
+    left: usize,
+    at: usize,
+    c: FormatterContext,
+) -> Walk
+    requires { ⌜ NodeReady (now source) (now tape) config errors left at c ⌝ }
+    ensures { λ r. ⌜ RoutineDone (now (source .entry)) (now (tape .entry)) config at (always formatInlineNoSpaces) c (now (out .entry)) r (now (out .exit)) ⌝ }
+{
+    let mut i = at + 11;
+    let mut ctx = c;
+    while tape[i] != 3 {
+        let h = head_at(tape, i);
+        if tape[i] == 2 {
+            ctx = emit_other(source, config, out, ctx, h);
+            i += 11;
+        } else {
+            let w = node(source, tape, config, errors, out, left - 1, i, ctx);
+            ctx = w.context;
+            i = w.at;
+        }
+    }
+    Walk {
+        at: i + 1,
+        context: ctx,
+    }
+}
+
+// format_passthrough
+fn passthrough(
+    source: &[u8],
+    tape: &[u8],
+    config: FormatConfig,
+    errors: bool,
+    out: &mut [u8],
+    left: usize,
+    at: usize,
+    c: FormatterContext,
+) -> Walk
+    requires { ⌜ NodeReady (now source) (now tape) config errors left at c ⌝ }
+    ensures { λ r. ⌜ RoutineDone (now (source .entry)) (now (tape .entry)) config at (always formatPassthrough) c (now (out .entry)) r (now (out .exit)) ⌝ }
+{
+    let mut i = at + 11;
+    let mut ctx = c;
+    while tape[i] != 3 {
+        let h = head_at(tape, i);
+        if tape[i] == 2 {
+            ctx = passthrough_token(source, config, out, ctx, h);
+            i += 11;
+        } else {
+            let w = node(source, tape, config, errors, out, left - 1, i, ctx);
+            ctx = w.context;
+            i = w.at;
+        }
+    }
+    Walk {
+        at: i + 1,
+        context: ctx,
+    }
+}
+
+// format_alter_command_list
+fn alter(
+    source: &[u8],
+    tape: &[u8],
+    config: FormatConfig,
+    errors: bool,
+    out: &mut [u8],
+    left: usize,
+    at: usize,
+    c: FormatterContext,
+) -> Walk
+    requires { ⌜ NodeReady (now source) (now tape) config errors left at c ⌝ }
+    ensures { λ r. ⌜ RoutineDone (now (source .entry)) (now (tape .entry)) config at (always formatAlterCommandList) c (now (out .entry)) r (now (out .exit)) ⌝ }
+{
+    let mut i = at + 11;
+    let mut ctx = c;
+    while tape[i] != 3 {
+        let h = head_at(tape, i);
+        if tape[i] == 2 {
+            ctx = alter_command_list_token(source, config, out, ctx, h);
+            i += 11;
+        } else {
+            let w = node(source, tape, config, errors, out, left - 1, i, ctx);
+            ctx = w.context;
+            i = w.at;
+        }
+    }
+    Walk {
+        at: i + 1,
+        context: ctx,
+    }
+}
+
+// format_union_clause
+fn union_of(
+    source: &[u8],
+    tape: &[u8],
+    config: FormatConfig,
+    errors: bool,
+    out: &mut [u8],
+    left: usize,
+    at: usize,
+    c: FormatterContext,
+) -> Walk
+    requires { ⌜ NodeReady (now source) (now tape) config errors left at c ⌝ }
+    ensures { λ r. ⌜ RoutineDone (now (source .entry)) (now (tape .entry)) config at (always formatUnionClause) c (now (out .entry)) r (now (out .exit)) ⌝ }
+{
+    let mut i = at + 11;
+    let mut ctx = c;
+    let mut local = Local {
+        flag: false,
+        prev: PrevKind::Nothing,
+    };
+    while tape[i] != 3 {
+        let h = head_at(tape, i);
+        if tape[i] == 2 {
+            ctx = union_clause_token(source, config, out, ctx, local, h);
+            i += 11;
+        } else {
+            let a = union_clause_before(out, ctx, local, h.kind);
+            let w = node(source, tape, config, errors, out, left - 1, i, a);
+            ctx = w.context;
+            local = union_clause_local(local, h.kind);
+            i = w.at;
+        }
+    }
+    Walk {
+        at: i + 1,
+        context: ctx,
+    }
+}
+
+// Whether a node is copied as typed. Where the check found no Error node, no node is, and none is looked for.
+fn is_copied(tape: &[u8], errors: bool, at: usize, kind: u16) -> bool
+    requires { ⌜ NodeAt (now tape) at × (errors ≡ false → Scanned (copied kind) (now tape) at false) ⌝ }
+    ensures { λ r. ⌜ Scanned (copied kind) (now (tape .entry)) at r ⌝ }
+{
+    if errors {
+        if kind == syntax_kind::ERROR {
+            return true;
+        }
+        if kind == syntax_kind::QUERY_LIST {
+            return false;
+        }
+        return has_error_child(tape, at);
+    }
+    false
+}
+
+// format_node
+pub(crate) fn node(
+    source: &[u8],
+    tape: &[u8],
+    config: FormatConfig,
+    errors: bool,
+    out: &mut [u8],
+    left: usize,
+    at: usize,
+    c: FormatterContext,
+) -> Walk
+    requires { ⌜ NodeReady (now source) (now tape) config errors left at c ⌝ }
+    ensures { λ r. ⌜ NodeDone (now (source .entry)) (now (tape .entry)) config at c (now (out .entry)) r (now (out .exit)) ⌝ }
+{
+    let h = head_at(tape, at);
+    if is_copied(tape, errors, at, h.kind) {
+        let end = skip(tape, at);
+        let ctx = format_error_verbatim(source, config, out, c, h);
+        return Walk {
+            at: end,
+            context: ctx,
+        };
+    }
+    let r = routine_of(h.kind);
+    match r {
+        Routine::File => file(source, tape, config, errors, out, left, at, c),
+        Routine::QueryList => query_list(source, tape, config, errors, out, left, at, c),
+        Routine::SelectStatement => statement(source, tape, config, errors, out, left, at, c),
+        Routine::SelectClause => select(source, tape, config, errors, out, left, at, c),
+        Routine::SimpleClause => simple(source, tape, config, errors, out, left, at, c),
+        Routine::GroupByClause => list_by(
+            source,
+            tape,
+            config,
+            errors,
+            out,
+            left,
+            at,
+            c,
+            syntax_kind::GROUP_BY_LIST,
+        ),
+        Routine::OrderByClause => list_by(
+            source,
+            tape,
+            config,
+            errors,
+            out,
+            left,
+            at,
+            c,
+            syntax_kind::ORDER_BY_LIST,
+        ),
+        Routine::LimitByClause => join(source, tape, config, errors, out, left, at, c),
+        Routine::SettingsClause => settings(source, tape, config, errors, out, left, at, c),
+        Routine::WithClause => with_clause(source, tape, config, errors, out, left, at, c),
+        Routine::JoinClause => join(source, tape, config, errors, out, left, at, c),
+        Routine::Inline => inline(source, tape, config, errors, out, left, at, c),
+        Routine::CommaList => commas(source, tape, config, errors, out, left, at, c),
+        Routine::InlineCommaList => inline_commas(source, tape, config, errors, out, left, at, c),
+        Routine::BinaryExpression => binary(source, tape, config, errors, out, left, at, c),
+        Routine::UnaryExpression => unary(source, tape, config, errors, out, left, at, c),
+        Routine::FunctionCall => call(source, tape, config, errors, out, left, at, c),
+        Routine::CaseExpression => case_of(source, tape, config, errors, out, left, at, c),
+        Routine::WhenClause => when_then(source, tape, config, errors, out, left, at, c),
+        Routine::Subquery => subquery(source, tape, config, errors, out, left, at, c),
+        Routine::ParenList => parens(source, tape, config, errors, out, left, at, c),
+        Routine::BracketList => brackets(source, tape, config, errors, out, left, at, c),
+        Routine::InlineNoSpaces => no_spaces(source, tape, config, errors, out, left, at, c),
+        Routine::BraceList => braces(source, tape, config, errors, out, left, at, c),
+        Routine::DataType => data_type(source, tape, config, errors, out, left, at, c),
+        Routine::InlineTightParens => tight(source, tape, config, errors, out, left, at, c),
+        Routine::AlterCommandList => alter(source, tape, config, errors, out, left, at, c),
+        Routine::UnionClause => union_of(source, tape, config, errors, out, left, at, c),
+        Routine::Passthrough => passthrough(source, tape, config, errors, out, left, at, c),
+    }
+}

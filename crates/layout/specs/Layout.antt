@@ -1,0 +1,73 @@
+-- What the calls write, and the layout as a whole: `format` of mod.rs. Assumes nothing.
+use Prim.Native.Nat.{ℕ}
+use mathlib.Core.Bool.{Bool, cond, not, _&&_}
+use mathlib.Core.List.{List, [], _∷_, _++_}
+use Rattle.context.specs.Cells.{Text, Cell, fresh, spanCells}
+use Rattle.context.specs.Context.{Piece, Step, newState, writeNewline, writeToken, writeKeyword, writeSpace, noteSkippedWhitespace, takePendingNewline, takePendingBlankLine, writeRaw, finish}
+use Rattle.context.specs.Context as context
+use Rattle.context.specs.declared.FormatConfig.{FormatConfig}
+use Rattle.context.specs.declared.State.{State}
+use Rattle.tape.specs.Tree.{Children, Tree}
+use Rattle.layout.specs.Arms.{Spacing, newline, space, indent, dedent, note, blankLine, blankLineBeforeComment, lineOrSpace, spacing, text, keyword, sign, Arms}
+use Rattle.layout.specs.FormatNode.{formatNode}
+use Rattle.layout.specs.Calls.{Call, apart, on, raw, calls}
+
+-- a state, and nothing written
+abbrev pub silent : State → Step
+silent s = (s, record { lead = []; body = [] })
+
+-- a newline where b holds
+abbrev pub newlineIf : Bool → State → Step
+newlineIf b s = cond b (writeNewline s) (silent s)
+
+unfoldable pub doSpacing : Spacing → State → Step
+doSpacing newline s = writeNewline s
+doSpacing space s = silent (writeSpace s)
+doSpacing indent s = silent (context.indent s)
+doSpacing dedent s = silent (context.dedent s)
+doSpacing (note b) s = silent (noteSkippedWhitespace b s)
+doSpacing blankLine s =
+    let taken = takePendingBlankLine s in
+    newlineIf (taken .0) (taken .1)
+doSpacing blankLineBeforeComment s =
+    let taken = takePendingBlankLine s in
+    newlineIf (taken .0 && not (taken .1 .«at_line_start»)) (taken .1)
+doSpacing lineOrSpace s =
+    let taken = takePendingNewline s in
+    cond (taken .0) (newlineIf (not (taken .1 .«at_line_start»)) (taken .1)) (silent (writeSpace (taken .1)))
+
+-- one call: the next state, and what is written
+unfoldable pub step : FormatConfig → Text → Call → State → Step
+step config source (apart x) s = doSpacing x s
+step config source (on h (spacing x)) s = doSpacing x s
+step config source (on h text) s = writeToken config (spanCells source (h .start) (h .end)) s
+step config source (on h keyword) s = writeKeyword config (spanCells source (h .start) (h .end)) s
+step config source (on h (sign b)) s = writeToken config (fresh b ∷ []) s
+step config source (raw start end) s = writeRaw (spanCells source start end) s
+
+unfoldable pub pieces : FormatConfig → Text → List Call → State → List Piece
+pieces config source [] s = []
+pieces config source (c ∷ cs) s =
+    let r = step config source c s in
+    r .1 ∷ pieces config source cs (r .0)
+
+-- all that was written
+unfoldable pub written : List Piece → List Cell
+written [] = []
+written (p ∷ ps) = p .lead ++ (p .body ++ written ps)
+
+-- what layouts may differ in: the dispatch, and what is put between pieces
+pub record Version : Type 0 where
+  pub pick : ℕ → Children → Arms
+  pub between : List Piece → List Piece
+
+-- the layout of the source
+unfoldable pub original : Version
+original = record { pick = formatNode; between = λ ps. ps }
+
+unfoldable pub piecesOf : Version → FormatConfig → Text → Tree → List Piece
+piecesOf v config source tree = v .between (pieces config source (calls (v .pick) source tree) newState)
+
+-- format
+unfoldable pub format : Version → FormatConfig → Text → Tree → List Cell
+format v config source tree = finish (written (piecesOf v config source tree))

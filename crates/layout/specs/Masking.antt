@@ -1,0 +1,87 @@
+-- The masking rule of document 01: what it asks of two texts and a tree, and what it says of two calls. A place is an offset in the
+-- text. Assumes nothing.
+use Prim.Native.Nat.{ℕ, suc, _-_, _≤_, _<_}
+use mathlib.Core.Path.{_≡_}
+use mathlib.Core.Bool.{Bool, true, false, _||_}
+use mathlib.Core.List.{List, _++_}
+use lib.ListN.{length, getD, drop}
+use lib.Dec.{T, eqb, leb}
+use Rattle.context.specs.Cells.{Text, Cell, fixed, isWhiteSpace}
+use Rattle.context.specs.Alike.{Like}
+use Rattle.tape.specs.declared.Head.{Head}
+use Rattle.tape.specs.declared.Place.the-variants.{Nowhere}
+use Rattle.tape.specs.Kinds.{StringToken, QuotedIdentifier}
+use Rattle.tape.specs.Tree.{Children, token, node, Tree, copied, EachToken, EachNode}
+use Rattle.tape.specs.Tape.{got}
+use Rattle.tape.specs.Call.{firstNonAscii, readCall}
+use Rattle.layout.specs.Outcome.{Outcome, refusal, laid, measured, laidOut}
+
+-- ── tokens and nodes of the tree, written or not (`EachToken`, `EachNode` of tape)
+
+-- P holds of some token
+pub data SomeToken (P : Head → Type 0) : Children → Type 0 where
+  here : {h : Head} {rest : Children} → P h → SomeToken P (token h rest)
+  afterToken : {h : Head} {rest : Children} → SomeToken P rest → SomeToken P (token h rest)
+  within : {h : Head} {kids rest : Children} → SomeToken P kids → SomeToken P (node h kids rest)
+  afterNode : {h : Head} {kids rest : Children} → SomeToken P rest → SomeToken P (node h kids rest)
+
+-- P holds of each node copied as typed
+abbrev pub EachCopied : (Head → Type 0) → Children → Type 0
+EachCopied P = EachNode (λ h kids. T (copied (h .kind) kids) → P h)
+
+-- ── places
+
+-- quoted: of kind StringToken or QuotedIdentifier
+abbrev pub quoted : Head → Bool
+quoted h = eqb (h .kind) StringToken || eqb (h .kind) QuotedIdentifier
+
+-- the token or node holds the place
+abbrev pub Holds : ℕ → Head → Type 0
+Holds p h = (h .start ≤ p) × (p < h .end)
+
+-- strictly inside: neither the first nor the last place that it holds
+abbrev pub StrictlyInside : ℕ → Head → Type 0
+StrictlyInside p h = (h .start < p) × (suc p < h .end)
+
+abbrev pub Differ : Text → Text → ℕ → Type 0
+Differ a b p = getD a p 0 ≡ getD b p 0 → ⊥
+
+-- an empty token doesn't end in white space
+abbrev pub EndsInWhiteSpace : Text → Head → Type 0
+EndsInWhiteSpace t h = (h .start < h .end) × T (isWhiteSpace (getD t (h .end - 1) 0))
+
+-- ── what the rule asks
+
+-- where the texts differ, each token that holds the place is quoted and holds it strictly inside, some token does, and no node that is
+-- copied as typed holds it; no quoted token ends in white space
+pub record Masked (a b : Text) (t : Tree) : Type 0 where
+  pub inSomeToken : (p : ℕ) → Differ a b p → SomeToken (Holds p) (t .kids)
+  pub inQuotes : (p : ℕ) → Differ a b p → EachToken (λ h. Holds p h → StrictlyInside p h × T (quoted h)) (t .kids)
+  pub notCopied : (p : ℕ) → Differ a b p → (T (copied (t .head .kind) (t .kids)) → Holds p (t .head) → ⊥) × EachCopied (λ h. Holds p h → ⊥) (t .kids)
+  pub solidEnds : EachToken (λ h. T (quoted h) → EndsInWhiteSpace a h → ⊥) (t .kids)
+
+-- two ASCII texts of one length; only where 1 to 12 do not refuse does the rule ask more
+pub record MaskedPair (width case : ℕ) (a b : Text) (tape : List ℕ) : Type 0 where
+  pub sameLength : length a ≡ length b
+  pub asciiA : firstNonAscii 0 a ≡ Nowhere
+  pub asciiB : firstNonAscii 0 b ≡ Nowhere
+  pub masked : (t : Tree) (p : ℕ) → readCall width case a tape ≡ got t p → Masked a b t
+
+-- ── what the rule says
+
+-- the output space after a layout call, with each byte's origin: those that the call did not write have none
+abbrev pub fittedCells : Bool → List Cell → List ℕ → List Cell
+fittedCells true cs space = cs ++ fixed (drop (length cs) space)
+fittedCells false cs space = fixed space
+
+abbrev pub cellsAfter : Outcome → List ℕ → List Cell
+cellsAfter (refusal f p) space = fixed space
+cellsAfter (laid cs) space = fittedCells (leb (length cs) (length space)) cs space
+
+-- two calls on one tape, for the texts a and b, that end in x and y; both layout calls are lent the same space
+pub record Alike (a b : Text) (x y : Outcome) (space : List ℕ) : Type 0 where
+  -- measuring: equal answers
+  pub measures : measured x ≡ measured y
+  -- laying out: equal answers; each byte has the same origin, and is the same wherever that is none or a place where the texts agree
+  pub answers : (laidOut x space) .answer ≡ (laidOut y space) .answer
+  pub spaces : Like a b (cellsAfter x space) (cellsAfter y space)

@@ -1,0 +1,13 @@
+-- The laws that the proofs and the crates above cite.
+pub mod Among
+pub mod Facts
+pub mod Trees
+pub mod Reading
+pub mod Turns
+pub mod Ascii
+pub mod Acceptance
+pub mod Errors
+pub mod Skips
+pub mod Looks
+pub mod Order
+pub mod Samples

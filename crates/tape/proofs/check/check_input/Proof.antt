@@ -1,0 +1,48 @@
+-- `check_input` meets its contract: each answer by the tests that led to it. Assumes nothing.
+use mathlib.Core.Path.{sym, _∙_}
+use borrow.Author.Tests.{lt-ltb, le-ltb}
+use Rattle.tape.specs.Call.{readInput}
+use borrow.Author.Needs.{needs}
+use Rattle.tape.proofs.check.check_input.Statement.{statement}
+use Rattle.tape.proofs.check.check_input.Tie as tie
+
+returns : tie.Need-returns
+unfolding readInput
+returns c = simp (lt-ltb _ _ (c .if1 .taken))
+
+first-non-ascii-requires : tie.Need-first-non-ascii-requires
+first-non-ascii-requires c κs = search needs
+
+enum-known-high : tie.Need-enum-known-high
+enum-known-high c = search needs
+
+returns-2 : tie.Need-returns-2
+unfolding readInput
+returns-2 c = simp (le-ltb _ _ (c .before .before .before .before .if1 .left), sym (c .before .before .before .first-non-ascii .ensures) ∙ c .before .high .given .1)
+
+enum-told : tie.Need-enum-told
+enum-told c = search needs
+
+returns-3 : tie.Need-returns-3
+unfolding readInput
+returns-3 c = simp (le-ltb _ _ (c .before .before .before .before .if1 .left), sym (c .before .before .before .first-non-ascii .ensures) ∙ c .before .enum-told .given .1, lt-ltb _ _ (c .if2 .taken))
+
+check-requires : tie.Need-check-requires
+check-requires c κs = search needs
+
+returns-4 : tie.Need-returns-4
+unfolding readInput
+returns-4 c = simp (le-ltb _ _ (c .before .before .before .before .before .if1 .left), sym (c .before .before .before .before .first-non-ascii .ensures) ∙ c .before .before .enum-told .given .1, le-ltb _ _ (c .before .if2 .left)) (c .check .ensures)
+
+pub check-input-spec : {M : Type 1} → statement M
+check-input-spec =
+    tie.close
+    (tie.spec
+    returns
+    first-non-ascii-requires
+    enum-known-high
+    returns-2
+    enum-told
+    returns-3
+    check-requires
+    returns-4)

@@ -1,0 +1,78 @@
+-- `has_child` meets its contract: what is asked of all children is asked of those left. Assumes nothing.
+use Prim.Native.Nat.{_-_}
+use native.Mathlib.Omega.{arith}
+use mathlib.Core.Path.{sym, _∙_}
+use lib.ListN.{length}
+use Rattle.tape.specs.Tree.{hasChild}
+use Rattle.tape.proofs.Looks.{Looking, look-first, look-inside, look-node, look-token, look-past, look-found, look-end, child-found, child-past, child-token, child-end}
+use Rattle.tape.proofs.scan.has_child.Statement.{statement}
+use Rattle.tape.proofs.scan.has_child.Tie as tie
+
+abbrev Inv-loop : tie.InvT-loop
+Inv-loop tape at kind i₀ i = Looking (hasChild kind) (hasChild kind) tape at i
+
+abbrev μ-loop : tie.MeasureT-loop
+μ-loop tape at kind i₀ i = length tape - i
+
+add-i : tie.Need-add-i Inv-loop μ-loop
+add-i c = omega (arith, c .before .pre .inside)
+
+loop-holds : tie.Need-loop-holds Inv-loop μ-loop
+loop-holds c = look-first _ (c .before .pre)
+
+shared-slice-read-if1 : tie.Need-shared-slice-read-if1 Inv-loop μ-loop
+shared-slice-read-if1 c = look-inside _ _ (c .before .loop .inv)
+
+shared-slice-read-if2 : tie.Need-shared-slice-read-if2 Inv-loop μ-loop
+shared-slice-read-if2 c = look-inside _ _ (c .before .before .before .loop .inv)
+
+add-u16-at : tie.Need-add-u16-at Inv-loop μ-loop
+add-u16-at c = omega (arith, look-inside _ _ (c .before .before .before .before .loop .inv))
+
+u16-at-requires : tie.Need-u16-at-requires Inv-loop μ-loop
+u16-at-requires c κs = omega (arith, look-node _ _ (c .before .before .before .before .loop .inv) (c .if2 .taken) .inside)
+
+returns : tie.Need-returns Inv-loop μ-loop
+returns c = look-found _ _ (c .before .before .before .before .before .before .loop .inv) (child-found _ _ _ (sym (c .before .u16-at .ensures) ∙ c .if3 .taken)) (c .before .before .if2 .taken)
+
+skip-requires : tie.Need-skip-requires Inv-loop μ-loop
+skip-requires c κs = look-node _ _ (c .before .before .before .before .before .before .loop .inv) (c .before .before .if2 .taken)
+
+loop-less : tie.Need-loop-less Inv-loop μ-loop
+loop-less c = omega (arith, look-inside _ _ (c .before .before .before .before .before .before .before .loop .inv), c .skip .ensures .on)
+
+loop-again : tie.Need-loop-again Inv-loop μ-loop
+loop-again c = look-past _ _ (c .before .before .before .before .before .before .before .loop .inv) _ (child-past _ _ _ (λ e. c .before .if3 .left (c .before .before .u16-at .ensures ∙ e))) (c .before .before .before .if2 .taken) (c .skip .ensures)
+
+add-i-2 : tie.Need-add-i-2 Inv-loop μ-loop
+add-i-2 c = omega (arith, look-inside _ _ (c .before .before .before .before .loop .inv))
+
+loop-less-2 : tie.Need-loop-less-2 Inv-loop μ-loop
+loop-less-2 c = omega (arith, look-inside _ _ (c .before .before .before .before .loop .inv))
+
+loop-again-2 : tie.Need-loop-again-2 Inv-loop μ-loop
+loop-again-2 c = look-token _ _ (c .before .before .before .before .loop .inv) _ (child-token _ _ _) (c .before .before .if1 .taken) (c .if2 .left)
+
+returns-2 : tie.Need-returns-2 Inv-loop μ-loop
+returns-2 c = look-end _ _ (c .before .before .loop .inv) (child-end _) (c .if1 .left)
+
+pub has-child-spec : {M : Type 1} → statement M
+has-child-spec =
+    tie.close
+    (tie.spec
+    Inv-loop
+    μ-loop
+    add-i
+    loop-holds
+    shared-slice-read-if1
+    shared-slice-read-if2
+    add-u16-at
+    u16-at-requires
+    returns
+    skip-requires
+    loop-less
+    loop-again
+    add-i-2
+    loop-less-2
+    loop-again-2
+    returns-2)

@@ -1,0 +1,8 @@
+-- The definitions, in the order to read them.
+pub mod Kinds
+pub mod Tree
+pub mod Faults
+pub mod Tape
+pub mod Call
+pub mod Lies
+pub mod SmallInputs

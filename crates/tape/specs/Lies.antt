@@ -1,0 +1,79 @@
+-- Where a tree lies on a tape, and what an accepted tape gives to those that walk it.
+-- Assumes nothing.
+use Prim.Native.Nat.{ℕ, suc, _+_, _≤_, _<_}
+use mathlib.Core.Path.{_≡_}
+use mathlib.Core.Bool.{Bool, false}
+use mathlib.Core.List.{List}
+use lib.ListN.{length, getD}
+use Rattle.tape.specs.declared.Head.{Head}
+use Rattle.tape.specs.declared.Place.the-variants.{Nowhere}
+use Rattle.tape.specs.Kinds.{notCarried}
+use Rattle.tape.specs.Tree.{Children, done, token, node, Tree, size, height, hasError}
+use Rattle.tape.specs.Tape.{headAt, got, readTree}
+use Rattle.tape.specs.Call.{firstNonAscii, readCall}
+
+module _ (len : ℕ) (tape : List ℕ) where
+  -- the open of the head h stands at p
+  pub record OpenAt (p : ℕ) (h : Head) : Type 0 where
+    pub byte : getD tape p 0 ≡ 1
+    pub head : h ≡ headAt tape p
+    pub inside : p + 11 ≤ length tape
+    pub kind : h .kind ≤ 257
+    pub carried : notCarried (h .kind) ≡ false
+    pub span : h .start ≤ h .end → h .end ≤ len
+
+  -- the token of the head h stands at p
+  pub record TokenAt (p : ℕ) (h : Head) : Type 0 where
+    pub byte : getD tape p 0 ≡ 2
+    pub head : h ≡ headAt tape p
+    pub inside : p + 11 ≤ length tape
+    pub kind : h .kind ≤ 257
+    pub ordered : h .start ≤ h .end
+    pub within : h .end ≤ len
+
+  pub record CloseAt (p : ℕ) : Type 0 where
+    pub byte : getD tape p 0 ≡ 3
+    pub inside : p + 1 ≤ length tape
+
+  -- the children lie on the tape from p on, the close of their node with them
+  unfoldable pub Lies : ℕ → Children → Type 0
+  Lies p done = CloseAt p
+  Lies p (token h rest) = TokenAt p h × Lies (p + 11) rest
+  Lies p (node h kids rest) = OpenAt p h × Lies (p + 11) kids × Lies (p + 11 + size kids) rest
+
+  -- what is known of an accepted tape: its tree, which is the whole tape
+  pub record AcceptedTape : Type 0 where
+    pub tree : Tree
+    pub read : readTree len tape ≡ got tree (length tape)
+    pub root : OpenAt 0 (tree .head)
+    pub kids : Lies 11 (tree .kids)
+    pub whole : 11 + size (tree .kids) ≡ length tape
+    pub depth : suc (height (tree .kids)) ≤ 64
+
+-- what is known where nothing of 1 to 12 is due, and the check says whether the tree has an Error node
+pub record AcceptedCall (width case : ℕ) (text tape : List ℕ) (errors : Bool) : Type 0 where
+  pub width-fits : width ≤ 16
+  pub case-fits : case ≤ 1
+  pub text-fits : length text ≤ 262144
+  pub ascii : firstNonAscii 0 text ≡ Nowhere
+  pub tape-fits : length tape ≤ 262144
+  pub accepted : AcceptedTape (length text) tape
+  pub read : readCall width case text tape ≡ got (accepted .tree) (length tape)
+  pub has-error : hasError (accepted .tree) ≡ errors
+
+-- a node opens at p, and its children lie after it
+pub record NodeAt (tape : List ℕ) (p : ℕ) : Type 0 where
+  pub len : ℕ
+  pub kids : Children
+  pub inside : p + 11 ≤ length tape
+  pub lies : Lies len tape (p + 11) kids
+
+-- r is the place after the close of the node that opens at p
+pub record Skipped (tape : List ℕ) (p r : ℕ) : Type 0 where
+  pub on : p < r
+  pub inside : r ≤ length tape
+  pub past : (len : ℕ) (kids : Children) → Lies len tape (p + 11) kids → r ≡ p + 11 + size kids
+
+-- r is what f says of the children of the node that opens at p
+pub record Scanned {A : Type 0} (f : Children → A) (tape : List ℕ) (p : ℕ) (r : A) : Type 0 where
+  pub all : (len : ℕ) (kids : Children) → Lies len tape (p + 11) kids → r ≡ f kids

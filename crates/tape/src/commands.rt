@@ -1,0 +1,97 @@
+// Reading one command of the tape, numbers low byte first. The readers ask for bytes within the tape: the check has tested it.
+use crate::Fault;
+use crate::Finding;
+use crate::Head;
+use crate::syntax_kind;
+ghost use mathlib.Core.Path.{_≡_};
+ghost use Prim.Native.Nat.{_+_, _≤_};
+ghost use lib.ListN.{length};
+ghost use Rattle.tape.specs.Kinds.{notCarried};
+ghost use Rattle.tape.specs.Tape.{u16At, u32At, headAt, checkOpen, checkToken};
+
+pub(crate) fn u16_at(tape: &[u8], at: usize) -> u16
+    requires { ⌜ at + 2 ≤ length (now tape) ⌝ }
+    ensures { λ r. ⌜ r ≡ u16At (now (tape .entry)) at ⌝ }
+{
+    tape[at] as u16 + 256 * (tape[at + 1] as u16)
+}
+
+fn u32_at(tape: &[u8], at: usize) -> u32
+    requires { ⌜ at + 4 ≤ length (now tape) ⌝ }
+    ensures { λ r. ⌜ r ≡ u32At (now (tape .entry)) at ⌝ }
+{
+    u16_at(tape, at) as u32 + 65536 * (u16_at(tape, at + 2) as u32)
+}
+
+// The operands of the open or the token at `at`, which must be whole.
+pub fn head_at(tape: &[u8], at: usize) -> Head
+    requires { ⌜ at + 11 ≤ length (now tape) ⌝ }
+    ensures { λ r. ⌜ r ≡ headAt (now (tape .entry)) at ⌝ }
+{
+    Head {
+        kind: u16_at(tape, at + 1),
+        start: u32_at(tape, at + 3) as usize,
+        end: u32_at(tape, at + 7) as usize,
+        at: at,
+    }
+}
+
+// Whether nodes of the kind are not carried. Two arms: keys that are neighbours would become ranges.
+fn not_carried(kind: u16) -> bool
+    ensures { λ r. ⌜ r ≡ notCarried kind ⌝ }
+{
+    match kind {
+        syntax_kind::INSERT_STATEMENT
+        | syntax_kind::CREATE_STATEMENT
+        | syntax_kind::SET_STATEMENT
+        | syntax_kind::EXPLAIN_STATEMENT
+        | syntax_kind::TABLE_DEFINITION
+        | syntax_kind::VIEW_DEFINITION
+        | syntax_kind::DICTIONARY_DEFINITION
+        | syntax_kind::ENGINE_CLAUSE
+        | syntax_kind::COLUMN_DEFINITION_LIST
+        | syntax_kind::INSERT_VALUES_CLAUSE => true,
+        syntax_kind::ALTER_STATEMENT
+        | syntax_kind::DATABASE_DEFINITION
+        | syntax_kind::MATERIALIZED_VIEW_DEFINITION => true,
+        _ => false,
+    }
+}
+
+// 8 to 11 for the open of a node, with `depth` nodes open before it.
+pub(crate) fn check_open(len: usize, depth: usize, h: Head) -> Finding
+    ensures { λ r. ⌜ r ≡ checkOpen len depth h ⌝ }
+{
+    let left_out = not_carried(h.kind);
+    if syntax_kind::ERROR_MAX_QUERY_SIZE_EXCEEDED < h.kind {
+        return Finding::Faulty(Fault::UnknownKind);
+    }
+    if left_out {
+        return Finding::Faulty(Fault::KindNotCarried);
+    }
+    if h.start <= h.end {
+        if len < h.end {
+            return Finding::Faulty(Fault::SpanOutside);
+        }
+    }
+    if 64 <= depth {
+        return Finding::Faulty(Fault::TooDeep);
+    }
+    Finding::Sound
+}
+
+// 8 and 10 for a token.
+pub(crate) fn check_token(len: usize, t: Head) -> Finding
+    ensures { λ r. ⌜ r ≡ checkToken len t ⌝ }
+{
+    if syntax_kind::ERROR_MAX_QUERY_SIZE_EXCEEDED < t.kind {
+        return Finding::Faulty(Fault::UnknownKind);
+    }
+    if t.end < t.start {
+        return Finding::Faulty(Fault::SpanOutside);
+    }
+    if len < t.end {
+        return Finding::Faulty(Fault::SpanOutside);
+    }
+    Finding::Sound
+}

@@ -1,0 +1,47 @@
+// The tape: its commands, the check of refusals 1 to 12, and the scans that look ahead on an accepted tape.
+pub mod check;
+pub mod commands;
+pub mod scan;
+pub mod syntax_kind;
+
+// What a token and a node have in common; `at` is the command's offset in the tape.
+pub struct Head {
+    pub kind: u16,
+    pub start: usize,
+    pub end: usize,
+    pub at: usize,
+}
+
+// What a refusal is for, 1 to 12 in this order.
+pub enum Fault {
+    IndentWidth,
+    CaseByte,
+    TextTooLong,
+    NotAscii,
+    TapeTooLong,
+    UnknownCommand,
+    CutCommand,
+    UnknownKind,
+    KindNotCarried,
+    SpanOutside,
+    TooDeep,
+    NotOneRoot,
+}
+
+// What the tests of a command's operands find.
+pub enum Finding {
+    Sound,
+    Faulty(Fault),
+}
+
+// The answer of a check: whether the tree has an Error node; or the fault and its place.
+pub enum Checked {
+    Accepted(bool),
+    Refused(Fault, usize),
+}
+
+// A place in the text, or none.
+pub enum Place {
+    Nowhere,
+    At(usize),
+}

@@ -1,0 +1,81 @@
+//! One call of the port held to the oracle: both numbers of both answers, and every byte of the output space and of the margins around it.
+
+use crate::{layout, measure};
+use oracle::answers::{accepted_tree, answer, formatted, Answer, Case};
+use oracle::cases::{make, Class, Made};
+use oracle::masking::Pair;
+
+/// The classes whose cases are calls.
+pub const CLASSES: [Class; 6] =
+    [Class::Parser, Class::Wild, Class::Damaged, Class::Masked, Class::Limits, Class::Small];
+
+/// Bytes before and after the output space that no call may touch.
+const MARGIN: usize = 16;
+
+/// The case of this seed, class and index on both sides; the error says what differs.
+pub fn compare(seed: u64, class: Class, index: u64) -> Result<(), String> {
+    let differs = |what| format!("seed {seed}, class {class:?}, index {index}: {what}");
+    match make(seed, class, index) {
+        Made::Call(case) => call(&case),
+        Made::Pair(pair) => masked(&pair),
+        Made::Job(_) => panic!("a job is no call"),
+    }
+    .map_err(differs)
+}
+
+/// Measuring, and laying out in the case's own space and in spaces of L, L-1, L+5 and 0 bytes.
+fn call(case: &Case) -> Result<(), String> {
+    let expected = answer(case).measured;
+    equal("measuring", measure(&case.text, &case.tape, case.width, case.case), expected)?;
+    in_space(case)?;
+    let needed = formatted(case).map_or(5, |output| output.len());
+    for length in [needed, needed.saturating_sub(1), needed + 5, 0] {
+        in_space(&Case { space: pattern(length), ..case.clone() })?;
+    }
+    Ok(())
+}
+
+/// Bytes that no layout has: above 127, each unlike its neighbours.
+fn pattern(length: usize) -> Vec<u8> {
+    (0..length).map(|i| 128 + (i * 37 % 128) as u8).collect()
+}
+
+fn in_space(case: &Case) -> Result<(), String> {
+    let expected = answer(case);
+    let margin = pattern(MARGIN);
+    let mut memory = [&margin[..], &case.space, &margin].concat();
+    let end = MARGIN + case.space.len();
+    let got = layout(&case.text, &case.tape, case.width, case.case, &mut memory[MARGIN..end]);
+    equal("laying out", got, expected.laid_out)?;
+    if memory[MARGIN..end] != expected.space[..] {
+        return Err(format!("the space of {} bytes afterwards", case.space.len()));
+    }
+    if memory[..MARGIN] != margin[..] || memory[end..] != margin[..] {
+        return Err(format!("the margins of a space of {} bytes", case.space.len()));
+    }
+    Ok(())
+}
+
+fn equal(call: &str, got: Answer, expected: Answer) -> Result<(), String> {
+    if got == expected {
+        return Ok(());
+    }
+    Err(format!("{call} answers {got:?} instead of {expected:?}"))
+}
+
+/// Both calls of a pair, and the rule's claim on the port's own outputs: equal answers, and equal bytes but where the texts differ.
+fn masked(pair: &Pair) -> Result<(), String> {
+    let cases = [0, 1].map(|which| pair.case(which));
+    for case in &cases {
+        call(case)?;
+    }
+    let [first, second] = cases.map(|case| {
+        let mut space = case.space.clone();
+        (layout(&case.text, &case.tape, case.width, case.case, &mut space), space)
+    });
+    equal("the second of a pair", second.0, first.0)?;
+    if accepted_tree(&pair.case(0)).is_err() && first.1 != second.1 {
+        return Err("a refused pair wrote".to_string());
+    }
+    Ok(())
+}

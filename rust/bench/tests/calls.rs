@@ -1,0 +1,55 @@
+//! The port's two calls answer as the oracle does, and leave the output space as it says.
+
+use bench::compare::compare;
+use oracle::cases::Class;
+
+const SEED: u64 = 20;
+
+/// Whether a test may run; where not, says so in one line that the test runner does not swallow.
+fn may_run(test: &str) -> bool {
+    use std::io::Write;
+    if let Some(missing) = bench::missing() {
+        let _ = std::io::stderr().write_all(format!("skipped {test}: {missing}\n").as_bytes());
+        return false;
+    }
+    true
+}
+
+fn cases(test: &str, class: Class, count: u64) {
+    if !may_run(test) {
+        return;
+    }
+    for index in 0..count {
+        compare(SEED, class, index).unwrap_or_else(|difference| panic!("{difference}"));
+    }
+}
+
+#[test]
+fn queries_of_a_parser() {
+    cases("queries_of_a_parser", Class::Parser, 40_000);
+}
+
+#[test]
+fn wild_trees() {
+    cases("wild_trees", Class::Wild, 50_000);
+}
+
+#[test]
+fn damaged_calls() {
+    cases("damaged_calls", Class::Damaged, 60_000);
+}
+
+#[test]
+fn masked_pairs() {
+    cases("masked_pairs", Class::Masked, 10_000);
+}
+
+#[test]
+fn limits() {
+    cases("limits", Class::Limits, 48);
+}
+
+#[test]
+fn small_trees() {
+    cases("small_trees", Class::Small, 50_000);
+}
