@@ -1,8 +1,11 @@
 #!/bin/sh
-# Passes the tests: builds the static libraries that the Rust tests link, runs the Rust tests, then proves everything from nothing.
+# Passes the tests: builds the desk's program and the static libraries, runs the stored jobs and the Rust tests on them, then proves everything
+# from nothing.
 # Its last line is rt's 'N passed, 0 failed'. Needs rt, cargo and rustc; nothing is fetched.
 set -eu
 cd "$(dirname "$0")"
+rt check desk
+sh scripts/desk_runs.sh
 rt staticlib keywords
 rt staticlib formatter
 cargo test --offline --quiet --manifest-path rust/Cargo.toml

@@ -4,11 +4,11 @@ use bench::compare::{compare, CLASSES};
 use oracle::cases::Class;
 use std::process::ExitCode;
 
-const USAGE: &str = "usage: compare SEED COUNT   compares the cases 0 to COUNT-1 of each class that makes calls";
+const USAGE: &str =
+    "usage: compare SEED COUNT [CLASS...]   compares the cases 0 to COUNT-1 of the classes, or of all that make calls";
 
 fn main() -> ExitCode {
-    let numbers: Option<Vec<u64>> = std::env::args().skip(1).map(|word| word.parse().ok()).collect();
-    let Some([seed, count]) = numbers.as_deref().and_then(|numbers| <[u64; 2]>::try_from(numbers).ok()) else {
+    let Some((seed, count, classes)) = call(&std::env::args().skip(1).collect::<Vec<String>>()) else {
         eprintln!("compare: {USAGE}");
         return ExitCode::from(2);
     };
@@ -16,7 +16,7 @@ fn main() -> ExitCode {
         eprintln!("compare: {missing}");
         return ExitCode::from(2);
     }
-    for class in CLASSES {
+    for class in classes {
         // A case at the limits is as long as a thousand others.
         let count = if class == Class::Limits { count / 1000 } else { count };
         for index in 0..count {
@@ -28,4 +28,17 @@ fn main() -> ExitCode {
         println!("{class:?}: {count} cases agree");
     }
     ExitCode::SUCCESS
+}
+
+/// Seed, count and classes, if the words are such.
+fn call(words: &[String]) -> Option<(u64, u64, Vec<Class>)> {
+    let [seed, count, names @ ..] = words else { return None };
+    let classes = match names {
+        [] => CLASSES.to_vec(),
+        _ => names
+            .iter()
+            .map(|name| Class::named(name).filter(|class| CLASSES.contains(class)))
+            .collect::<Option<_>>()?,
+    };
+    Some((seed.parse().ok()?, count.parse().ok()?, classes))
 }

@@ -1,0 +1,56 @@
+-- The desk's program: how a job is read, and what is printed for it. Assumes nothing.
+use Prim.Native.Nat.{ℕ, zero, suc, _+_, _*_, _-_, _/_, _%_}
+use mathlib.Core.Bool.{Bool, cond, not, _&&_}
+use mathlib.Core.List.{List, [], _∷_, _++_}
+use lib.ListN.{length, getD, take, drop}
+use lib.Dec.{leb, ltb, eqb}
+use Rattle.context.specs.Cells.{bytesOf}
+use Rattle.tape.specs.Faults.{number}
+use Rattle.layout.specs.Layout.{original}
+use Rattle.layout.specs.Outcome.{Outcome, refusal, laid, outcome}
+use Rattle.desk_job.specs.declared.Header.{Header}
+use Rattle.desk_job.specs.declared.Header.the-variants.{Refused, Accepted}
+
+-- the command stands at `at`, whole up to `end`
+unfoldable pub hasCommand : List ℕ → ℕ → ℕ → ℕ → Bool
+hasCommand job at end command = leb end (length job) && eqb (getD job at 0) command
+
+-- the text's length, low byte first, stands at 5, and the text begins at 9
+unfoldable pub textEnd : List ℕ → ℕ
+textEnd job = 9 + getD job 5 0 + 256 * getD job 6 0 + 65536 * getD job 7 0 + 16777216 * getD job 8 0
+
+-- `more`: the input goes on after the job's bytes; a text cut short is its command cut short
+unfoldable pub readHeader : Bool → List ℕ → Header
+readHeader more job =
+    cond more (Refused 65536)
+    (cond (ltb 65536 (length job)) (Refused 65536)
+    (cond (not (hasCommand job 0 2 16)) (Refused 0)
+    (cond (not (hasCommand job 2 4 17)) (Refused 2)
+    (cond (not (hasCommand job 4 9 18)) (Refused 4)
+    (cond (ltb (length job) (textEnd job)) (Refused 4)
+    (Accepted (getD job 1 0) (getD job 3 0) (textEnd job)))))))
+
+-- the decimal digits of n, at most so many
+unfoldable pub decimal : ℕ → ℕ → List ℕ
+decimal zero n = []
+decimal (suc places) n = cond (ltb n 10) ((48 + n) ∷ []) (decimal places (n / 10) ++ ((48 + n % 10) ∷ []))
+
+-- refused N at P, and a newline; a number of 64 bits has at most 20 digits
+unfoldable pub refusedLine : ℕ → ℕ → List ℕ
+refusedLine n p =
+    (114 ∷ 101 ∷ 102 ∷ 117 ∷ 115 ∷ 101 ∷ 100 ∷ 32 ∷ []) ++ decimal 20 n ++ (32 ∷ 97 ∷ 116 ∷ 32 ∷ []) ++ decimal 20 p ++ (10 ∷ [])
+
+-- 1 to 12, else the layout if it fits into so many bytes, else 13
+unfoldable pub printedOutcome : Outcome → ℕ → List ℕ
+printedOutcome (refusal f p) room = refusedLine (number f) p
+printedOutcome (laid cs) room = cond (leb (length cs) room) (bytesOf cs) (refusedLine 13 (length cs))
+
+-- 14, else what the two calls' definition says of width, case, text and tape
+unfoldable pub printedJob : Header → List ℕ → ℕ → List ℕ
+printedJob (Refused p) job room = refusedLine 14 p
+printedJob (Accepted width case end) job room =
+    printedOutcome (outcome original width case (take (end - 9) (drop 9 job)) (drop end job)) room
+
+-- what is printed for a job, with an output buffer of `room` bytes
+abbrev pub printed : Bool → List ℕ → ℕ → List ℕ
+printed more job room = printedJob (readHeader more job) job room

@@ -1,0 +1,46 @@
+// Bytes and decimal numbers written into a lent space, as far as it goes. Each writer starts within the space and answers where it ended.
+ghost use mathlib.Core.Path.{_≡_};
+ghost use mathlib.Core.List.{[], _∷_};
+ghost use Prim.Native.Nat.{_≤_};
+ghost use lib.ListN.{length};
+ghost use Rattle.desk_job.specs.Written.{Written, written};
+ghost use Rattle.desk_job.specs.Job.{decimal};
+
+fn put(out: &mut [u8], at: usize, b: u8) -> usize
+    requires { ⌜ at ≤ length (now out) ⌝ }
+    ensures { λ r. ⌜ _≡_ {A = Written} (record { end = r; space = now (out .exit) }) (written at (b ∷ []) (now (out .entry))) ⌝ }
+{
+    if out.len() <= at {
+        return at;
+    }
+    out[at] = b;
+    at + 1
+}
+
+pub(crate) fn put_all(out: &mut [u8], start: usize, text: &[u8]) -> usize
+    requires { ⌜ start ≤ length (now out) ⌝ }
+    ensures { λ r. ⌜ _≡_ {A = Written} (record { end = r; space = now (out .exit) }) (written start (now (text .entry)) (now (out .entry))) ⌝ }
+{
+    let mut at = start;
+    let mut i: usize = 0;
+    while i < text.len() {
+        at = put(out, at, text[i]);
+        i += 1;
+    }
+    at
+}
+
+// The decimal digits of n, at most `places` of them.
+pub(crate) fn put_decimal(out: &mut [u8], at: usize, places: usize, n: u64) -> usize
+    requires { ⌜ at ≤ length (now out) ⌝ }
+    ensures { λ r. ⌜ _≡_ {A = Written} (record { end = r; space = now (out .exit) }) (written at (decimal places n) (now (out .entry))) ⌝ }
+{
+    if places == 0 {
+        return at;
+    }
+    if n < 10 {
+        return put(out, at, 48 + n as u8);
+    }
+    let end = put_decimal(out, at, places - 1, n / 10);
+    put(out, end, 48 + (n % 10) as u8)
+}

@@ -1,0 +1,73 @@
+//! The desk's program prints for a job what document 01 says: target/bin/desk, which `rt check desk` writes, on standard input.
+
+use oracle::cases::{make, Class, Made};
+use oracle::job;
+use std::io::Write;
+use std::path::PathBuf;
+use std::process::{Command, Stdio};
+
+const SEED: u64 = 30;
+const JOBS: u64 = 2_000;
+
+fn program() -> PathBuf {
+    PathBuf::from(env!("CARGO_MANIFEST_DIR")).join("../../target/bin/desk")
+}
+
+/// What the program prints for the job.
+fn printed(job: &[u8]) -> Vec<u8> {
+    let mut child =
+        Command::new(program()).stdin(Stdio::piped()).stdout(Stdio::piped()).spawn().expect("the program starts");
+    // The program reads no more than it has room for; what it leaves in the pipe is no fault.
+    let _ = child.stdin.take().expect("a pipe").write_all(job);
+    let output = child.wait_with_output().expect("the program ends");
+    assert!(output.status.success(), "status {}", output.status);
+    output.stdout
+}
+
+/// Whether a test may run; where not, says so in one line that the test runner does not swallow.
+fn may_run(test: &str, needs_source: bool) -> bool {
+    let mut skipped = |why: &str| {
+        let _ = std::io::stderr().write_all(format!("skipped {test}: {why}\n").as_bytes());
+        false
+    };
+    if !program().is_file() {
+        return skipped("target/bin/desk is not at hand: run `rt check desk` in the repository");
+    }
+    if needs_source && !oracle::source::AT_HAND {
+        return skipped(oracle::source::HINT);
+    }
+    true
+}
+
+#[test]
+fn the_documents_job() {
+    if !may_run("the_documents_job", false) {
+        return;
+    }
+    let job = [0x10, 4, 0x11, 1, 0x12, 1, 0, 0, 0, b'a', 1, 0, 0, 0, 0, 0, 0, 1, 0, 0, 0, 3];
+    assert_eq!(printed(&job), b"a\n");
+}
+
+#[test]
+fn fourteen_at_each_of_its_places() {
+    if !may_run("fourteen_at_each_of_its_places", false) {
+        return;
+    }
+    let header = [0x10, 4, 0x11, 1, 0x12, 0, 0, 0, 0];
+    for (job, place) in [(&header[..1], 0), (&header[..3], 2), (&header[..8], 4)] {
+        assert_eq!(printed(job), format!("refused 14 at {place}\n").into_bytes());
+    }
+    assert_eq!(printed(&[0x10; 65_537]), b"refused 14 at 65536\n");
+    assert_eq!(printed(&[0x11; 65_536]), b"refused 14 at 0\n");
+}
+
+#[test]
+fn generated_jobs() {
+    if !may_run("generated_jobs", true) {
+        return;
+    }
+    for index in 0..JOBS {
+        let Made::Job(job) = make(SEED, Class::Jobs, index) else { panic!("the class makes jobs") };
+        assert!(printed(&job) == job::printed(&job), "seed {SEED}, jobs, index {index}");
+    }
+}
