@@ -5,18 +5,8 @@ use oracle::cases::Class;
 
 const SEED: u64 = 20;
 
-/// Whether a test may run; where not, says so in one line that the test runner does not swallow.
-fn may_run(test: &str) -> bool {
-    use std::io::Write;
-    if let Some(missing) = bench::missing() {
-        let _ = std::io::stderr().write_all(format!("skipped {test}: {missing}\n").as_bytes());
-        return false;
-    }
-    true
-}
-
 fn cases(test: &str, class: Class, count: u64) {
-    if !may_run(test) {
+    if !bench::at_hand_for(test) {
         return;
     }
     for index in 0..count {

@@ -26,7 +26,7 @@ fn printed(job: &[u8]) -> Vec<u8> {
 
 /// Whether a test may run; where not, says so in one line that the test runner does not swallow.
 fn may_run(test: &str, needs_source: bool) -> bool {
-    let mut skipped = |why: &str| {
+    let skipped = |why: &str| {
         let _ = std::io::stderr().write_all(format!("skipped {test}: {why}\n").as_bytes());
         false
     };

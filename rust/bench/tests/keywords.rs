@@ -5,16 +5,6 @@ use oracle::source;
 
 const ASCII: std::ops::Range<u8> = 0..128;
 
-/// Whether a test may run; where not, says so in one line that the test runner does not swallow.
-fn may_run(test: &str) -> bool {
-    use std::io::Write;
-    if let Some(missing) = bench::missing() {
-        let _ = std::io::stderr().write_all(format!("skipped {test}: {missing}\n").as_bytes());
-        return false;
-    }
-    true
-}
-
 fn compare(word: &[u8]) {
     let text = std::str::from_utf8(word).expect("ASCII");
     assert_eq!(bench::is_keyword(word), source::is_keyword(text), "is_keyword of {text:?}");
@@ -23,7 +13,7 @@ fn compare(word: &[u8]) {
 
 #[test]
 fn every_word_of_at_most_two_bytes() {
-    if !may_run("every_word_of_at_most_two_bytes") {
+    if !bench::at_hand_for("every_word_of_at_most_two_bytes") {
         return;
     }
     compare(&[]);
@@ -37,7 +27,7 @@ fn every_word_of_at_most_two_bytes() {
 
 #[test]
 fn every_entry_in_every_mix_of_cases() {
-    if !may_run("every_entry_in_every_mix_of_cases") {
+    if !bench::at_hand_for("every_entry_in_every_mix_of_cases") {
         return;
     }
     for word in source::keywords() {
@@ -50,7 +40,7 @@ fn every_entry_in_every_mix_of_cases() {
 
 #[test]
 fn every_entry_with_one_byte_changed_removed_or_added() {
-    if !may_run("every_entry_with_one_byte_changed_removed_or_added") {
+    if !bench::at_hand_for("every_entry_with_one_byte_changed_removed_or_added") {
         return;
     }
     for word in source::keywords() {
@@ -72,7 +62,7 @@ fn every_entry_with_one_byte_changed_removed_or_added() {
 
 #[test]
 fn random_words() {
-    if !may_run("random_words") {
+    if !bench::at_hand_for("random_words") {
         return;
     }
     let mut random = Random::of(1, 0, 0);
@@ -91,7 +81,7 @@ fn random_words() {
 #[test]
 fn a_byte_above_127_makes_no_keyword() {
     if !bench::AT_HAND {
-        may_run("a_byte_above_127_makes_no_keyword");
+        bench::at_hand_for("a_byte_above_127_makes_no_keyword");
         return;
     }
     for byte in 128..=255 {

@@ -117,11 +117,6 @@ fn row(label: &str, cases: &[Case]) {
         }
         times[1].push(per_byte(start));
     }
-    let [source, port] = times.map(median);
+    let [source, port] = times.map(bench::median);
     println!("{label:<32} {bytes:>10} {source:>10.2} {port:>8.2} {:>6.2}", source / port);
-}
-
-fn median(mut times: Vec<f64>) -> f64 {
-    times.sort_by(f64::total_cmp);
-    times[times.len() / 2]
 }

@@ -77,7 +77,7 @@ fn row(test: &str, label: &str, text: &str, source: fn(&str) -> bool, port: fn(&
         times[0].push(time(&words, source));
         times[1].push(time(&words, |word| port(word.as_bytes())));
     }
-    let [source, port] = times.map(median);
+    let [source, port] = times.map(bench::median);
     println!("{test:<17} {label:<14} {source:>10.1} {port:>9.1} {:>6.1}", source / port);
 }
 
@@ -90,9 +90,4 @@ fn time(words: &[&str], test: impl Fn(&str) -> bool) -> f64 {
         }
     }
     start.elapsed().as_nanos() as f64 / (PASSES * words.len()) as f64
-}
-
-fn median(mut times: Vec<f64>) -> f64 {
-    times.sort_by(f64::total_cmp);
-    times[times.len() / 2]
 }
