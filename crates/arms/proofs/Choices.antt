@@ -1,22 +1,22 @@
 -- What the routines' definitions come to in each arm, and spacing that may be none. Assumes nothing.
 use Prim.Native.Nat.{ℕ}
 use mathlib.Core.Path.{_≡_, refl, sym, ap, _∙_}
-use mathlib.Core.Bool.{Bool, true, false, cond, false≢true}
+use mathlib.Core.Bool.{Bool, true, false, cond, not, _||_, false≢true}
 use mathlib.Core.List.{List, [], _∷_, _++_, map}
-use lib.Dec.{eqb}
+use lib.Dec.{eqb, ltb}
 use borrow.Author.Tests.{ne-eqb}
 use Rattle.keywords.specs.Words.{isWord}
 use Rattle.context.specs.declared.FormatterContext.{FormatterContext}
 use Rattle.context.proofs.Writes.{spent-none}
-use Rattle.context.specs.Cells.{Text}
+use Rattle.context.specs.Cells.{Text, tokenText}
 use Rattle.tape.specs.Kinds.{Whitespace, Comment, BareWord, SelectStatement, UnionClause, among}
 use Rattle.tape.specs.declared.Head.{Head}
-use Rattle.tape.specs.Tree.{Children, hasChild, severalListItems}
+use Rattle.tape.specs.Tree.{Children, hasChild, countListItems, severalListItems}
 use Rattle.layout.specs.declared.Local.{Local}
 use Rattle.layout.specs.Arms.{Spacing, newline, space, indent, dedent, Act, spacing, text, keyword, Seen, seen}
 use Rattle.layout.specs.Tokens.{noteSkippedWhitespace, emitComment, emitOther, emitToken, isOperator}
 use Rattle.layout.specs.Routines.{flagged, keywordSpace, spaceIf, spaced, orElse, binaryToken, listClauseNode, formatUnionClause, multiItem, caseWord, whenWord}
-use Rattle.arms.specs.Promise.{Silent, Spaced}
+use Rattle.arms.specs.Promise.{Silent, Spaced, emitTrivia}
 
 -- ── spacing that writes no byte
 
@@ -57,6 +57,28 @@ module _ (l : Local) (t : Seen) where
       go true q = refl
       go false true = refl
       go false false = refl
+
+-- white space or a comment, and any other token
+module _ (source : Text) (token : Head) where
+  pub other-trivia : (eqb (token .kind) Whitespace || eqb (token .kind) Comment) ≡ true
+      → emitOther (seen source token) ≡ emitTrivia (eqb (token .kind) Whitespace) (tokenText source (token .start) (token .end))
+  unfolding emitOther seen
+  other-trivia e = go (eqb (token .kind) Whitespace) (eqb (token .kind) Comment) e
+    where
+      go : (p q : Bool) → (p || q) ≡ true → cond p (noteSkippedWhitespace (cond (p || q || eqb (token .kind) BareWord) (tokenText source (token .start) (token .end)) [])) (cond q (emitComment (cond (p || q || eqb (token .kind) BareWord) (tokenText source (token .start) (token .end)) [])) (emitToken (seen source token)))
+          ≡ emitTrivia p (tokenText source (token .start) (token .end))
+      go true q u = refl
+      go false true u = refl
+      go false false u = absurd (false≢true u)
+
+  pub other-token : (eqb (token .kind) Whitespace || eqb (token .kind) Comment) ≡ false → emitOther (seen source token) ≡ emitToken (seen source token)
+  unfolding emitOther seen
+  other-token e = go (eqb (token .kind) Whitespace) (eqb (token .kind) Comment) e _ _ _
+    where
+      go : (p q : Bool) → (p || q) ≡ false → (x y z : List Act) → cond p x (cond q y z) ≡ z
+      go true q u = absurd (false≢true (sym u))
+      go false true u = absurd (false≢true (sym u))
+      go false false u = λ x y z. refl
 
 other-w : isOperator Whitespace ≡ false
 unfolding isOperator
@@ -112,10 +134,18 @@ when-acts b p q e f =
 
 -- ── look-ahead
 
-pub multi-none : (list : ℕ) (kids : Children) → hasChild list kids ≡ true → multiItem list kids ≡ false
+pub multi-few : (list : ℕ) (kids : Children) → severalListItems kids ≡ false → multiItem list kids ≡ false
 unfolding multiItem
-multi-none list kids e = rw e
+multi-few list kids e = go (hasChild list kids)
+  where
+    go : (b : Bool) → ltb 1 (cond (not b) (countListItems kids) 0) ≡ false
+    go true = refl
+    go false = e
 
-pub multi-some : (list : ℕ) (kids : Children) → hasChild list kids ≡ false → multiItem list kids ≡ severalListItems kids
+pub multi-several : (list : ℕ) (kids : Children) → severalListItems kids ≡ true → multiItem list kids ≡ not (hasChild list kids)
 unfolding multiItem
-multi-some list kids e = rw e
+multi-several list kids e = go (hasChild list kids)
+  where
+    go : (b : Bool) → ltb 1 (cond (not b) (countListItems kids) 0) ≡ not b
+    go true = refl
+    go false = e

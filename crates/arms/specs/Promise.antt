@@ -1,6 +1,7 @@
 -- What the functions of this crate ask and promise. Assumes nothing: these are definitions.
 use Prim.Native.Nat.{ℕ, _≤_}
 use mathlib.Core.Path.{_≡_}
+use mathlib.Core.Bool.{Bool, cond}
 use mathlib.Core.List.{List, [], _∷_, map}
 use lib.ListN.{length}
 use Rattle.context.specs.Cells.{Text}
@@ -11,7 +12,7 @@ use Rattle.tape.specs.Kinds
 use Rattle.tape.specs.declared.Head.{Head}
 use Rattle.layout.specs.declared.Local.{Local}
 use Rattle.layout.specs.Arms.{Spacing, Act, Seen, seen, match}
-use Rattle.layout.specs.Tokens.{noteSkippedWhitespace, emitToken}
+use Rattle.layout.specs.Tokens.{noteSkippedWhitespace, emitComment, emitToken}
 use Rattle.layout.specs.Calls.{Call, on}
 use Rattle.layout.specs.Run.{runSpacing, run}
 use Rattle.arms.specs.declared.Arm.{Arm}
@@ -52,3 +53,7 @@ pub record TokenDone (config : FormatConfig) (source : Text) (atToken : Local �
 -- the arms of a routine without a comment arm, but for its own
 unfoldable pub emitUncommented : Seen → List Act
 emitUncommented t = match (t .kind) ((Kinds.Whitespace, noteSkippedWhitespace (t .bytes)) ∷ []) (emitToken t)
+
+-- white space, or a comment
+abbrev pub emitTrivia : Bool → List ℕ → List Act
+emitTrivia white b = cond white (noteSkippedWhitespace b) (emitComment b)

@@ -234,10 +234,10 @@ pub fn multi_item(tape: &[u8], at: usize, list: u16) -> bool
     requires { ⌜ NodeAt (now tape) at ⌝ }
     ensures { λ r. ⌜ Scanned (multiItem list) (now (tape .entry)) at r ⌝ }
 {
-    if has_child(tape, at, list) {
-        return false;
+    if several_list_items(tape, at) {
+        return !has_child(tape, at, list);
     }
-    several_list_items(tape, at)
+    false
 }
 
 // Whether the child that opens at `at` is the clause's list and holds more than one item.

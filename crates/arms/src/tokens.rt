@@ -8,7 +8,7 @@ use layout::PrevKind;
 use tape::Head;
 use tape::syntax_kind;
 ghost use mathlib.Core.Path.{_≡_};
-ghost use mathlib.Core.Bool.{not, _&&_};
+ghost use mathlib.Core.Bool.{not, _&&_, _||_};
 ghost use mathlib.Core.List.{[], _∷_};
 ghost use Prim.Native.Nat.{_≤_};
 ghost use lib.ListN.{length};
@@ -16,12 +16,12 @@ ghost use Rattle.context.specs.Store.{Room};
 ghost use lib.Dec.{eqb};
 ghost use Rattle.context.specs.Cells.{tokenText};
 ghost use Rattle.keywords.specs.Words.{isKeyword, isValueKeyword};
-ghost use Rattle.tape.specs.Kinds.{BareWord};
+ghost use Rattle.tape.specs.Kinds.{BareWord, Comment, Whitespace};
 ghost use Rattle.layout.specs.Arms.{blankLine, blankLineBeforeComment, keyword, lineOrSpace, seen, text};
 ghost use Rattle.layout.specs.Calls.{formatErrorVerbatim};
 ghost use Rattle.layout.specs.Routines.{nameBefore, spaceAfter, spaceIf};
 ghost use Rattle.layout.specs.Tokens.{emitComment, emitOther, emitToken, isLineComment, isOperator, noSpaceAfter, noSpaceBefore, noteSkippedWhitespace};
-ghost use Rattle.arms.specs.Promise.{Acted, Ran, Silent, Spaced, TokenReady, emitUncommented};
+ghost use Rattle.arms.specs.Promise.{Acted, Ran, Silent, Spaced, TokenReady, emitTrivia, emitUncommented};
 
 // Keys of one arm that are neighbours would become ranges, so they stand in two.
 pub fn no_space_before(kind: u16) -> bool
@@ -249,6 +249,32 @@ pub(crate) fn emit_token(
     ctx.write_token(config, out, text)
 }
 
+// White space, else a comment. On its own, so that the two below stay small and a token costs one call.
+pub(crate) fn emit_trivia(
+    source: &[u8],
+    config: FormatConfig,
+    out: &mut [u8],
+    ctx: FormatterContext,
+    token: Head,
+) -> FormatterContext
+    requires { ⌜ TokenReady 3 (now source) config token ctx ⌝ }
+    ensures { λ r. ⌜ Acted 3 config (now (source .entry)) token (emitTrivia (eqb (token .kind) Whitespace) (tokenText (now (source .entry)) (token .start) (token .end))) ctx (now (out .entry)) r (now (out .exit)) ⌝ }
+{
+    if token.kind == syntax_kind::WHITESPACE {
+        return note(source, config, out, ctx, token);
+    }
+    emit_comment(source, config, out, ctx, token)
+}
+
+fn is_trivia(kind: u16) -> bool
+    ensures { λ r. ⌜ r ≡ (eqb kind Whitespace || eqb kind Comment) ⌝ }
+{
+    if kind == syntax_kind::WHITESPACE {
+        return true;
+    }
+    kind == syntax_kind::COMMENT
+}
+
 // The arms that most routines share: white space, comments, and any other token.
 pub fn emit_other(
     source: &[u8],
@@ -260,11 +286,8 @@ pub fn emit_other(
     requires { ⌜ TokenReady 4 (now source) config token ctx ⌝ }
     ensures { λ r. ⌜ Acted 4 config (now (source .entry)) token (emitOther (seen (now (source .entry)) token)) ctx (now (out .entry)) r (now (out .exit)) ⌝ }
 {
-    if token.kind == syntax_kind::WHITESPACE {
-        return note(source, config, out, ctx, token);
-    }
-    if token.kind == syntax_kind::COMMENT {
-        return emit_comment(source, config, out, ctx, token);
+    if is_trivia(token.kind) {
+        return emit_trivia(source, config, out, ctx, token);
     }
     emit_token(source, config, out, ctx, token)
 }
@@ -281,7 +304,7 @@ pub(crate) fn emit_uncommented(
     ensures { λ r. ⌜ Acted 4 config (now (source .entry)) token (emitUncommented (seen (now (source .entry)) token)) ctx (now (out .entry)) r (now (out .exit)) ⌝ }
 {
     if token.kind == syntax_kind::WHITESPACE {
-        return note(source, config, out, ctx, token);
+        return emit_trivia(source, config, out, ctx, token);
     }
     emit_token(source, config, out, ctx, token)
 }

@@ -1,4 +1,5 @@
 pub mod Same
 pub mod Capitals
-pub mod Entry
+pub mod Matches
+pub mod Codes
 pub mod Lookup

@@ -1,89 +1,101 @@
 -- The one entry that the index leads to is the only one that can be equal to a word. Assumes nothing.
-use mathlib.Core.Path.{_≡_, refl, sym, ap, _∙_}
-use mathlib.Core.Bool.{Bool, true, false, cond, _&&_}
+use mathlib.Core.Path.{_≡_, refl, sym, ap, _∙_, subst}
+use mathlib.Core.Bool.{Bool, true, false, cond, _&&_, _||_, false≢true}
 use mathlib.Core.Logic.{_⊎_, inl, inr, ⊎-elim}
 use mathlib.Core.List.{List, [], _∷_}
-use Prim.Native.Nat.{ℕ, zero, suc, _+_, _-_, _/_, _%_, _≤_, _<_}
-use native.Mathlib.Nat.{zero-add, le-of-suc-le-suc, not-suc-le-zero}
+use Prim.Native.Nat.{ℕ, _-_, _/_, _%_, _≤_, _<_}
 use native.Mathlib.Omega.{arith}
-use lib.Dec.{T, eqb, leb, ltb, eqb→eq, leb→le, ltb→lt}
+use borrow.Author.Tests.{eqb-true, eq-eqb, ne-eqb}
+use lib.Dec.{T, eqb, leb, eqb→eq, leb→le}
 use lib.ListN.{length, getD, length-map}
-use Rattle.keywords.specs.Words.{capitals, upper, words, same, placeFrom, placeOf, isAt, isKeyword}
+use Rattle.keywords.specs.Names.{names}
+use Rattle.keywords.specs.Words.{capitals, upper, words, same, listed, isKeyword}
 use Rattle.keywords.specs.Table.{capital, entry, entries, words-rule}
-use Rattle.keywords.specs.Index.{Firsts, Places, key, tells, below}
-use Rattle.keywords.specs.declared.Place.{Place}
-use Rattle.keywords.specs.declared.Place.the-variants.{At, Nothing}
+use Rattle.keywords.specs.Index.{find, shifts, key, code, wordCode, codes}
 use Rattle.keywords.proofs.Same.{both, same-lengths, same-equal}
 use Rattle.keywords.proofs.Capitals.{capitals-at}
+use Rattle.keywords.proofs.Codes.{code-injective, code-long, code-first}
+
+-- the rule of an entry
+record Rule (e : List ℕ) : Type 0 where
+  long : 2 ≤ length e
+  short : length e ≤ 12
+  capitals-only : T (capital e)
+
+rule-of : (e : List ℕ) (es : List (List ℕ)) → T (entries (e ∷ es)) → Rule e × T (entries es)
+rule-of e es t =
+    let u = both (entry e) (entries es) t in
+    let v = both (leb 2 (length e) && leb (length e) 12) (capital e) (u .0) in
+    let w = both (leb 2 (length e)) (leb (length e) 12) (v .0) in
+    (record { long = leb→le 2 (length e) (w .0); short = leb→le (length e) 12 (w .1); capitals-only = v .1 }, u .1)
+
+-- the key of each entry leads to its code, so no two have one key: one computed test
+leads : List (List ℕ) → List (ℕ × ℕ) → Bool
+leads [] t = true
+leads (e ∷ es) t = eqb (find (key e) t) (code e) && leads es t
+
+words-lead : T (leads words (codes words))
+unfolding names words find shifts key code codes leads
+words-lead = tt
+
+-- what is known of an entry
+record Known (w : List ℕ) (t : List (ℕ × ℕ)) : Type 0 where
+  rule : Rule w
+  leads-to : find (key w) t ≡ code w
+
+known : (w : List ℕ) (ws : List (List ℕ)) (t : List (ℕ × ℕ)) → T (entries ws) → T (leads ws t) → listed w ws ≡ true → Known w t
+unfolding listed leads
+known w [] t r l h = absurd (false≢true h)
+known w (e ∷ es) t r l h =
+    let rs = rule-of e es r in
+    let ls = both (eqb (find (key e) t) (code e)) (leads es t) l in
+    go (rs .0) (ls .0) (same e w) refl h (known w es t (rs .1) (ls .1))
+  where
+    go : Rule e → T (eqb (find (key e) t) (code e)) → (b : Bool) → same e w ≡ b → (b || listed w es) ≡ true → (listed w es ≡ true → Known w t) → Known w t
+    go x y true s u more =
+        subst (λ v. Known v t) (same-equal e w s) (record { rule = x; leads-to = eqb→eq (find (key e) t) (code e) y })
+    go x y false s u more = more u
+
+known-word : (w : List ℕ) → listed w words ≡ true → Known w (codes words)
+known-word w h = known w words (codes words) words-rule words-lead h
+
+-- an entry with the key k
+record Entry (k : ℕ) (ws : List (List ℕ)) : Type 0 where
+  word : List ℕ
+  rule : Rule word
+  on : listed word ws ≡ true
+  is : find k (codes ws) ≡ code word
+
+same-self : (w : List ℕ) → same w w ≡ true
+unfolding same
+same-self [] = refl
+same-self (b ∷ w) = rw (eq-eqb b b refl, same-self w)
+
+-- no entry has the key, or the table has the code of one that has it
+entry-at : (k : ℕ) (ws : List (List ℕ)) → T (entries ws) → (find k (codes ws) ≡ 0) ⊎ Entry k ws
+unfolding find codes listed
+entry-at k [] r = inl refl
+entry-at k (e ∷ es) r = go (eqb k (key e)) refl (entry-at k es (rule-of e es r .1))
+  where
+    go : (b : Bool) → eqb k (key e) ≡ b → (find k (codes es) ≡ 0) ⊎ Entry k es → (find k (codes (e ∷ es)) ≡ 0) ⊎ Entry k (e ∷ es)
+    go true q more = inr (record { word = e; rule = rule-of e es r .0; on = rw (same-self e); is = rw q })
+    go false q (inl z) = inl (rw q z)
+    go false q (inr x) = inr (record { word = x .word; rule = x .rule; on = later (same e (x .word)) (x .on); is = rw q (x .is) })
+      where
+        later : (b : Bool) → listed (x .word) es ≡ true → (b || listed (x .word) es) ≡ true
+        later true u = refl
+        later false u = u
 
 -- a word that is too short or too long is no entry
-unlisted-from : (w : List ℕ) → (2 ≤ length w → length w ≤ 12 → ⊥) → (ws : List (List ℕ)) (i : ℕ) → T (entries ws)
-    → placeFrom i w ws ≡ Nothing
-unfolding placeFrom
-unlisted-from w h [] i t = refl
-unlisted-from w h (e ∷ es) i t =
-    let u = both (entry e) (entries es) t in
-    let v = both (leb 2 (length e)) (leb (length e) 12) (both (leb 2 (length e) && leb (length e) 12) (capital e) (u .0) .0) in
-    let a = leb→le 2 (length e) (v .0) in
-    let b = leb→le (length e) 12 (v .1) in
-    rw (same-lengths e w (λ q. h (omega arith) (omega arith))) (unlisted-from w h es (suc i) (u .1))
-
-pub unlisted : (w : List ℕ) → (2 ≤ length w → length w ≤ 12 → ⊥) → placeOf w ≡ Nothing
-unlisted w h = unlisted-from w h words 0 words-rule
-
 pub no-keyword : (w : List ℕ) → (2 ≤ length w → length w ≤ 12 → ⊥) → isKeyword w ≡ false
-no-keyword w h = let l = length-map w upper in ap isAt (unlisted (capitals w) (λ a b. h (omega arith) (omega arith)))
-
-below-at : (n : ℕ) (xs : List ℕ) (i : ℕ) → T (below n xs) → i < length xs → getD xs i 0 < n
-unfolding below
-below-at n [] i t h = absurd (not-suc-le-zero h)
-below-at n (x ∷ xs) zero t h = ltb→lt x n (both (ltb x n) (below n xs) t .0)
-below-at n (x ∷ xs) (suc i) t h = below-at n xs i (both (ltb x n) (below n xs) t .1) (le-of-suc-le-suc h)
-
--- what is found has a place, and the table's value f is the one for it
-record Told (value : ℕ → List ℕ → ℕ) (f : ℕ) (w : List ℕ) (r : Place) : Type 0 where
-  place : ℕ
-  found : r ≡ At place
-  told : f ≡ value place w
-
-told-more : (k : List ℕ → ℕ) (value : ℕ → List ℕ → ℕ) (table w e : List ℕ) (i : ℕ) (r : Place) (b : Bool) → same e w ≡ b
-    → T (eqb (getD table (k e) 0) (value i e)) → (r ≡ Nothing) ⊎ Told value (getD table (k w) 0) w r
-    → (cond b (At i) r ≡ Nothing) ⊎ Told value (getD table (k w) 0) w (cond b (At i) r)
-told-more k value table w e i r false s t l = l
-told-more k value table w e i r true s t l =
-    inr (record { place = i; found = refl; told = eqb→eq (getD table (k w) 0) (value i w) (rw (same-equal e w s) at t) })
-
--- a word is no entry, or its key leads to its value
-told : (k : List ℕ → ℕ) (value : ℕ → List ℕ → ℕ) (table w : List ℕ) (ws : List (List ℕ)) (i : ℕ) → T (tells k value table i ws)
-    → (placeFrom i w ws ≡ Nothing) ⊎ Told value (getD table (k w) 0) w (placeFrom i w ws)
-unfolding placeFrom tells
-told k value table w [] i t = inl refl
-told k value table w (e ∷ es) i t =
-    let u = both (eqb (getD table (k e) 0) (value i e)) (tells k value table (suc i) es) t in
-    told-more k value table w e i (placeFrom (suc i) w es) (same e w) refl (u .0) (told k value table w es (suc i) (u .1))
-
--- the entry at the place that is found equals w; where none is found no entry does
-place-at : (w : List ℕ) (ws : List (List ℕ)) (i p : ℕ) → placeFrom i w ws ≡ At p → (k : ℕ) × (p ≡ i + k) × (same (getD ws k []) w ≡ true)
-unfolding placeFrom
-place-at w [] i p h = let z : _≡_ {A = ℕ} 0 1 = cc in absurd (omega arith)
-place-at w (e ∷ es) i p h = go (same e w) refl h (place-at w es (suc i) p)
+no-keyword w h = go (isKeyword w) refl
   where
-    go : (b : Bool) → same e w ≡ b → cond b (At i) (placeFrom (suc i) w es) ≡ At p
-        → (placeFrom (suc i) w es ≡ At p → (k : ℕ) × (p ≡ suc i + k) × (same (getD es k []) w ≡ true))
-        → (k : ℕ) × (p ≡ i + k) × (same (getD (e ∷ es) k []) w ≡ true)
-    go true s q more = let n : i ≡ p = cc in (0, omega arith, s)
-    go false s q more = let r = more q in let n = r .1 in (suc (r .0), omega arith, r .2)
-
-place-none : (w : List ℕ) (ws : List (List ℕ)) (i k : ℕ) → placeFrom i w ws ≡ Nothing → k < length ws → same (getD ws k []) w ≡ false
-unfolding placeFrom
-place-none w [] i k h l = absurd (not-suc-le-zero l)
-place-none w (e ∷ es) i k h l = go (same e w) refl h k l (λ q j. place-none w es (suc i) j q)
-  where
-    go : (b : Bool) → same e w ≡ b → cond b (At i) (placeFrom (suc i) w es) ≡ Nothing → (k : ℕ) → k < suc (length es)
-        → (placeFrom (suc i) w es ≡ Nothing → (j : ℕ) → j < length es → same (getD es j []) w ≡ false) → same (getD (e ∷ es) k []) w ≡ false
-    go true s q k l more = let z : _≡_ {A = ℕ} 0 1 = cc in absurd (omega arith)
-    go false s q zero l more = s
-    go false s q (suc j) l more = more q j (le-of-suc-le-suc l)
+    go : (b : Bool) → isKeyword w ≡ b → b ≡ false
+    go false e = refl
+    go true e =
+        let r = known-word (capitals w) e .rule in
+        let l = length-map w upper in
+        absurd (h (omega (arith, r .long)) (omega (arith, r .short)))
 
 -- a word's key does not depend on the case of its letters
 upper-letter : (b : ℕ) → upper b % 32 ≡ b % 32
@@ -97,9 +109,9 @@ upper-letter b = go (leb 97 b) (leb b 122) refl
 letter-capitals : (w : List ℕ) (i : ℕ) → i < length w → getD (capitals w) i 0 % 32 ≡ getD w i 0 % 32
 letter-capitals w i h = rw (capitals-at w i h) (upper-letter (getD w i 0))
 
-key-capitals : (shifts w : List ℕ) → 2 ≤ length w → key shifts (capitals w) ≡ key shifts w
+key-capitals : (w : List ℕ) → 2 ≤ length w → key (capitals w) ≡ key w
 unfolding key
-key-capitals shifts w h =
+key-capitals w h =
     let l = length-map w upper in
     let h0 = letter-capitals w 0 (omega arith) in
     let h1 = letter-capitals w 1 (omega arith) in
@@ -107,42 +119,51 @@ key-capitals shifts w h =
     let h3 = letter-capitals w (length w - 1) (omega arith) in
     cc
 
-pub key-below : (shifts w : List ℕ) → key shifts w < 256
-unfolding key
-key-below shifts w = omega arith
+is-true : (b : Bool) → T b → b ≡ true
+is-true true t = refl
+is-true false t = absurd t
 
--- a word whose key leads to another first letter is no entry in any case
-pub other-first : (shifts firsts w : List ℕ) (k : ℕ) → Firsts shifts firsts → k ≡ key shifts w → 2 ≤ length w
-    → (getD firsts k 0 % 32 ≡ getD w 0 0 % 32 → ⊥) → placeOf (capitals w) ≡ Nothing
-other-first shifts firsts w k x e l h =
-    let s = ap (λ (j : ℕ). getD firsts j 0 % 32) (e ∙ sym (key-capitals shifts w l)) in
-    let c = letter-capitals w 0 (omega arith) in
-    ⊎-elim (λ q. q) (λ q. absurd (h (s ∙ ap (λ (b : ℕ). b % 32) (q .told) ∙ c)))
-    (told (key shifts) (λ i e. getD e 0 0) firsts (capitals w) words 0 (x .tell))
+-- a word on the list has the code that its key leads to
+keyword-code : (w : List ℕ) → 2 ≤ length w → isKeyword w ≡ true → wordCode w ≡ find (key w) (codes words)
+unfolding wordCode
+keyword-code w h e =
+    let k = known-word (capitals w) e in
+    rw (is-true (capital (capitals w)) (k .rule .capitals-only), ← key-capitals w h) (sym (k .leads-to))
 
--- the entry at the place p that a word's key leads to is the only one that can be equal to the word
-pub record Looked (p : ℕ) (w : List ℕ) : Type 0 where
-  pub listed : p < length words
-  pub found : placeOf w ≡ cond (same (getD words p []) w) (At p) Nothing
-
-pub looked : (shifts places w : List ℕ) (k p : ℕ) → Places shifts places → k ≡ key shifts w → p ≡ getD places k 0 → Looked p w
-looked shifts places w k p x e f =
-    let b = key-below shifts w in
-    let n = x .places-length in
-    let l = below-at (length words) places k (x .within) (omega arith) in
-    let m : p < length words = omega arith in
-    record {
-      listed = m;
-      found =
-          ⊎-elim (none m) (λ q. some (q .found ∙ ap At (sym (f ∙ ap (λ (j : ℕ). getD places j 0) e ∙ q .told))))
-          (told (key shifts) (λ i e. i) places w words 0 (x .tell));
-    }
+-- a word with the code that its key leads to is on the list
+code-keyword : (w : List ℕ) → 2 ≤ length w → wordCode w ≡ find (key w) (codes words) → isKeyword w ≡ true
+unfolding wordCode
+code-keyword w h e = go (capital (capitals w)) refl e (entry-at (key w) words words-rule)
   where
-    none : p < length words → placeOf w ≡ Nothing → placeOf w ≡ cond (same (getD words p []) w) (At p) Nothing
-    none l q = rw (place-none w words 0 p q l) q
+    go : (b : Bool) → capital (capitals w) ≡ b → cond b (code (capitals w)) 1 ≡ find (key w) (codes words)
+        → (find (key w) (codes words) ≡ 0) ⊎ Entry (key w) words → isKeyword w ≡ true
+    go false c q (inl z) = absurd (omega arith)
+    go false c q (inr x) = absurd (omega (arith, code-long (x .word) (x .rule .capitals-only) (x .rule .long), x .is))
+    go true c q (inl z) =
+        let l = length-map w upper in
+        absurd (omega (arith, code-long (capitals w) (rw c tt) (omega arith)))
+    go true c q (inr x) =
+        let s = code-injective (capitals w) (x .word) (rw c tt) (x .rule .capitals-only) (q ∙ x .is) in
+        ap (λ (v : List ℕ). listed v words) s ∙ x .on
 
-    some : placeOf w ≡ At p → placeOf w ≡ cond (same (getD words p []) w) (At p) Nothing
-    some q =
-        let r = place-at w words 0 p q in
-        let z : p ≡ r .0 = r .1 ∙ zero-add (r .0) in
-        rw (ap (λ (j : ℕ). same (getD words j []) w) z ∙ r .2) q
+-- a word is on the list where its code is the one that its key leads to
+pub keyword-is : (w : List ℕ) → 2 ≤ length w → eqb (wordCode w) (find (key w) (codes words)) ≡ isKeyword w
+keyword-is w h = go (isKeyword w) refl
+  where
+    go : (b : Bool) → isKeyword w ≡ b → eqb (wordCode w) (find (key w) (codes words)) ≡ b
+    go true e = eq-eqb _ _ (keyword-code w h e)
+    go false e = ne-eqb _ _ (λ q. false≢true (sym e ∙ code-keyword w h q))
+
+-- a word whose key leads to another first letter is not on the list
+pub other-first : (w : List ℕ) → 2 ≤ length w → (find (key w) (codes words) % 32 ≡ getD w 0 0 % 32 → ⊥) → isKeyword w ≡ false
+other-first w h n = go (isKeyword w) refl
+  where
+    go : (b : Bool) → isKeyword w ≡ b → b ≡ false
+    go false e = refl
+    go true e =
+        let k = known-word (capitals w) e in
+        let l = length-map w upper in
+        let f = code-first (capitals w) (k .rule .capitals-only) (omega arith) in
+        let s = k .leads-to ∙ refl in
+        let m = ap (λ (j : ℕ). find j (codes words) % 32) (key-capitals w h) in
+        absurd (n (sym m ∙ ap (λ (j : ℕ). j % 32) s ∙ f ∙ letter-capitals w 0 (omega arith)))

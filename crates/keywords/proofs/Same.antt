@@ -33,7 +33,7 @@ pub same-turn : (xs ys : List ℕ) (i : ℕ) → i < length xs → i < length ys
 unfolding same
 same-turn xs ys i h k = rw (add-one, drop-cons xs i 0 h, drop-cons ys i 0 k)
 
-and-true : (a b : Bool) → (a && b) ≡ true → (a ≡ true) × (b ≡ true)
+pub and-true : (a b : Bool) → (a && b) ≡ true → (a ≡ true) × (b ≡ true)
 and-true true b h = (refl, h)
 and-true false b h = let z : _≡_ {A = Bool} false true = h in (z, absurd (false≢true z))
 

@@ -1,40 +1,43 @@
 -- The index of the list: which entry can be equal to a word. Assumes nothing.
-use mathlib.Core.Path.{_≡_}
-use mathlib.Core.Bool.{Bool, true, _&&_}
+use mathlib.Core.Bool.{cond}
 use mathlib.Core.List.{List, [], _∷_}
-use Prim.Native.Nat.{ℕ, suc, _+_, _*_, _-_, _/_, _%_}
-use lib.Dec.{T, eqb, ltb}
+use Prim.Native.Nat.{ℕ, _+_, _*_, _-_, _/_, _%_}
+use lib.Dec.{eqb}
 use lib.ListN.{length, getD}
-use Rattle.keywords.specs.Words.{words}
+use Rattle.keywords.specs.Words.{capitals}
+use Rattle.keywords.specs.Table.{capital}
+
+-- the value beside the first entry for k; 0 where there is none
+unfoldable pub find : ℕ → List (ℕ × ℕ) → ℕ
+find k [] = 0
+find k (e ∷ es) = cond (eqb k (e .0)) (e .1) (find k es)
+
+-- what keeps the keys of the entries apart, for each bucket that needs it
+unfoldable pub shifts : List (ℕ × ℕ)
+shifts =
+    (0, 1) ∷ (5, 45) ∷ (9, 22) ∷ (10, 16) ∷ (13, 59) ∷ (16, 124) ∷ (17, 82) ∷ (18, 105) ∷ (19, 170) ∷ (20, 109) ∷ (21, 39) ∷ (22, 121) ∷
+    (23, 14) ∷ (24, 57) ∷ (25, 138) ∷ (26, 3) ∷ (27, 8) ∷ (29, 69) ∷ (30, 93) ∷ (32, 4) ∷ (33, 91) ∷ (34, 78) ∷ (35, 15) ∷ (36, 7) ∷ (37, 1)
+    ∷ (38, 127) ∷ (39, 132) ∷ (40, 2) ∷ (41, 135) ∷ (42, 59) ∷ (43, 90) ∷ (44, 125) ∷ (45, 144) ∷ (46, 162) ∷ (47, 49) ∷ (48, 143) ∷ (49, 7)
+    ∷ (50, 6) ∷ (51, 3) ∷ (52, 200) ∷ (53, 37) ∷ (56, 3) ∷ (57, 31) ∷ (60, 98) ∷ []
 
 -- the number of a letter, in either case
 abbrev letterAt : List ℕ → ℕ → ℕ
 letterAt w i = getD w i 0 % 32
 
 -- a word's key
-unfoldable pub key : List ℕ → List ℕ → ℕ
-key shifts w =
-    (2 * letterAt w 1 + 5 * letterAt w (length w / 2) + letterAt w (length w - 1) + getD shifts ((letterAt w 0 + 4 * length w) % 64) 0) % 256
+unfoldable pub key : List ℕ → ℕ
+key w = (2 * letterAt w 1 + 5 * letterAt w (length w / 2) + letterAt w (length w - 1) + find ((letterAt w 0 + 4 * length w) % 64) shifts) % 256
 
--- the table has, at the key of each entry, the entry's value; the first of them has place i. So entries with different values have different keys
-unfoldable pub tells : (List ℕ → ℕ) → (ℕ → List ℕ → ℕ) → List ℕ → ℕ → List (List ℕ) → Bool
-tells k value table i [] = true
-tells k value table i (e ∷ es) = eqb (getD table (k e) 0) (value i e) && tells k value table (suc i) es
+-- capitals as a number: digits in base 32, the first the lowest
+unfoldable pub code : List ℕ → ℕ
+code [] = 0
+code (b ∷ w) = b - 64 + 32 * code w
 
--- each of the numbers is below n
-unfoldable pub below : ℕ → List ℕ → Bool
-below n [] = true
-below n (x ∷ xs) = ltb x n && below n xs
+-- the code of a word in any case; 1, which no entry has, if a byte is no letter
+unfoldable pub wordCode : List ℕ → ℕ
+wordCode w = cond (capital (capitals w)) (code (capitals w)) 1
 
--- the tables of the code: the key of an entry leads to its first letter
-pub record Firsts (shifts firsts : List ℕ) : Type 0 where
-  pub shifts-length : length shifts ≡ 64
-  pub firsts-length : length firsts ≡ 256
-  pub tell : T (tells (key shifts) (λ i e. getD e 0 0) firsts 0 words)
-
--- the key of an entry leads to its place
-pub record Places (shifts places : List ℕ) : Type 0 where
-  pub shifts-length : length shifts ≡ 64
-  pub places-length : length places ≡ 256
-  pub tell : T (tells (key shifts) (λ i e. i) places 0 words)
-  pub within : T (below (length words) places)
+-- the entries' codes by their keys
+unfoldable pub codes : List (List ℕ) → List (ℕ × ℕ)
+codes [] = []
+codes (e ∷ es) = (key e, code e) ∷ codes es

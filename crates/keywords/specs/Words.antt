@@ -2,13 +2,11 @@
 use mathlib.Core.Bool.{Bool, true, false, cond, _&&_, _||_}
 use mathlib.Core.List.{List, [], _∷_, map}
 use Prim.Native.Char.{code}
-use Prim.Native.Nat.{ℕ, suc, _-_}
+use Prim.Native.Nat.{ℕ, _-_}
 use Prim.Native.String
 use Prim.Native.String.{String}
 use lib.Dec.{leb, eqb}
 use Rattle.keywords.specs.Names.{names}
-use Rattle.keywords.specs.declared.Place.{Place}
-use Rattle.keywords.specs.declared.Place.the-variants.{At, Nothing}
 
 -- a text's characters as numbers
 abbrev pub bytes : String → List ℕ
@@ -35,22 +33,14 @@ same [] (y ∷ ys) = false
 same (x ∷ xs) [] = false
 same (x ∷ xs) (y ∷ ys) = eqb x y && same xs ys
 
--- the place of the first entry that equals w, where the first of them has place i
-unfoldable pub placeFrom : ℕ → List ℕ → List (List ℕ) → Place
-placeFrom i w [] = Nothing
-placeFrom i w (e ∷ es) = cond (same e w) (At i) (placeFrom (suc i) w es)
-
--- the place of w in the list, counted from 0
-abbrev pub placeOf : List ℕ → Place
-placeOf w = placeFrom 0 w words
-
-abbrev pub isAt : Place → Bool
-isAt (At i) = true
-isAt Nothing = false
+-- w is one of the entries
+unfoldable pub listed : List ℕ → List (List ℕ) → Bool
+listed w [] = false
+listed w (e ∷ es) = same e w || listed w es
 
 -- `is_keyword`: the word, in any case, is on the list
 abbrev pub isKeyword : List ℕ → Bool
-isKeyword w = isAt (placeOf (capitals w))
+isKeyword w = listed (capitals w) words
 
 -- the word, in any case, is the given one
 abbrev pub isWord : String → List ℕ → Bool

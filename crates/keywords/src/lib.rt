@@ -1,71 +1,9 @@
 // The keywords of the source (head of format_node.rs): the list, and the tests of a word against it.
 ghost use mathlib.Core.Path.{_≡_};
-ghost use mathlib.Core.Bool.{false};
-ghost use mathlib.Core.List.{[], _++_};
 ghost use Prim.Native.Nat.{_%_, _≤_, _<_};
-ghost use lib.ListN.{length, drop, getD};
-ghost use Rattle.keywords.specs.Words.{capitals, isKeyword, isValueKeyword, placeOf, same, upper, words};
-ghost use Rattle.keywords.specs.Table.{Entries};
-ghost use Rattle.keywords.specs.Index.{Firsts, Places, key};
-ghost use Rattle.keywords.specs.declared.Place.the-variants.{Nothing};
-
-// A word's place in the list, counted from 0.
-enum Place {
-    At(usize),
-    Nothing,
-}
-
-// The list in the source's order: of each entry its length, then its capitals.
-const KEYWORDS: [u8; 1480] = *b"\
-    \x06SELECT\x04FROM\x05WHERE\x05ORDER\x02BY\x05GROUP\x06HAVING\x05LIMIT\x06OFFSET\x04WITH\x02AS\x02ON\x05USING\x07BETWEEN\x02IN\x04LIKE\
-    \x05ILIKE\x02IS\x03NOT\x04CASE\x04WHEN\x04THEN\x04ELSE\x03END\x04CAST\x08DISTINCT\x03ALL\x06EXISTS\x03AND\x02OR\x04JOIN\x05INNER\x04LEFT\
-    \x05RIGHT\x04FULL\x05OUTER\x05CROSS\x06GLOBAL\x03ANY\x04SEMI\x04ANTI\x04ASOF\x07NATURAL\x05ARRAY\x05FINAL\x03ASC\x04DESC\x05NULLS\
-    \x05FIRST\x04LAST\x06TOTALS\x06ROLLUP\x04CUBE\x05UNION\x06EXCEPT\x09INTERSECT\x06INSERT\x04INTO\x06VALUES\x06DELETE\x06UPDATE\x03SET\
-    \x06CREATE\x05ALTER\x04DROP\x06DETACH\x06ATTACH\x06RENAME\x08TRUNCATE\x04SHOW\x03USE\x08OPTIMIZE\x06SYSTEM\x08EXCHANGE\x06UNDROP\
-    \x05TABLE\x04VIEW\x08DATABASE\x0aDICTIONARY\x08FUNCTION\x0cMATERIALIZED\x09TEMPORARY\x02IF\x07REPLACE\x04LIVE\x07DEFAULT\x05CODEC\x03TTL\
-    \x07COMMENT\x07PRIMARY\x03KEY\x05ALIAS\x09EPHEMERAL\x08PREWHERE\x08SETTINGS\x06FORMAT\x06SAMPLE\x04NULL\x04TRUE\x05FALSE\x08INTERVAL\
-    \x06ENGINE\x09PARTITION\x07CLUSTER\x02TO\x08POPULATE\x05EMPTY\x0bPERMANENTLY\x05AFTER\x06COLUMN\x05INDEX\x0aPROJECTION\x0aCONSTRAINT\
-    \x03ADD\x06MODIFY\x05CLEAR\x04MOVE\x0bGRANULARITY\x04TYPE\x0bDEDUPLICATE\x07EXPLAIN\x08DESCRIBE\x03AST\x04PLAN\x08PIPELINE\x08ESTIMATE\
-    \x06TABLES\x09DATABASES\x07COLUMNS\x0cDICTIONARIES\x09FUNCTIONS\x0bPROCESSLIST\x0aPRIVILEGES\x06GRANTS\x06RELOAD\x05FLUSH\x04STOP\
-    \x05START\x06MERGES\x07REPLICA\x08REPLICAS\x0bDISTRIBUTED\x07SENDING\x07FETCHES\x05MOVES\x04LOGS\x05CACHE\x03DNS\x04MARK\x0cUNCOMPRESSED\
-    \x08COMPILED\x06MODELS\x05DISKS\x05GRANT\x06REVOKE\x04USER\x04ROLE\x05QUOTA\x06POLICY\x07PROFILE\x03ROW\x04NONE\x04KILL\x05QUERY\
-    \x08MUTATION\x04SYNC\x05ASYNC\x04TEST\x05CHECK\x05BEGIN\x06COMMIT\x08ROLLBACK\x0bTRANSACTION\x06BACKUP\x07RESTORE\x05LOCAL\x06FREEZE\
-    \x08UNFREEZE\x05FETCH\x05APPLY\x07DELETED\x06SOURCE\x06LAYOUT\x08LIFETIME\x05RANGE\x06HASHED\x04FLAT\x07COMPLEX\x06DIRECT\x09INJECTIVE\
-    \x0cHIERARCHICAL\x06WINDOW\x04OVER\x04ROWS\x06GROUPS\x09UNBOUNDED\x09PRECEDING\x09FOLLOWING\x07CURRENT\x03DIV\x03MOD\x06SYNTAX\x04TREE\
-    \x08OVERRIDE\x07ENGINES\x03FOR\x04PART\x0bMATERIALIZE\x07SETTING\x05RESET\x04FILL\x04STEP\x0bINTERPOLATE\x06OPTION\x0aIDENTIFIED\x04HOST\
-    \x05KEYED";
-
-// How far before 7 times its place each entry's length stands in KEYWORDS: an offset in one byte.
-const OFFSETS: [u8; 217] = *b"\
-    \x00\x00\x02\x03\x04\x08\x09\x09\x0a\x0a\x0c\x10\x14\x15\x14\x18\x1a\x1b\x1f\x22\x24\x26\x28\x2a\x2d\x2f\x2d\x30\x30\x33\x37\x39\
-    \x3a\x3c\x3d\x3f\x40\x41\x41\x44\x46\x48\x4a\x49\x4a\x4b\x4e\x50\x51\x52\x54\x54\x54\x56\x57\x57\x54\x54\x56\x56\x56\x56\x59\x59\
-    \x5a\x5c\x5c\x5c\x5c\x5a\x5c\x5f\x5d\x5d\x5b\x5b\x5c\x5e\x5c\x58\x56\x50\x4d\x51\x50\x52\x51\x52\x55\x54\x53\x56\x57\x54\x52\x50\
-    \x50\x50\x52\x54\x55\x53\x53\x50\x4f\x53\x51\x52\x4d\x4e\x4e\x4f\x4b\x47\x4a\x4a\x4b\x4d\x48\x4a\x45\x44\x42\x45\x47\x45\x43\x43\
-    \x40\x3f\x39\x36\x31\x2d\x2d\x2d\x2e\x30\x31\x31\x30\x2e\x29\x28\x27\x28\x2a\x2b\x2e\x30\x2a\x28\x28\x29\x2a\x2a\x2c\x2e\x2f\x2f\
-    \x2e\x31\x33\x35\x36\x34\x36\x37\x39\x3a\x3b\x3b\x39\x34\x34\x33\x34\x34\x32\x33\x34\x33\x33\x33\x31\x32\x32\x34\x33\x33\x30\x2a\
-    \x2a\x2c\x2e\x2e\x2b\x28\x25\x24\x27\x2a\x2a\x2c\x2a\x29\x2c\x2e\x29\x28\x29\x2b\x2d\x28\x28\x24\x26";
-
-// A perfect hash over the list (hash and displace): SHIFTS keeps the entries' keys apart (`key_of`). Each bucket of entries, the largest first,
-// has the least shift that leads to keys which are still free.
-const SHIFTS: [u8; 64] = *b"\
-    \x01\x00\x00\x00\x00\x2d\x00\x00\x00\x16\x10\x00\x00\x3b\x00\x00\x7c\x52\x69\xaa\x6d\x27\x79\x0e\x39\x8a\x03\x08\x00\x45\x5d\x00\
-    \x04\x5b\x4e\x0f\x07\x01\x7f\x84\x02\x87\x3b\x5a\x7d\x90\xa2\x31\x8f\x07\x06\x03\xc8\x25\x00\x00\x03\x1f\x00\x00\x62\x00\x00\x00";
-
-// For each key the place of the entry that has it; 0 where none has it.
-const PLACES: [u8; 256] = *b"\
-    \x44\x00\x09\x08\x00\x66\x00\x00\xc9\x64\x00\x50\xc4\x6a\x00\x00\x13\x00\x00\x4b\x00\xae\x4a\x41\x4d\x39\x37\x4f\x00\x00\x00\x18\
-    \x3a\x7f\x00\x00\x92\x00\x00\x55\x3b\x00\x00\xb4\xa4\x00\x25\x7b\xbe\x00\xb9\x81\x00\x00\x3e\x3d\xac\xab\x06\x49\x20\xaf\x15\xbc\
-    \xd6\x8a\xa8\x56\x6f\x99\x63\x00\x00\xca\x5a\x97\xad\x5e\x0f\x43\x8c\x73\x9b\xcf\x91\x00\x8e\xc0\x00\x03\x19\x71\x1e\xa3\x96\xb1\
-    \xd3\x00\xa2\x27\x00\x72\x9e\x2c\xb6\x00\x00\x07\x00\x7d\xbf\x00\x79\x51\x00\x58\xce\x31\x84\x9d\x68\xb2\x8f\xaa\x75\x85\x0b\x5b\
-    \x12\x45\x52\x30\xa7\x54\xbb\x05\x02\x67\xa5\xd8\x87\x6e\x76\x10\x24\x00\x88\x65\x86\x9a\xd4\x47\xc6\x62\x80\x1a\x57\x6d\x1d\xb0\
-    \xc2\x1c\x36\x16\x38\x33\xd0\x95\xc3\x6c\xba\xc5\x94\x9c\x0a\x23\xb3\x60\x2a\x32\xa9\x3f\x26\xcc\x17\x1f\x3c\x14\xcb\x98\x2b\x42\
-    \xbd\x4c\x0e\x2d\x9f\x89\xa1\x2f\x21\x29\xd7\x6b\xb8\xa6\x7e\x61\x5f\xc7\x8d\xd2\x7a\x78\x74\xb5\x04\x2e\x77\x28\x82\xa0\x35\xd5\
-    \x5d\x0c\x7c\x34\xcd\x46\x70\x1b\x0d\x8b\x11\x22\x40\x53\x69\x00\x00\x93\xc1\x4e\x5c\x01\x00\xc8\xb7\x83\x90\x59\xd1\x48\x00\x00";
-
-// For each key the first letter of the entry that has it; @ where none has it.
-const FIRSTS: [u8; 256] = *b"\
-    T@WO@P@@SI@MPE@@C@@T@RUDDIIF@@@CVD@@C@@DD@@DM@GPH@HD@@CSTRHELLTDIMCCPGF@@TKMBSLRRCUML@SO@ODAJQCUS@KS@MPFL@@L@EW@DT@CPLPQTFFCGGOA\
-    NSIFTLCGWCSKFITICSSERRIOCTCATCOFGAEEIRSUUAFFMRAOASNTBAAEEIUWODAAIVIAPSNNRAHPRATNFDDFAEMSBDDAFRUOPUPCFUCEBRIFDRP@@DRDEF@MLPMPRS@@";
+ghost use lib.ListN.{length};
+ghost use Rattle.keywords.specs.Words.{capitals, isKeyword, isValueKeyword, same, upper, words};
+ghost use Rattle.keywords.specs.Index.{codes, find, key, shifts, wordCode};
 
 // A byte in upper case.
 fn upper_of(b: u8) -> u8
@@ -80,127 +18,331 @@ fn upper_of(b: u8) -> u8
     b - 32
 }
 
-// A byte as an index.
-fn wide(b: u8) -> usize
-    ensures { λ r. ⌜ (r ≡ b) × (r < 256) ⌝ }
-{
-    b as usize
-}
-
 // A letter's place in the alphabet, in either case.
 fn letter(b: u8) -> usize
     ensures { λ r. ⌜ (r ≡ b % 32) × (r < 32) ⌝ }
 {
-    wide(b) % 32
+    b as usize % 32
 }
 
-// The word in capitals, at the start of caps.
-fn capitalize(word: &[u8], caps: &mut [u8])
-    requires { ⌜ length (now word) ≤ length (now caps) ⌝ }
-    ensures { λ _. ⌜ now (caps .exit) ≡ capitals (now (word .entry)) ++ drop (length (now (word .entry))) (now (caps .entry)) ⌝ }
+// The tables are matches, since to lend an array is to copy it.
+
+// A perfect hash over the list (hash and displace): each bucket of entries, the largest first, has the least shift that leads to keys
+// which are still free.
+fn shift_of(bucket: usize) -> usize
+    ensures { λ r. ⌜ (r ≡ find bucket shifts) × (r < 256) ⌝ }
 {
-    let mut i: usize = 0;
-    while i < word.len() {
-        caps[i] = upper_of(word[i]);
-        i += 1;
+    match bucket {
+        0 => 1,
+        5 => 45,
+        9 => 22,
+        10 => 16,
+        13 => 59,
+        16 => 124,
+        17 => 82,
+        18 => 105,
+        19 => 170,
+        20 => 109,
+        21 => 39,
+        22 => 121,
+        23 => 14,
+        24 => 57,
+        25 => 138,
+        26 => 3,
+        27 => 8,
+        29 => 69,
+        30 => 93,
+        32 => 4,
+        33 => 91,
+        34 => 78,
+        35 => 15,
+        36 => 7,
+        37 => 1,
+        38 => 127,
+        39 => 132,
+        40 => 2,
+        41 => 135,
+        42 => 59,
+        43 => 90,
+        44 => 125,
+        45 => 144,
+        46 => 162,
+        47 => 49,
+        48 => 143,
+        49 => 7,
+        50 => 6,
+        51 => 3,
+        52 => 200,
+        53 => 37,
+        56 => 3,
+        57 => 31,
+        60 => 98,
+        _ => 0,
     }
 }
 
-// Whether two slices hold the same bytes.
-fn equal(x: &[u8], y: &[u8]) -> bool
-    ensures { λ r. ⌜ r ≡ same (now (x .entry)) (now (y .entry)) ⌝ }
+// The list in the source's order: of each entry its key and its code. 0 where no entry has the key.
+fn code_at(key: usize) -> u64
+    ensures { λ r. ⌜ r ≡ find key (codes words) ⌝ }
 {
-    if x.len() != y.len() {
-        return false;
+    match key {
+        145 => 674410675, // SELECT
+        245 => 441926, // FROM
+        136 => 5838103, // WHERE
+        89 => 19042895, // ORDER
+        216 => 802, // BY
+        135 => 17481287, // GROUP
+        58 => 249878568, // HAVING
+        107 => 21280044, // LIMIT
+        3 => 676960463, // OFFSET
+        2 => 282935, // WITH
+        174 => 609, // AS
+        126 => 463, // ON
+        225 => 7808629, // USING
+        232 => 15206174882, // BETWEEN
+        194 => 457, // IN
+        78 => 175404, // LIKE
+        143 => 5612937, // ILIKE
+        234 => 617, // IS
+        128 => 20974, // NOT
+        16 => 183331, // CASE
+        187 => 464151, // WHEN
+        62 => 464148, // THEN
+        163 => 183685, // ELSE
+        184 => 4549, // END
+        31 => 674851, // CAST
+        90 => 690895867172, // DISTINCT
+        155 => 12673, // ALL
+        231 => 659138309, // EXISTS
+        161 => 4545, // AND
+        158 => 591, // OR
+        92 => 468458, // JOIN
+        185 => 19053001, // INNER
+        60 => 661676, // LEFT
+        200 => 21241138, // RIGHT
+        235 => 406182, // FULL
+        175 => 19059375, // OUTER
+        144 => 20561475, // CROSS
+        46 => 403783047, // GLOBAL
+        182 => 26049, // ANY
+        99 => 308403, // SEMI
+        219 => 315841, // ANTI
+        201 => 212577, // ASOF
+        178 => 12938039342, // NATURAL
+        190 => 26266177, // ARRAY
+        103 => 12630310, // FINAL
+        195 => 3681, // ASC
+        217 => 117924, // DESC
+        199 => 20329134, // NULLS
+        131 => 21612838, // FIRST
+        117 => 674860, // LAST
+        179 => 650170868, // TOTALS
+        165 => 559297010, // ROLLUP
+        227 => 166563, // CUBE
+        222 => 15181269, // UNION
+        162 => 688033541, // EXCEPT
+        26 => 22099337073097, // INTERSECT
+        164 => 690146761, // INSERT
+        25 => 512457, // INTO
+        32 => 643477558, // VALUES
+        40 => 188919972, // DELETE
+        186 => 188781077, // UPDATE
+        55 => 20659, // SET
+        54 => 188782147, // CREATE
+        181 => 19059073, // ALTER
+        236 => 540228, // DROP
+        23 => 271634596, // DETACH
+        191 => 271635073, // ATTACH
+        79 => 181450930, // RENAME
+        0 => 193310709332, // TRUNCATE
+        129 => 769299, // SHOW
+        229 => 5749, // USE
+        151 => 200031916559, // OPTIMIZE
+        253 => 442126131, // SYSTEM
+        59 => 179785961221, // EXCHANGE
+        22 => 553193941, // UNDROP
+        19 => 5638196, // TABLE
+        193 => 759094, // VIEW
+        24 => 192235491364, // DATABASE
+        243 => 899450417057060, // DICTIONARY
+        27 => 497465539238, // FUNCTION
+        11 => 150669790600679469, // MATERIALIZED
+        113 => 28107959973044, // TEMPORARY
+        130 => 201, // IF
+        237 => 5470830770, // REPLACE
+        133 => 186668, // LIVE
+        39 => 21899548836, // DEFAULT
+        67 => 3314147, // CODEC
+        156 => 12948, // TTL
+        115 => 21950281187, // COMMENT
+        251 => 27449009744, // PRIMARY
+        74 => 25771, // KEY
+        127 => 19965313, // ALIAS
+        244 => 13248008200709, // EPHEMERAL
+        224 => 191302964816, // PREWHERE
+        77 => 660831097011, // SETTINGS
+        208 => 672582118, // FORMAT
+        177 => 180892723, // SAMPLE
+        207 => 406190, // NULL
+        153 => 185940, // TRUE
+        70 => 5877798, // FALSE
+        9 => 414147858889, // INTERVAL
+        147 => 182754757, // ENGINE
+        5 => 15918903740464, // PARTITION
+        137 => 19516740995, // CLUSTER
+        120 => 500, // TO
+        238 => 193320370672, // POPULATE
+        13 => 26886565, // EMPTY
+        203 => 28592187244988592, // PERMANENTLY
+        169 => 19058881, // AFTER
+        157 => 484094435, // COLUMN
+        141 => 25334217, // INDEX
+        68 => 509404702391888, // PROJECTION
+        230 => 719391541541347, // CONSTRAINT
+        91 => 4225, // ADD
+        101 => 845451757, // MODIFY
+        81 => 18912643, // CLEAR
+        214 => 186861, // MOVE
+        124 => 28861700691658311, // GRANULARITY
+        142 => 181044, // TYPE
+        218 => 6334399650631844, // DEDUPLICATE
+        213 => 15335834373, // EXPLAIN
+        112 => 174267157668, // DESCRIBE
+        212 => 21089, // AST
+        47 => 460176, // PLAN
+        226 => 187145830704, // PIPELINE
+        109 => 193321030245, // ESTIMATE
+        206 => 643172404, // TABLES
+        33 => 21082956419108, // DATABASES
+        154 => 20885189091, // COLUMNS
+        51 => 690513143358164260, // DICTIONARIES
+        220 => 21388186466982, // FUNCTIONS
+        249 => 23196830172036688, // PROCESSLIST
+        118 => 674246927525456, // PRIVILEGES
+        125 => 658966087, // GRANTS
+        148 => 135770290, // RELOAD
+        140 => 9033094, // FLUSH
+        146 => 540307, // STOP
+        197 => 21563027, // START
+        65 => 643025069, // MERGES
+        233 => 1184252082, // REPLICA
+        80 => 654019281074, // REPLICAS
+        210 => 4702235743898916, // DISTRIBUTED
+        86 => 7995537587, // SENDING
+        122 => 20577374374, // FETCHES
+        250 => 20109805, // MOVES
+        84 => 630252, // LOGS
+        36 => 5508131, // CACHE
+        241 => 19908, // DNS
+        172 => 378925, // MARK
+        167 => 150434273077726677, // UNCOMPRESSED
+        94 => 143220291043, // COMPILED
+        75 => 650285549, // MODELS
+        189 => 20303140, // DISKS
+        69 => 21431879, // GRANT
+        149 => 179820722, // REVOKE
+        82 => 595573, // USER
+        173 => 176626, // ROLE
+        119 => 1719985, // QUOTA
+        102 => 842314224, // POLICY
+        196 => 5781012048, // PROFILE
+        221 => 24050, // ROW
+        198 => 178670, // NONE
+        98 => 405803, // KILL
+        93 => 26810033, // QUERY
+        44 => 497465479853, // MUTATION
+        138 => 113459, // SYNC
+        205 => 3630689, // ASYNC
+        132 => 674996, // TEST
+        66 => 11638019, // CHECK
+        180 => 14982306, // BEGIN
+        123 => 680965603, // COMMIT
+        57 => 381214405106, // ROLLBACK
+        56 => 16300950351709780, // TRANSACTION
+        76 => 559254562, // BACKUP
+        21 => 5989092530, // RESTORE
+        61 => 12619244, // LOCAL
+        159 => 195204678, // FREEZE
+        95 => 199889590741, // UNFREEZE
+        121 => 8507558, // FETCH
+        176 => 26624513, // APPLY
+        43 => 4483887268, // DELETED
+        215 => 171529715, // SOURCE
+        104 => 693625900, // LAYOUT
+        248 => 186080467244, // LIFETIME
+        204 => 5486642, // RANGE
+        50 => 139742248, // HASHED
+        170 => 656774, // FLAT
+        134 => 25950696931, // COMPLEX
+        63 => 674416932, // DIRECT
+        192 => 6263810468297, // INJECTIVE
+        48 => 433587191560082728, // HIERARCHICAL
+        110 => 787626295, // WINDOW
+        87 => 595663, // OVER
+        242 => 646642, // ROWS
+        160 => 655015495, // GROUPS
+        168 => 4574632446421, // UNBOUNDED
+        12 => 8187420972624, // PRECEDING
+        171 => 8188069294566, // FOLLOWING
+        152 => 21950450339, // CURRENT
+        209 => 22820, // DIV
+        247 => 4589, // MOD
+        8 => 807025459, // SYNTAX
+        73 => 169556, // TREE
+        188 => 176415119055, // OVERRIDE
+        183 => 20583849413, // ENGINES
+        228 => 18918, // FOR
+        116 => 673840, // PART
+        83 => 6554602524823597, // MATERIALIZE
+        166 => 7996068019, // SETTING
+        252 => 21154994, // RESET
+        211 => 405798, // FILL
+        96 => 530067, // STEP
+        150 => 6334715466535369, // INTERPOLATE
+        223 => 485806607, // OPTION
+        64 => 146551050015881, // IDENTIFIED
+        202 => 675304, // HOST
+        139 => 4383915, // KEYED
+        _ => 0,
     }
-    let mut i: usize = 0;
-    while i < x.len() {
-        if x[i] != y[i] {
-            return false;
-        }
-        i += 1;
-    }
-    true
-}
-
-// Whether the table's entry at a place is the word.
-fn entry_in(table: &[u8], offsets: &[u8], place: usize, word: &[u8]) -> bool
-    requires { ⌜ Entries (now table) (now offsets) × (place < length words) ⌝ }
-    ensures { λ r. ⌜ r ≡ same (getD words place []) (now (word .entry)) ⌝ }
-{
-    let at = 7 * place - wide(offsets[place]);
-    let n = wide(table[at]);
-    let start = at + 1;
-    let end = start + n;
-    equal(&table[start..end], word)
-}
-
-// Whether the entry at a place is the word. The table is lent here alone: to lend it is to copy it, and few plain words come this far.
-fn entry_is(place: usize, word: &[u8]) -> bool
-    requires { ⌜ place < length words ⌝ }
-    ensures { λ r. ⌜ r ≡ same (getD words place []) (now (word .entry)) ⌝ }
-{
-    entry_in(&KEYWORDS, &OFFSETS, place, word)
 }
 
 // The key of a word of 2 to 12 bytes, from its length and four of its letters in either case.
-fn key_of(shifts: &[u8], word: &[u8]) -> usize
-    requires { ⌜ (length (now shifts) ≡ 64) × (2 ≤ length (now word)) × (length (now word) ≤ 12) ⌝ }
-    ensures { λ r. ⌜ r ≡ key (now (shifts .entry)) (now (word .entry)) ⌝ }
+fn key_of(word: &[u8]) -> usize
+    requires { ⌜ (2 ≤ length (now word)) × (length (now word) ≤ 12) ⌝ }
+    ensures { λ r. ⌜ r ≡ key (now (word .entry)) ⌝ }
 {
     let n = word.len();
     let half = n / 2;
     let last = n - 1;
     let bucket = (letter(word[0]) + 4 * n) % 64;
     let hash = 2 * letter(word[1]) + 5 * letter(word[half]) + letter(word[last]);
-    (hash + wide(shifts[bucket])) % 256
+    (hash + shift_of(bucket)) % 256
 }
 
-// Whether the entry with the word's key, if there is one, has the word's first letter.
-fn begins(shifts: &[u8], firsts: &[u8], word: &[u8]) -> bool
-    requires { ⌜ Firsts (now shifts) (now firsts) × (2 ≤ length (now word)) × (length (now word) ≤ 12) ⌝ }
-    ensures { λ r. ⌜ (r ≡ false → placeOf (capitals (now (word .entry))) ≡ Nothing) ⌝ }
+// The code of a word of at most 12 bytes: its capitals as digits in base 32, the first the lowest; 1, which no entry has, if a byte is
+// no letter.
+fn code_of(word: &[u8]) -> u64
+    requires { ⌜ length (now word) ≤ 12 ⌝ }
+    ensures { λ r. ⌜ r ≡ wordCode (now (word .entry)) ⌝ }
 {
-    let k = key_of(shifts, word);
-    letter(firsts[k]) == letter(word[0])
-}
-
-// Whether the word may be on the list: a quick test that few other words pass.
-fn may_be_listed(word: &[u8]) -> bool
-    requires { ⌜ (2 ≤ length (now word)) × (length (now word) ≤ 12) ⌝ }
-    ensures { λ r. ⌜ (r ≡ false → placeOf (capitals (now (word .entry))) ≡ Nothing) ⌝ }
-{
-    begins(&SHIFTS, &FIRSTS, word)
-}
-
-// The place of a word of 2 to 12 bytes.
-fn look_up(shifts: &[u8], places: &[u8], word: &[u8]) -> Place
-    requires { ⌜ Places (now shifts) (now places) × (2 ≤ length (now word)) × (length (now word) ≤ 12) ⌝ }
-    ensures { λ r. ⌜ r ≡ placeOf (now (word .entry)) ⌝ }
-{
-    let k = key_of(shifts, word);
-    let place = wide(places[k]);
-    if entry_is(place, word) {
-        return Place::At(place);
+    let mut code: u64 = 0;
+    let mut i = word.len();
+    while 0 < i {
+        i -= 1;
+        let b = upper_of(word[i]);
+        if b < 65 {
+            return 1;
+        }
+        if 90 < b {
+            return 1;
+        }
+        code = 32 * code + (b - 64) as u64;
     }
-    Place::Nothing
+    code
 }
 
-// The place of the first entry that equals the bytes, however many they are.
-fn place_of(word: &[u8]) -> Place
-    ensures { λ r. ⌜ r ≡ placeOf (now (word .entry)) ⌝ }
-{
-    let n = word.len();
-    if n < 2 {
-        return Place::Nothing;
-    }
-    if 12 < n {
-        return Place::Nothing;
-    }
-    look_up(&SHIFTS, &PLACES, word)
-}
-
-// Whether the word, in any case, is on the list.
+// Whether the word, in any case, is on the list. Few other words have the first letter of the entry with their key.
 pub fn is_keyword(word: &[u8]) -> bool
     ensures { λ r. ⌜ r ≡ isKeyword (now (word .entry)) ⌝ }
 {
@@ -211,16 +353,11 @@ pub fn is_keyword(word: &[u8]) -> bool
     if 12 < n {
         return false;
     }
-    if !may_be_listed(word) {
+    let code = code_at(key_of(word));
+    if code % 32 != letter(word[0]) as u64 {
         return false;
     }
-    let mut caps = [0u8; 12];
-    capitalize(word, &mut caps);
-    let place = place_of(&caps[..n]);
-    match place {
-        Place::At(_) => true,
-        Place::Nothing => false,
-    }
+    code_of(word) == code
 }
 
 // Whether the word, in any case, is the given one, which is in capitals.

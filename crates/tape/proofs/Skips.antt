@@ -36,20 +36,20 @@ module _ (len : ℕ) (tape : List ℕ) (e : ℕ) where
       let less : d ≡ suc d - 1 = omega arith in
       subst (λ x. Stacked len tape e x (i + 1)) less (subst (λ x. Stacked len tape e d (i + size x)) (lies-close len tape i (s .0) (s .1) b) (s .2))
 
-  stacked-token : (d i : ℕ) → 0 < d → Stacked len tape e d i → (getD tape i 0 ≡ 3 → ⊥) → (getD tape i 0 ≡ 1 → ⊥) → Stacked len tape e d (i + 11)
+  stacked-token : (d i : ℕ) → 0 < d → Stacked len tape e d i → getD tape i 0 ≡ 2 → Stacked len tape e d (i + 11)
   unfolding Stacked size
-  stacked-token zero i z s u v = absurd (omega arith)
-  stacked-token (suc d) i z s u v =
-      let b = lies-byte len tape i (s .0) (s .1) in
-      let t = lies-token len tape i (s .0) (s .1) (omega arith) in
+  stacked-token zero i z s b = absurd (omega arith)
+  stacked-token (suc d) i z s b =
+      let t = lies-token len tape i (s .0) (s .1) b in
       let far : i + (11 + size (t .0)) ≡ i + 11 + size (t .0) = omega arith in
       (t .0, t .3, subst (Stacked len tape e d) far (subst (λ x. Stacked len tape e d (i + size x)) (t .1) (s .2)))
 
-  stacked-open : (d i : ℕ) → 0 < d → Stacked len tape e d i → getD tape i 0 ≡ 1 → Stacked len tape e (d + 1) (i + 11)
+  stacked-open : (d i : ℕ) → 0 < d → Stacked len tape e d i → (getD tape i 0 ≡ 2 → ⊥) → (getD tape i 0 ≡ 3 → ⊥) → Stacked len tape e (d + 1) (i + 11)
   unfolding Stacked size
-  stacked-open zero i z s b = absurd (omega arith)
-  stacked-open (suc d) i z s b =
-      let t = lies-node len tape i (s .0) (s .1) b in
+  stacked-open zero i z s u v = absurd (omega arith)
+  stacked-open (suc d) i z s u v =
+      let b = lies-byte len tape i (s .0) (s .1) in
+      let t = lies-node len tape i (s .0) (s .1) (omega arith) in
       let far : i + (11 + size (t .0) + size (t .1)) ≡ i + 11 + size (t .0) + size (t .1) = omega arith in
       subst (λ x. Stacked len tape e x (i + 11)) (sym (add-one (suc d)))
       (t .0, t .4, (t .1, t .5, subst (Stacked len tape e d) far (subst (λ x. Stacked len tape e d (i + size x)) (t .2) (s .2))))
@@ -71,11 +71,11 @@ module _ {tape : List ℕ} {at : ℕ} where
   pub skip-close : {i d : ℕ} → 0 < d → getD tape i 0 ≡ 3 → Skipping tape at i d → Skipping tape at (i + 1) (d - 1)
   skip-close {i} {d} z b s = record { node = s .node; stacked = stacked-close (s .node .len) tape (at + 11 + size (s .node .kids)) d i z (s .stacked) b }
 
-  pub skip-open : {i d : ℕ} → 0 < d → getD tape i 0 ≡ 1 → Skipping tape at i d → Skipping tape at (i + 11) (d + 1)
-  skip-open {i} {d} z b s = record { node = s .node; stacked = stacked-open (s .node .len) tape (at + 11 + size (s .node .kids)) d i z (s .stacked) b }
+  pub skip-token : {i d : ℕ} → 0 < d → getD tape i 0 ≡ 2 → Skipping tape at i d → Skipping tape at (i + 11) d
+  skip-token {i} {d} z b s = record { node = s .node; stacked = stacked-token (s .node .len) tape (at + 11 + size (s .node .kids)) d i z (s .stacked) b }
 
-  pub skip-token : {i d : ℕ} → 0 < d → (getD tape i 0 ≡ 3 → ⊥) → (getD tape i 0 ≡ 1 → ⊥) → Skipping tape at i d → Skipping tape at (i + 11) d
-  skip-token {i} {d} z u v s = record { node = s .node; stacked = stacked-token (s .node .len) tape (at + 11 + size (s .node .kids)) d i z (s .stacked) u v }
+  pub skip-open : {i d : ℕ} → 0 < d → (getD tape i 0 ≡ 2 → ⊥) → (getD tape i 0 ≡ 3 → ⊥) → Skipping tape at i d → Skipping tape at (i + 11) (d + 1)
+  skip-open {i} {d} z u v s = record { node = s .node; stacked = stacked-open (s .node .len) tape (at + 11 + size (s .node .kids)) d i z (s .stacked) u v }
 
   pub skip-last : {i d : ℕ} → d ≤ 0 → Skipping tape at i d → Skipped tape at i
   skip-last {i} {d} z s =

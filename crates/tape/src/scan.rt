@@ -12,14 +12,14 @@ pub fn skip(tape: &[u8], at: usize) -> usize
     let mut i = at + 11;
     let mut depth: usize = 1;
     while 0 < depth {
-        let b = tape[i];
-        if b == 3 {
+        while tape[i] == 2 {
+            i += 11;
+        }
+        if tape[i] == 3 {
             depth -= 1;
             i += 1;
-        } else if b == 1 {
-            depth += 1;
-            i += 11;
         } else {
+            depth += 1;
             i += 11;
         }
     }

@@ -49,11 +49,8 @@ letter-requires-4 c κs = search needs
 add-hash-2 : tie.Need-add-hash-2
 add-hash-2 c = search needs
 
-shared-slice-read-wide : tie.Need-shared-slice-read-wide
-shared-slice-read-wide c = search needs
-
-wide-requires : tie.Need-wide-requires
-wide-requires c κs = search needs
+shift-of-requires : tie.Need-shift-of-requires
+shift-of-requires c κs = search needs
 
 add-result : tie.Need-add-result
 add-result c = search needs
@@ -61,11 +58,11 @@ add-result c = search needs
 returns : tie.Need-returns
 unfolding key
 returns c =
-    let d = c .before .before in
+    let d = c .before in
     let e = d .before .before in
     let f = e .before .before in
     let g = f .before .before in
-    simp (c .wide .ensures .0, d .letter4 .ensures .0, e .letter3 .ensures .0, f .letter2 .ensures .0, g .letter .ensures .0)
+    simp (c .shift-of .ensures .0, d .letter4 .ensures .0, e .letter3 .ensures .0, f .letter2 .ensures .0, g .letter .ensures .0)
 
 pub key-of-spec : {M : Type 1} → statement M
 key-of-spec =
@@ -86,7 +83,6 @@ key-of-spec =
     shared-slice-read-letter-4
     letter-requires-4
     add-hash-2
-    shared-slice-read-wide
-    wide-requires
+    shift-of-requires
     add-result
     returns)

@@ -8,15 +8,15 @@ use Rattle.layout.specs.Arms.{seen}
 use Rattle.arms.proofs.tokens.emit_uncommented.Statement.{statement}
 use Rattle.arms.proofs.tokens.emit_uncommented.Tie as tie
 
-note-requires : tie.Need-note-requires
-note-requires c κs = search needs
+emit-trivia-requires : tie.Need-emit-trivia-requires
+emit-trivia-requires c κs = search needs
 
 same-length : tie.Need-same-length
 same-length c = search needs
 
 returns : tie.Need-returns
 unfolding emitUncommented seen
-returns c = acted 4 _ (omega arith) (rw (c .before .before .before .before .if1 .taken)) (c .before .before .note .ensures)
+returns c = acted 4 _ (omega arith) (rw (c .before .before .before .before .if1 .taken)) (c .before .before .emit-trivia .ensures)
 
 emit-token-requires : tie.Need-emit-token-requires
 emit-token-requires c κs = search needs
@@ -31,4 +31,4 @@ returns-2 c = acted 4 _ (omega arith) (rw (ne-eqb _ _ (c .before .before .before
 pub emit-uncommented-spec : {M : Type 1} → statement M
 emit-uncommented-spec =
     tie.close
-    (tie.spec note-requires same-length returns emit-token-requires same-length-2 returns-2)
+    (tie.spec emit-trivia-requires same-length returns emit-token-requires same-length-2 returns-2)

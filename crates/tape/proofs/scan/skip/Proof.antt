@@ -1,5 +1,5 @@
--- `skip` meets its contract. The loop's invariant is `Skipping`, the measure what is left of the tape. Assumes nothing.
-use Prim.Native.Nat.{_-_}
+-- `skip` meets its contract. The loops' invariant is `Skipping`, the measure what is left of the tape. Assumes nothing.
+use Prim.Native.Nat.{_-_, _≤_, _<_}
 use native.Mathlib.Omega.{arith}
 use lib.ListN.{length}
 use Rattle.tape.proofs.Skips.{Skipping, skip-first, skip-low, skip-close, skip-open, skip-token, skip-last}
@@ -7,75 +7,92 @@ use borrow.Author.Needs.{needs}
 use Rattle.tape.proofs.scan.skip.Statement.{statement}
 use Rattle.tape.proofs.scan.skip.Tie as tie
 
+-- past the tokens before the next node or close
+abbrev Inv-loop2 : tie.InvT-loop2
+Inv-loop2 tape at i₀ depth i = Skipping tape at i depth × (i₀ ≤ i) × (0 < depth)
+
+abbrev μ-loop2 : tie.MeasureT-loop2
+μ-loop2 tape at i₀ depth i = length tape - i
+
 abbrev Inv-loop : tie.InvT-loop
 Inv-loop tape at i₀ depth₀ i depth = Skipping tape at i depth
 
 abbrev μ-loop : tie.MeasureT-loop
 μ-loop tape at i₀ depth₀ i depth = length tape - i
 
-add-i : tie.Need-add-i Inv-loop μ-loop
+add-i : tie.Need-add-i Inv-loop2 μ-loop2 Inv-loop μ-loop
 add-i c = omega (arith, c .pre .inside)
 
-loop-holds : tie.Need-loop-holds Inv-loop μ-loop
+loop-holds : tie.Need-loop-holds Inv-loop2 μ-loop2 Inv-loop μ-loop
 loop-holds c = skip-first (c .pre)
 
-shared-slice-read-b : tie.Need-shared-slice-read-b Inv-loop μ-loop
-shared-slice-read-b c = omega (arith, skip-low (c .before .before .loop .inv))
+loop2-holds : tie.Need-loop2-holds Inv-loop2 μ-loop2 Inv-loop μ-loop
+loop2-holds c = (c .before .loop .inv, omega arith, c .loop-test .taken)
 
-sub-depth : tie.Need-sub-depth Inv-loop μ-loop
-sub-depth c = search needs
+shared-slice-read-if1 : tie.Need-shared-slice-read-if1 Inv-loop2 μ-loop2 Inv-loop μ-loop
+shared-slice-read-if1 c = let v = c .before .loop2 .inv in omega (arith, skip-low (v .0), v .2)
 
-add-i-2 : tie.Need-add-i-2 Inv-loop μ-loop
-add-i-2 c = omega (arith, skip-low (c .before .before .before .loop .inv))
+add-i-2 : tie.Need-add-i-2 Inv-loop2 μ-loop2 Inv-loop μ-loop
+add-i-2 c = let v = c .before .before .loop2 .inv in omega (arith, skip-low (v .0))
 
-loop-less : tie.Need-loop-less Inv-loop μ-loop
-loop-less c = omega (arith, skip-low (c .before .before .before .loop .inv))
+loop2-less : tie.Need-loop2-less Inv-loop2 μ-loop2 Inv-loop μ-loop
+loop2-less c = let v = c .before .before .loop2 .inv in omega (arith, skip-low (v .0), v .2)
 
-loop-again : tie.Need-loop-again Inv-loop μ-loop
-loop-again c = skip-close (c .before .before .loop-test .taken) (c .if1 .taken) (c .before .before .before .loop .inv)
+loop2-again : tie.Need-loop2-again Inv-loop2 μ-loop2 Inv-loop μ-loop
+loop2-again c = let v = c .before .before .loop2 .inv in (skip-token (v .2) (c .if1 .taken) (v .0), omega (arith, v .1), v .2)
 
-add-depth : tie.Need-add-depth Inv-loop μ-loop
-add-depth c = omega (arith, skip-low (c .before .before .before .before .loop .inv))
+shared-slice-read-if2 : tie.Need-shared-slice-read-if2 Inv-loop2 μ-loop2 Inv-loop μ-loop
+shared-slice-read-if2 c = let v = c .before .before .before .loop2 .inv in omega (arith, skip-low (v .0), v .2)
 
-add-i-3 : tie.Need-add-i-3 Inv-loop μ-loop
-add-i-3 c = omega (arith, skip-low (c .before .before .before .before .loop .inv))
+sub-depth : tie.Need-sub-depth Inv-loop2 μ-loop2 Inv-loop μ-loop
+sub-depth c = let v = c .before .before .before .before .loop2 .inv in omega (arith, v .2)
 
-loop-less-2 : tie.Need-loop-less-2 Inv-loop μ-loop
-loop-less-2 c = omega (arith, skip-low (c .before .before .before .before .loop .inv))
+add-i-3 : tie.Need-add-i-3 Inv-loop2 μ-loop2 Inv-loop μ-loop
+add-i-3 c = let v = c .before .before .before .before .loop2 .inv in omega (arith, skip-low (v .0))
 
-loop-again-2 : tie.Need-loop-again-2 Inv-loop μ-loop
-loop-again-2 c = skip-open (c .before .before .before .loop-test .taken) (c .if2 .taken) (c .before .before .before .before .loop .inv)
+loop-less : tie.Need-loop-less Inv-loop2 μ-loop2 Inv-loop μ-loop
+loop-less c = let v = c .before .before .before .before .loop2 .inv in omega (arith, skip-low (v .0), v .1, v .2)
 
-add-i-4 : tie.Need-add-i-4 Inv-loop μ-loop
-add-i-4 c = omega (arith, skip-low (c .before .before .before .before .loop .inv))
+loop-again : tie.Need-loop-again Inv-loop2 μ-loop2 Inv-loop μ-loop
+loop-again c = let v = c .before .before .before .before .loop2 .inv in skip-close (v .2) (c .if2 .taken) (v .0)
 
-loop-less-3 : tie.Need-loop-less-3 Inv-loop μ-loop
-loop-less-3 c = omega (arith, skip-low (c .before .before .before .before .loop .inv))
+add-depth : tie.Need-add-depth Inv-loop2 μ-loop2 Inv-loop μ-loop
+add-depth c = let v = c .before .before .before .before .loop2 .inv in omega (arith, skip-low (v .0))
 
-loop-again-3 : tie.Need-loop-again-3 Inv-loop μ-loop
-loop-again-3 c = skip-token (c .before .before .before .loop-test .taken) (c .before .if1 .left) (c .if2 .left) (c .before .before .before .before .loop .inv)
+add-i-4 : tie.Need-add-i-4 Inv-loop2 μ-loop2 Inv-loop μ-loop
+add-i-4 c = let v = c .before .before .before .before .loop2 .inv in omega (arith, skip-low (v .0))
 
-returns : tie.Need-returns Inv-loop μ-loop
+loop-less-2 : tie.Need-loop-less-2 Inv-loop2 μ-loop2 Inv-loop μ-loop
+loop-less-2 c = let v = c .before .before .before .before .loop2 .inv in omega (arith, skip-low (v .0), v .1, v .2)
+
+loop-again-2 : tie.Need-loop-again-2 Inv-loop2 μ-loop2 Inv-loop μ-loop
+loop-again-2 c = let v = c .before .before .before .before .loop2 .inv in skip-open (v .2) (c .before .before .if1 .left) (c .if2 .left) (v .0)
+
+returns : tie.Need-returns Inv-loop2 μ-loop2 Inv-loop μ-loop
 returns c = skip-last (c .loop-test .left) (c .before .loop .inv)
 
 pub skip-spec : {M : Type 1} → statement M
 skip-spec =
     tie.close
     (tie.spec
+    Inv-loop2
+    μ-loop2
     Inv-loop
     μ-loop
     add-i
     loop-holds
-    shared-slice-read-b
-    sub-depth
+    loop2-holds
+    shared-slice-read-if1
     add-i-2
+    loop2-less
+    loop2-again
+    shared-slice-read-if2
+    sub-depth
+    add-i-3
     loop-less
     loop-again
     add-depth
-    add-i-3
+    add-i-4
     loop-less-2
     loop-again-2
-    add-i-4
-    loop-less-3
-    loop-again-3
     returns)
