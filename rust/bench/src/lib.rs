@@ -9,40 +9,19 @@ pub const AT_HAND: bool = cfg!(has_library);
 pub const HINT: &str =
     "target/staticlib is not complete: run `rt staticlib formatter` and `rt staticlib keywords` in the repository";
 
-/// An answer as the C interface has it.
-#[repr(C)]
-#[derive(Clone, Copy)]
-pub struct CAnswer {
-    pub number: u64,
-    pub value: u64,
-}
+/// The formatter's two functions, declared once: the file is the crate qdesk's own, so that what holds here holds of its calls.
+#[cfg(has_library)]
+#[path = "../../qdesk/src/ffi.rs"]
+mod formatter;
 
 #[cfg(has_library)]
 mod present {
-    use super::CAnswer;
+    use super::formatter;
     use oracle::answers::Answer;
 
     extern "C" {
         fn qdesk_is_keyword(word: *const u8, length: usize) -> bool;
         fn qdesk_is_value_keyword(word: *const u8, length: usize) -> bool;
-        fn qdesk_measure(
-            text: *const u8,
-            text_length: usize,
-            tape: *const u8,
-            tape_length: usize,
-            width: u64,
-            case: u64,
-        ) -> CAnswer;
-        fn qdesk_layout(
-            text: *const u8,
-            text_length: usize,
-            tape: *const u8,
-            tape_length: usize,
-            width: u64,
-            case: u64,
-            out: *mut u8,
-            out_length: usize,
-        ) -> CAnswer;
     }
 
     /// The port's `is_keyword`.
@@ -59,19 +38,16 @@ mod present {
 
     /// The port's measuring.
     pub fn measure(text: &[u8], tape: &[u8], width: u64, case: u64) -> Answer {
-        // Safe: the call asks nothing of its slices.
-        let answer = unsafe { qdesk_measure(text.as_ptr(), text.len(), tape.as_ptr(), tape.len(), width, case) };
-        Answer { number: answer.number, second: answer.value }
+        answer(formatter::measure(text, tape, width, case))
     }
 
     /// The port's laying out.
     pub fn layout(text: &[u8], tape: &[u8], width: u64, case: u64, out: &mut [u8]) -> Answer {
-        let (text, text_length) = (text.as_ptr(), text.len());
-        let (tape, tape_length) = (tape.as_ptr(), tape.len());
-        // Safe: the call asks nothing of its slices, and `out` is lent to nobody else.
-        let answer =
-            unsafe { qdesk_layout(text, text_length, tape, tape_length, width, case, out.as_mut_ptr(), out.len()) };
-        Answer { number: answer.number, second: answer.value }
+        answer(formatter::layout(text, tape, width, case, out))
+    }
+
+    fn answer(given: formatter::Answer) -> Answer {
+        Answer { number: given.number, second: given.value }
     }
 }
 

@@ -1,0 +1,146 @@
+/*
+ * Lays out `select a,b from t` from a tape that is spelt by hand, and shows two refusals. Good C and good C++: scripts/c_example.sh
+ * compiles it as both and holds what it prints to layout.out.
+ */
+#include "qdesk.h"
+
+#include <inttypes.h>
+#include <stdio.h>
+#include <stdlib.h>
+#include <string.h>
+
+enum command { OPEN = 1, TOKEN = 2, CLOSE = 3 };
+
+enum kind {
+    KIND_FILE = 1,
+    KIND_SELECT_STATEMENT = 3,
+    KIND_SELECT_CLAUSE = 34,
+    KIND_FROM_CLAUSE = 35,
+    KIND_TABLE_IDENTIFIER = 98,
+    KIND_COLUMN_REFERENCE = 137,
+    KIND_COLUMN_LIST = 176,
+    KIND_WHITESPACE = 209,
+    KIND_BARE_WORD = 211,
+    KIND_COMMA = 221
+};
+
+struct tape {
+    uint8_t bytes[256];
+    size_t length;
+};
+
+/* Adds a number of so many bytes, low byte first. */
+static void put(struct tape *tape, uint32_t number, size_t count)
+{
+    if (count > sizeof tape->bytes - tape->length) {
+        fputs("layout: the tape is full\n", stderr);
+        exit(1);
+    }
+    for (size_t i = 0; i < count; i++) {
+        tape->bytes[tape->length++] = (uint8_t)(number >> (8 * i));
+    }
+}
+
+/* Adds a command that has a kind and a span. */
+static void put_span(struct tape *tape, enum command command, enum kind kind, uint32_t start, uint32_t end)
+{
+    put(tape, command, 1);
+    put(tape, kind, 2);
+    put(tape, start, 4);
+    put(tape, end, 4);
+}
+
+static void put_close(struct tape *tape)
+{
+    put(tape, CLOSE, 1);
+}
+
+/* Adds a node that holds one word. */
+static void put_name(struct tape *tape, enum kind kind, uint32_t start, uint32_t end)
+{
+    put_span(tape, OPEN, kind, start, end);
+    put_span(tape, TOKEN, KIND_BARE_WORD, start, end);
+    put_close(tape);
+}
+
+/* Spells the tree that a parser makes of `select a,b from t`. */
+static void put_query(struct tape *tape)
+{
+    put_span(tape, OPEN, KIND_FILE, 0, 17);
+    put_span(tape, OPEN, KIND_SELECT_STATEMENT, 0, 17);
+    put_span(tape, OPEN, KIND_SELECT_CLAUSE, 0, 10);
+    put_span(tape, TOKEN, KIND_BARE_WORD, 0, 6);
+    put_span(tape, TOKEN, KIND_WHITESPACE, 6, 7);
+    put_span(tape, OPEN, KIND_COLUMN_LIST, 7, 10);
+    put_name(tape, KIND_COLUMN_REFERENCE, 7, 8);
+    put_span(tape, TOKEN, KIND_COMMA, 8, 9);
+    put_name(tape, KIND_COLUMN_REFERENCE, 9, 10);
+    put_close(tape);
+    put_close(tape);
+    put_span(tape, TOKEN, KIND_WHITESPACE, 10, 11);
+    put_span(tape, OPEN, KIND_FROM_CLAUSE, 11, 17);
+    put_span(tape, TOKEN, KIND_BARE_WORD, 11, 15);
+    put_span(tape, TOKEN, KIND_WHITESPACE, 15, 16);
+    put_name(tape, KIND_TABLE_IDENTIFIER, 16, 17);
+    put_close(tape);
+    put_close(tape);
+    put_close(tape);
+}
+
+/* Measures at width 4, keywords in capitals. */
+static struct qdesk_answer measure(const char *query, const struct tape *tape)
+{
+    return qdesk_measure((const uint8_t *)query, strlen(query), tape->bytes, tape->length, 4, 1);
+}
+
+/* Lays out with the same settings. */
+static struct qdesk_answer lay_out(const char *query, const struct tape *tape, uint8_t *out, size_t out_len)
+{
+    return qdesk_layout((const uint8_t *)query, strlen(query), tape->bytes, tape->length, 4, 1, out, out_len);
+}
+
+static void print_answer(const char *call, struct qdesk_answer answer)
+{
+    if (answer.number == QDESK_ACCEPTED) {
+        printf("%s: accepted, %" PRIu64 " bytes\n", call, answer.value);
+    } else if (answer.number == QDESK_SPACE_TOO_SHORT) {
+        printf("%s: refused (13), %" PRIu64 " bytes are needed\n", call, answer.value);
+    } else {
+        printf("%s: refused (%" PRIu64 ") at %" PRIu64 "\n", call, answer.number, answer.value);
+    }
+}
+
+/* Measures, lends as much space as is needed, and lays out. */
+static void print_layout(const char *query, const struct tape *tape)
+{
+    struct qdesk_answer answer = measure(query, tape);
+    print_answer("measuring", answer);
+    if (answer.number != QDESK_ACCEPTED) {
+        return;
+    }
+    /* One byte more, since an empty layout needs none and `out` may not be null. */
+    uint8_t *out = (uint8_t *)malloc(answer.value + 1);
+    if (out == NULL) {
+        fputs("layout: no memory\n", stderr);
+        exit(1);
+    }
+    answer = lay_out(query, tape, out, answer.value);
+    print_answer("laying out", answer);
+    printf("\n%.*s\n", (int)answer.value, (const char *)out);
+    free(out);
+}
+
+int main(void)
+{
+    const char *query = "select a,b from t";
+    struct tape tape = {{0}, 0};
+    uint8_t short_space[26];
+    put_query(&tape);
+    printf("%s\n\n", query);
+    print_layout(query, &tape);
+
+    print_answer("in 26 bytes", lay_out(query, &tape, short_space, sizeof short_space));
+    tape.length -= 1;
+    print_answer("without the root's close", measure(query, &tape));
+    return 0;
+}

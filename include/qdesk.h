@@ -1,0 +1,84 @@
+/*
+ * Lays out a ClickHouse query, one clause to a line, from its text and its syntax tree: the C interface of libformatter.a, which
+ * `rt staticlib formatter` writes to target/staticlib, for Linux on x86-64.
+ *
+ * What goes in
+ *
+ *   text, text_len   the query: at most 262,144 bytes, each 0 to 127
+ *   tape, tape_len   its syntax tree: at most 262,144 bytes of commands, their operands low byte first
+ *                      01 opens a node: kind (2 bytes), start (4), end (4)
+ *                      02 is a token: the same operands
+ *                      03 closes the innermost open node
+ *                    with one root node, and at most 64 nodes open at once. Start and end are offsets in the text: a token's text is from
+ *                    start up to, not including, end. A kind's number is its place in clickhouse-analyzer's SyntaxKind, from 0
+ *                    (crates/tape/src/syntax_kind.rt has them all)
+ *   width            blanks for each level of indent, 0 to 16
+ *   case_byte        the case of keywords, 0 lower or 1 upper
+ *   out, out_len     the output space
+ *
+ * Nothing of this is asked beforehand: the calls check it, and what is wrong is refused. The caller answers for the memory alone:
+ *
+ *   - each pointer is valid for its length, and not null, even where the length is 0
+ *   - `out` overlaps neither `text` nor `tape`; during the call nobody else touches `out` or writes to the other two
+ *
+ * What comes out
+ *
+ * For each input there is one answer, and it is proved that the calls give it (docs/PROOFS.md): 0 and the length of the layout, or the
+ * number of a refusal and its place. The layout ends in a newline unless it is empty, and has no 0 byte after it.
+ *
+ *   - An accepted layout of length L is in the first L bytes of `out`. Later bytes stay as they were.
+ *   - A refusal writes no byte. Measuring never writes.
+ *
+ * The calls use no heap and keep no state: any number of threads may make them at once. Their stack is that of 64 nested nodes; 128 KiB
+ * are enough for it (by tests, not by proof).
+ */
+#ifndef QDESK_H
+#define QDESK_H
+
+#include <stddef.h>
+#include <stdint.h>
+
+#ifdef __cplusplus
+extern "C" {
+#endif
+
+struct qdesk_answer {
+    uint64_t number; /* one of enum qdesk_number */
+    uint64_t value;  /* a length or a place, as stands there; 0 where nothing does */
+};
+
+/*
+ * 1 to 5 are tried in that order. Then the tape is read from its start, and the first faulty command decides; within one, the order is
+ * 6, 7, 12, 8, 9, 10, 11. 13 comes last. The value of 6 to 12 is the faulty command's offset in the tape.
+ */
+enum qdesk_number {
+    QDESK_ACCEPTED = 0,         /* value: the layout's length */
+    QDESK_INDENT_WIDTH = 1,     /* width above 16 */
+    QDESK_CASE_BYTE = 2,        /* case byte above 1 */
+    QDESK_TEXT_TOO_LONG = 3,    /* text above 262,144 bytes */
+    QDESK_NOT_ASCII = 4,        /* a byte of the text above 127; value: the first one's offset in the text */
+    QDESK_TAPE_TOO_LONG = 5,    /* tape above 262,144 bytes */
+    QDESK_UNKNOWN_COMMAND = 6,  /* command not 01 to 03 */
+    QDESK_CUT_COMMAND = 7,      /* command cut by the tape's end */
+    QDESK_UNKNOWN_KIND = 8,     /* kind number past the last kind */
+    QDESK_KIND_NOT_CARRIED = 9, /* node of a kind that is not carried */
+    QDESK_SPAN_OUTSIDE = 10,    /* token with start above end; token, or node with start not above end, whose end passes the text */
+    QDESK_TOO_DEEP = 11,        /* a 65th node opened */
+    QDESK_NOT_ONE_ROOT = 12,    /* token or close with no node open; any command after the root's close; tape ends with no finished
+                                   root (value: the tape's length) */
+    QDESK_SPACE_TOO_SHORT = 13, /* output space below the needed length (laying out only); value: the needed length */
+};
+
+/* The length of the layout, or a refusal among 1 to 12. */
+struct qdesk_answer qdesk_measure(const uint8_t *text, size_t text_len, const uint8_t *tape, size_t tape_len, uint64_t width,
+                                  uint64_t case_byte);
+
+/* The same, and the layout in `out`; or a refusal among 1 to 13. */
+struct qdesk_answer qdesk_layout(const uint8_t *text, size_t text_len, const uint8_t *tape, size_t tape_len, uint64_t width,
+                                 uint64_t case_byte, uint8_t *out, size_t out_len);
+
+#ifdef __cplusplus
+}
+#endif
+
+#endif

@@ -1,0 +1,136 @@
+//! Why a call was refused, and where.
+
+use crate::ffi::Answer;
+use std::fmt;
+
+/// The refusals, each with its number.
+///
+/// 1 to 5 are tried in that order. Then the tape is read from its start, and the first faulty command decides; within one, the order is
+/// 6, 7, 12, 8, 9, 10, 11. 13 comes last.
+#[derive(Clone, Copy, Debug, PartialEq, Eq)]
+#[non_exhaustive]
+pub enum Refusal {
+    /// The indent width is above 16.
+    IndentWidth = 1,
+    /// The case is above 1.
+    CaseByte = 2,
+    /// The text is longer than [`MOST_BYTES`](crate::MOST_BYTES).
+    TextTooLong = 3,
+    /// A byte of the text is above 127. Its place is the first one's offset in the text.
+    NotAscii = 4,
+    /// The tape is longer than [`MOST_BYTES`](crate::MOST_BYTES).
+    TapeTooLong = 5,
+    /// A command is not 01, 02 or 03.
+    UnknownCommand = 6,
+    /// A command is cut by the tape's end.
+    CutCommand = 7,
+    /// A kind's number is past the last kind's.
+    UnknownKind = 8,
+    /// A node is of a kind that is not carried.
+    KindNotCarried = 9,
+    /// A token starts after its end; or a token, or a node that does not start after its end, ends past the text.
+    SpanOutside = 10,
+    /// A 65th node is opened.
+    TooDeep = 11,
+    /// A token or close with no node open, or any command after the root's close; or the tape ends with no finished root, and the place
+    /// is its length.
+    NotOneRoot = 12,
+    /// The output space is too short for the layout. In place of a place stands the needed length.
+    SpaceTooShort = 13,
+}
+
+impl Refusal {
+    /// Every refusal in the order of the numbers, from 1.
+    pub const ALL: &'static [Refusal] = &[
+        Refusal::IndentWidth,
+        Refusal::CaseByte,
+        Refusal::TextTooLong,
+        Refusal::NotAscii,
+        Refusal::TapeTooLong,
+        Refusal::UnknownCommand,
+        Refusal::CutCommand,
+        Refusal::UnknownKind,
+        Refusal::KindNotCarried,
+        Refusal::SpanOutside,
+        Refusal::TooDeep,
+        Refusal::NotOneRoot,
+        Refusal::SpaceTooShort,
+    ];
+
+    fn words(self) -> &'static str {
+        match self {
+            Refusal::IndentWidth => "indent width above 16",
+            Refusal::CaseByte => "case above 1",
+            Refusal::TextTooLong => "text longer than 262,144 bytes",
+            Refusal::NotAscii => "text byte above 127",
+            Refusal::TapeTooLong => "tape longer than 262,144 bytes",
+            Refusal::UnknownCommand => "command is not 01, 02 or 03",
+            Refusal::CutCommand => "command cut by the tape's end",
+            Refusal::UnknownKind => "kind number past the last kind",
+            Refusal::KindNotCarried => "node of a kind that is not carried",
+            Refusal::SpanOutside => "token or node ends past the text, or token starts after its end",
+            Refusal::TooDeep => "65th node opened",
+            Refusal::NotOneRoot => "command outside the root node, or root not closed",
+            Refusal::SpaceTooShort => "output space too short",
+        }
+    }
+}
+
+/// A refused call: which refusal it was, and its place.
+///
+/// ```
+/// use qdesk::{measure, Case, Refusal, Settings};
+///
+/// let close_alone = [3];
+/// let error = measure(b"", &close_alone, Settings { indent_width: 4, case: Case::UPPER }).unwrap_err();
+/// assert_eq!(error.refusal(), Refusal::NotOneRoot);
+/// assert_eq!((error.number(), error.place()), (12, 0));
+/// assert_eq!(error.to_string(), "command outside the root node, or root not closed (refusal 12) at tape offset 0");
+/// ```
+#[derive(Clone, Copy, Debug, PartialEq, Eq)]
+pub struct Error {
+    refusal: Refusal,
+    place: u64,
+}
+
+impl Error {
+    /// The refusal that the library's answer names.
+    ///
+    /// A number that this crate does not know is nothing a caller could act on: library and crate are of two versions.
+    pub(crate) fn of(answer: Answer) -> Error {
+        let refusal = Refusal::ALL.iter().find(|refusal| **refusal as u64 == answer.number);
+        let refusal = refusal.unwrap_or_else(|| {
+            panic!("libformatter.a answers {}, which this crate does not know: are both of one version?", answer.number)
+        });
+        Error { refusal: *refusal, place: answer.value }
+    }
+
+    /// Which refusal it was.
+    pub fn refusal(self) -> Refusal {
+        self.refusal
+    }
+
+    /// The refusal's number, 1 to 13.
+    pub fn number(self) -> u64 {
+        self.refusal as u64
+    }
+
+    /// An offset in the text for 4, the faulty command's offset in the tape for 6 to 12, the needed length for 13, else 0.
+    pub fn place(self) -> u64 {
+        self.place
+    }
+}
+
+impl fmt::Display for Error {
+    fn fmt(&self, f: &mut fmt::Formatter<'_>) -> fmt::Result {
+        write!(f, "{} (refusal {})", self.refusal.words(), self.number())?;
+        match self.number() {
+            4 => write!(f, " at text offset {}", self.place),
+            6..=12 => write!(f, " at tape offset {}", self.place),
+            13 => write!(f, ": {} bytes are needed", self.place),
+            _ => Ok(()),
+        }
+    }
+}
+
+impl std::error::Error for Error {}

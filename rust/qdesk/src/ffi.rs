@@ -1,0 +1,44 @@
+//! The two C functions of libformatter.a, and all the unsafe code there is.
+
+/// An answer as the library gives it: 0 and a length, or a refusal's number and its place.
+#[repr(C)]
+pub struct Answer {
+    pub number: u64,
+    pub value: u64,
+}
+
+extern "C" {
+    fn qdesk_measure(
+        text: *const u8,
+        text_length: usize,
+        tape: *const u8,
+        tape_length: usize,
+        width: u64,
+        case: u64,
+    ) -> Answer;
+
+    fn qdesk_layout(
+        text: *const u8,
+        text_length: usize,
+        tape: *const u8,
+        tape_length: usize,
+        width: u64,
+        case: u64,
+        out: *mut u8,
+        out_length: usize,
+    ) -> Answer;
+}
+
+pub fn measure(text: &[u8], tape: &[u8], width: u64, case: u64) -> Answer {
+    // SAFETY: the function asks nothing of the bytes and numbers. Both pointers come from slices, so they are not null, even where a
+    // length is 0, and valid for reads of their lengths throughout the call; the function keeps neither.
+    unsafe { qdesk_measure(text.as_ptr(), text.len(), tape.as_ptr(), tape.len(), width, case) }
+}
+
+pub fn layout(text: &[u8], tape: &[u8], width: u64, case: u64, out: &mut [u8]) -> Answer {
+    let (text, text_length) = (text.as_ptr(), text.len());
+    let (tape, tape_length) = (tape.as_ptr(), tape.len());
+    let (out, out_length) = (out.as_mut_ptr(), out.len());
+    // SAFETY: as for measuring. `out` is valid for writes of its length, and a slice lent mutably overlaps no other.
+    unsafe { qdesk_layout(text, text_length, tape, tape_length, width, case, out, out_length) }
+}

@@ -1,0 +1,122 @@
+//! Lays out a ClickHouse query, one clause to a line, from its text and its syntax tree: the safe Rust door to the proved library
+//! libformatter.a.
+//!
+//! The tree comes as a *tape*, a row of commands; [`TapeBuilder`] spells one. [`measure`] says how long the layout is, [`layout`] writes
+//! it into a lent space, [`layout_to_vec`] does both.
+//!
+//! ```
+//! use qdesk::{layout_to_vec, Case, Kind, Settings, TapeBuilder};
+//!
+//! let mut tape = TapeBuilder::new();
+//! tape.open(Kind::BinaryExpression, 0..3)?;
+//! tape.open(Kind::ColumnReference, 0..1)?.token(Kind::BareWord, 0..1)?.close()?;
+//! tape.token(Kind::Equals, 1..2)?.token(Kind::Number, 2..3)?.close()?;
+//!
+//! let settings = Settings { indent_width: 4, case: Case::UPPER };
+//! assert_eq!(layout_to_vec(b"a=1", &tape.finish()?, settings)?, b"a = 1\n");
+//! # Ok::<(), Box<dyn std::error::Error>>(())
+//! ```
+//!
+//! Any bytes and any numbers may be passed: each call has one answer, a length or a refusal ([`Error`]), and which one is proved. The calls
+//! keep no state, so that any number of threads may make them at once; [`measure`] and [`layout`] use no heap. Only a library of another
+//! version than this crate could answer with a number that is unknown here, and the call would end in a panic that says so.
+
+#![deny(unsafe_code)]
+#![warn(missing_docs)]
+
+mod error;
+#[allow(unsafe_code)]
+mod ffi;
+mod kind;
+mod tape;
+
+pub use error::{Error, Refusal};
+pub use kind::Kind;
+pub use tape::{TapeBuilder, TapeError, MOST_BYTES, MOST_OPEN};
+
+/// The settings of a layout. Both are always the caller's: there is no default.
+///
+/// Both are plain 64-bit numbers, as the library takes them, and it is the library that refuses the wrong ones (1 and 2). A narrower type
+/// would hide two proved refusals behind checks of this crate that nobody proved.
+#[derive(Clone, Copy, Debug, PartialEq, Eq)]
+pub struct Settings {
+    /// Blanks for each level of indent, 0 to 16.
+    pub indent_width: u64,
+    /// The case of keywords.
+    pub case: Case,
+}
+
+/// The case in which keywords are written: [`Case::LOWER`] or [`Case::UPPER`]; any other number is refused (2).
+#[derive(Clone, Copy, Debug, PartialEq, Eq)]
+pub struct Case(pub u64);
+
+impl Case {
+    /// Small letters.
+    pub const LOWER: Case = Case(0);
+    /// Capitals.
+    pub const UPPER: Case = Case(1);
+}
+
+/// The length of the layout in bytes.
+///
+/// ```
+/// use qdesk::{measure, Case, Kind, Settings, TapeBuilder};
+///
+/// let mut tape = TapeBuilder::new();
+/// tape.open(Kind::ColumnReference, 0..4)?.token(Kind::BareWord, 0..4)?.close()?;
+/// assert_eq!(measure(b"name", &tape.finish()?, Settings { indent_width: 4, case: Case::LOWER })?, 5);
+/// # Ok::<(), Box<dyn std::error::Error>>(())
+/// ```
+///
+/// # Errors
+///
+/// Refusals 1 to 12.
+pub fn measure(text: &[u8], tape: &[u8], settings: Settings) -> Result<usize, Error> {
+    length(ffi::measure(text, tape, settings.indent_width, settings.case.0))
+}
+
+/// Writes the layout to the front of `out` and says how long it is. Later bytes of `out` stay as they were; so do all on a refusal.
+///
+/// ```
+/// use qdesk::{layout, Case, Kind, Refusal, Settings, TapeBuilder};
+///
+/// let mut tape = TapeBuilder::new();
+/// tape.open(Kind::ColumnReference, 0..4)?.token(Kind::BareWord, 0..4)?.close()?;
+/// let tape = tape.finish()?;
+/// let settings = Settings { indent_width: 4, case: Case::UPPER };
+///
+/// let mut out = *b"........";
+/// assert_eq!(layout(b"name", &tape, settings, &mut out)?, 5);
+/// assert_eq!(&out, b"name\n...");
+///
+/// let error = layout(b"name", &tape, settings, &mut out[..4]).unwrap_err();
+/// assert_eq!((error.refusal(), error.place()), (Refusal::SpaceTooShort, 5));
+/// # Ok::<(), Box<dyn std::error::Error>>(())
+/// ```
+///
+/// # Errors
+///
+/// Refusals 1 to 13.
+pub fn layout(text: &[u8], tape: &[u8], settings: Settings, out: &mut [u8]) -> Result<usize, Error> {
+    length(ffi::layout(text, tape, settings.indent_width, settings.case.0, out))
+}
+
+/// The layout in a vector of its length.
+///
+/// With indents, a tape within the limits can ask for gigabytes: who takes tapes from strangers calls [`measure`] first.
+///
+/// # Errors
+///
+/// Refusals 1 to 12.
+pub fn layout_to_vec(text: &[u8], tape: &[u8], settings: Settings) -> Result<Vec<u8>, Error> {
+    let mut out = vec![0; measure(text, tape, settings)?];
+    layout(text, tape, settings, &mut out)?;
+    Ok(out)
+}
+
+fn length(answer: ffi::Answer) -> Result<usize, Error> {
+    match answer.number {
+        0 => Ok(usize::try_from(answer.value).expect("a length fits 64 bits, which this machine has")),
+        _ => Err(Error::of(answer)),
+    }
+}
