@@ -137,6 +137,8 @@ fn rest_leaves_nodes_open() {
         push_close(tape);
     });
     assert_spells("\nFile\n  File\n    BareWord \"a\"\n  rest\n", &open);
+    let all_open = &open[..open.len() - 1];
+    assert_spells("\nFile\n  File\n    BareWord \"a\"\n    rest\n", all_open);
 }
 
 #[test]
