@@ -1,0 +1,61 @@
+//! The program: both ways on standard input and output, and that a fault gets a message, status 2 and no output.
+
+use std::io::Write;
+use std::process::{Command, Output, Stdio};
+
+const FORM: &[u8] = b"width 4\ncase upper\n\nFile\n  BareWord \"a\"\n";
+const JOB: &[u8] =
+    &[0x10, 4, 0x11, 1, 0x12, 1, 0, 0, 0, b'a', 1, 1, 0, 0, 0, 0, 0, 1, 0, 0, 0, 2, 211, 0, 0, 0, 0, 0, 1, 0, 0, 0, 3];
+
+fn program(arguments: &[&str], input: &[u8]) -> Output {
+    let mut child = Command::new(env!("CARGO_BIN_EXE_job"))
+        .args(arguments)
+        .stdin(Stdio::piped())
+        .stdout(Stdio::piped())
+        .stderr(Stdio::piped())
+        .spawn()
+        .expect("the program starts");
+    // A program that refuses its arguments may end before it reads.
+    let _ = child.stdin.take().expect("a pipe").write_all(input);
+    child.wait_with_output().expect("the program ends")
+}
+
+fn assert_writes(arguments: &[&str], input: &[u8], expected: &[u8]) {
+    let output = program(arguments, input);
+    assert_eq!((output.status.code(), output.stdout.as_slice()), (Some(0), expected));
+    assert!(output.stderr.is_empty());
+}
+
+fn assert_refused(arguments: &[&str], input: &[u8], message: &str) {
+    let output = program(arguments, input);
+    let errors = String::from_utf8(output.stderr).unwrap();
+    assert_eq!(output.status.code(), Some(2), "{errors}");
+    assert!(errors.starts_with(message), "{errors}");
+    assert!(output.stdout.is_empty(), "{message}");
+}
+
+#[test]
+fn both_ways() {
+    assert_writes(&["to-bytes"], FORM, JOB);
+    assert_writes(&["to-text"], JOB, FORM);
+}
+
+#[test]
+fn a_fault_gets_a_message_and_status_2() {
+    let form = b"width 4\ncase upper\n\nFile\n  BareWord \"a\"\n  BareWrd \"b\"\n";
+    assert_refused(&["to-bytes"], form, "job: line 6, column 3: no kind is named BareWrd\n");
+    assert_refused(&["to-text"], &JOB[..9], "job: byte 4: expected command 12 (hexadecimal), ");
+}
+
+#[test]
+fn a_bad_call_gets_the_usage_and_status_2() {
+    for arguments in [&[][..], &["to-json"], &["to-bytes", "file"], &["to-text", "file"], &["--help", "me"]] {
+        assert_refused(arguments, b"", "job: usage: job to-bytes < FORM > JOB ");
+    }
+}
+
+#[test]
+fn help_is_written_on_standard_output() {
+    let output = program(&["--help"], b"");
+    assert!(output.status.success() && output.stdout.starts_with(b"usage: job to-bytes < FORM > JOB "));
+}
