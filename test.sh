@@ -1,12 +1,14 @@
 #!/bin/sh
-# Passes the tests: builds the desk's program and the static libraries, runs the stored jobs and the Rust tests on them, then proves everything
-# from nothing.
-# Its last line is rt's 'N passed, 0 failed'. Needs rt, cargo and rustc; nothing is fetched.
+# Passes the tests: builds the desk's program and the static libraries, runs the stored jobs, the Rust tests, the examples and the commands of
+# README.md on them, then proves everything from nothing.
+# Its last line is rt's 'N passed, 0 failed'. Needs rt, cargo, rustc, cc and c++; nothing is fetched.
 set -eu
 cd "$(dirname "$0")"
 rt check desk
 sh scripts/desk_runs.sh
 rt staticlib keywords
 rt staticlib formatter
-cargo test --offline --quiet --manifest-path rust/Cargo.toml
+cargo test --offline --quiet --manifest-path rust/Cargo.toml --workspace
+sh scripts/examples.sh
+sh scripts/readme_commands.sh
 rt ci

@@ -5,6 +5,7 @@ use mathlib.Core.List.{List, [], _∷_, _++_}
 use lib.ListN.{length, getD, take, drop}
 use lib.Dec.{leb, ltb, eqb}
 use Rattle.context.specs.Cells.{bytesOf}
+use Rattle.keywords.specs.Words.{bytes}
 use Rattle.tape.specs.Faults.{number}
 use Rattle.layout.specs.Layout.{original}
 use Rattle.layout.specs.Outcome.{Outcome, refusal, laid, outcome}
@@ -37,8 +38,7 @@ decimal (suc places) n = cond (ltb n 10) ((48 + n) ∷ []) (decimal places (n / 
 
 -- refused N at P, and a newline; a number of 64 bits has at most 20 digits
 unfoldable pub refusedLine : ℕ → ℕ → List ℕ
-refusedLine n p =
-    (114 ∷ 101 ∷ 102 ∷ 117 ∷ 115 ∷ 101 ∷ 100 ∷ 32 ∷ []) ++ decimal 20 n ++ (32 ∷ 97 ∷ 116 ∷ 32 ∷ []) ++ decimal 20 p ++ (10 ∷ [])
+refusedLine n p = bytes "refused " ++ decimal 20 n ++ bytes " at " ++ decimal 20 p ++ (10 ∷ [])
 
 -- 1 to 12, else the layout if it fits into so many bytes, else 13
 unfoldable pub printedOutcome : Outcome → ℕ → List ℕ

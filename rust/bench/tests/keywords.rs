@@ -95,3 +95,17 @@ fn a_byte_above_127_makes_no_keyword() {
         }
     }
 }
+
+/// The list of the definition, and the table of the code with its comments, have the source's entries in the source's order.
+#[test]
+fn the_lists_keep_the_sources_order() {
+    if !source::at_hand_for("the_lists_keep_the_sources_order") {
+        return;
+    }
+    let names = include_str!("../../../crates/keywords/specs/Names.antt");
+    let quoted: Vec<&str> = names.split('"').skip(1).step_by(2).collect();
+    assert_eq!(quoted, source::keywords());
+    let code = include_str!("../../../crates/keywords/src/lib.rt");
+    let arms: Vec<&str> = code.lines().filter_map(|line| line.split_once(", // ")).map(|(_, word)| word).collect();
+    assert_eq!(arms, source::keywords());
+}

@@ -1,0 +1,133 @@
+#!/usr/bin/env python3
+"""Writes what follows from the keyword list (crates/keywords/specs/Names.antt): the arms of `shift_of` and `code_at` in src/lib.rt, `shifts`
+in specs/Index.antt, and the proofs of the two functions. Nothing rests on it: the check says whether they agree. Run it after a change of
+the list, then `rt fmt`."""
+
+import re
+import textwrap
+from pathlib import Path
+
+CRATE = Path(__file__).resolve().parent.parent / "crates" / "keywords"
+
+
+def letter(word, i):
+    return ord(word[i]) % 32
+
+
+def bucket(word):
+    return (letter(word, 0) + 4 * len(word)) % 64
+
+
+def unshifted(word):
+    return 2 * letter(word, 1) + 5 * letter(word, len(word) // 2) + letter(word, len(word) - 1)
+
+
+def code(word):
+    return sum((ord(b) - 64) * 32**i for i, b in enumerate(word))
+
+
+def shifts(words):
+    """Hash and displace: each bucket, the largest first, gets the least shift that leads to keys which are still free."""
+    buckets = {}
+    for word in words:
+        buckets.setdefault(bucket(word), []).append(word)
+    taken, found = set(), {}
+    for b in sorted(buckets, key=lambda b: (-len(buckets[b]), b)):
+        for shift in range(256):
+            keys = {(unshifted(word) + shift) % 256 for word in buckets[b]}
+            if len(keys) == len(buckets[b]) and not keys & taken:
+                found[b] = shift
+                taken |= keys
+                break
+        else:
+            raise SystemExit(f"no shift for bucket {b}: the key needs other letters")
+    return found
+
+
+def replaced(text, pattern, new):
+    """The text with the one match of the pattern, between its two groups, replaced."""
+    result, count = re.subn(pattern, lambda m: m.group(1) + new + m.group(2), text, flags=re.S)
+    if count != 1:
+        raise SystemExit(f"{count} places for {pattern}")
+    return result
+
+
+def rewrite(path, changes):
+    text = path.read_text()
+    for pattern, new in changes:
+        text = replaced(text, pattern, new)
+    path.write_text(text)
+
+
+def listed(items):
+    return " ∷ ".join([*map(str, items), "[]"])
+
+
+def proof(function, argument, uses, unfolding, table, arms, answer):
+    """The proof of a `match`: one equation for each arm, and one for the rest."""
+    name = function.replace("_", "-")
+    needs = ["returns"] + [f"returns-{i}" for i in range(2, len(arms) + 2)]
+    lines = [
+        f"-- `keywords::{function}` meets its contract: each arm against the list of the definition. Assumes nothing.",
+        "use mathlib.Core.List.{[], _∷_}",
+        "use mathlib.Core.Path.{refl}",
+        *uses,
+        "use Rattle.keywords.proofs.Matches.{arm-is, other-is}",
+        f"use Rattle.keywords.proofs.{function}.Statement.{{statement}}",
+        f"use Rattle.keywords.proofs.{function}.Tie as tie",
+    ]
+    for i, ((key, value), need) in enumerate(zip(arms, needs), start=1):
+        arm = f"arm-is {table} {key} {value} (c .before .args .{argument}) (c .match .keys{i}) refl"
+        lines += ["", f"{need} : tie.Need-{need}", f"unfolding {unfolding}", f"{need} c = {answer(arm)}"]
+    keys = listed(key for key, _ in reversed(arms))
+    rest = f"other-is ({keys}) (c .before .args .{argument}) (c .match .rest) {table} refl"
+    lines += ["", f"{needs[-1]} : tie.Need-{needs[-1]}", f"unfolding {unfolding}", f"{needs[-1]} c = {answer(rest)}"]
+    lines += ["", f"pub {name}-spec : {{M : Type 1}} → statement M", f"{name}-spec =", "    tie.close", "    (tie.spec"]
+    lines += [f"    {need}" for need in needs]
+    (CRATE / "proofs" / function / "Proof.antt").write_text("\n".join(lines) + ")\n")
+
+
+def main():
+    words = re.findall(r'"([A-Z]+)"', (CRATE / "specs" / "Names.antt").read_text())
+    shift = shifts(words)
+    shift_arms = sorted((b, s) for b, s in shift.items() if s)
+    code_arms = [((unshifted(word) + shift[bucket(word)]) % 256, code(word)) for word in words]
+    rewrite(
+        CRATE / "src" / "lib.rt",
+        [
+            (r"(    match bucket \{\n).*?(        _ => 0,\n)", "".join(f"        {b} => {s},\n" for b, s in shift_arms)),
+            (
+                r"(    match key \{\n).*?(        _ => 0,\n)",
+                "".join(f"        {k} => {c}, // {word}\n" for (k, c), word in zip(code_arms, words)),
+            ),
+        ],
+    )
+    pairs = textwrap.wrap(listed(shift_arms), width=136)
+    rewrite(CRATE / "specs" / "Index.antt", [(r"(\nshifts =\n).*?(\n\n)", "\n".join("    " + line for line in pairs))])
+    index = "use Rattle.keywords.specs.Index."
+    proof(
+        "shift_of",
+        "bucket",
+        ["use native.Mathlib.Omega.{arith}", index + "{find, shifts}"],
+        "find shifts",
+        "shifts",
+        shift_arms,
+        lambda equation: f"({equation}, omega arith)",
+    )
+    proof(
+        "code_at",
+        "key",
+        [
+            "use Rattle.keywords.specs.Names.{names}",
+            "use Rattle.keywords.specs.Words.{words}",
+            index + "{code, codes, find, key, shifts}",
+        ],
+        "names words code codes find key shifts",
+        "(codes words)",
+        code_arms,
+        lambda equation: equation,
+    )
+
+
+if __name__ == "__main__":
+    main()

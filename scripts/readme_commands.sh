@@ -1,0 +1,29 @@
+#!/bin/sh
+# Runs each command of README.md (a line that begins with four blanks and a dollar sign) as it is printed there, and holds what it prints to
+# the lines below it, where there are any.
+set -eu
+cd "$(dirname "$0")/.."
+folder=$(mktemp -d)
+trap 'rm -rf "$folder"' EXIT
+
+# Each command to N.command, and the block of lines below it to N.expected.
+awk -v folder="$folder" '
+    /^    \$ / { n++; print substr($0, 7) > (folder "/" n ".command"); below = 1; next }
+    /^    / && below { print substr($0, 5) > (folder "/" n ".expected"); next }
+    { below = 0 }
+' README.md
+
+n=0
+while [ -f "$folder/$((n + 1)).command" ]; do
+    n=$((n + 1))
+    if ! sh "$folder/$n.command" > "$folder/printed"; then
+        echo "README: fails: $(cat "$folder/$n.command")" >&2
+        exit 1
+    fi
+    if [ -f "$folder/$n.expected" ] && ! diff -u "$folder/$n.expected" "$folder/printed"; then
+        echo "README: prints something else: $(cat "$folder/$n.command")" >&2
+        exit 1
+    fi
+done
+echo "README: $n commands run as printed"
+[ "$n" -gt 0 ]
