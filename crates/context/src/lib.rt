@@ -65,18 +65,14 @@ pub fn token_text(source: &[u8], start: usize, end: usize) -> &[u8]
 }
 
 impl State {
-    // How many blanks stand before a token.
+    // How many blanks stand before a token. A choice between two numbers, since the machine can't guess which way a test would go.
     fn lead_blanks(self, config: FormatConfig) -> usize
         requires { ⌜ (self .«indent_level» ≤ 2 ^ 20) × (config .«indent_width» ≤ 16) ⌝ }
         ensures { λ r. ⌜ (bytesOf (lead config self) ≡ replicate r 32) × (r ≤ 2 ^ 24) ⌝ }
     {
-        if self.at_line_start {
-            return self.indent_level * config.indent_width;
-        }
-        if self.needs_space {
-            return 1;
-        }
-        0
+        let indent = self.indent_level * config.indent_width;
+        let blank = self.needs_space as usize;
+        if self.at_line_start { indent } else { blank }
     }
 
     fn after_write(mut self, line_start: bool) -> State
@@ -224,11 +220,8 @@ impl FormatterContext {
         ensures { λ r. ⌜ Changed 0 (writeSpace (self .state)) self r ⌝ }
     {
         let s = self.state;
-        if s.at_line_start {
-            return self;
-        }
         let mut next = s;
-        next.needs_space = true;
+        next.needs_space = s.needs_space | !s.at_line_start;
         let p = self.position;
         FormatterContext {
             state: next,
@@ -240,19 +233,11 @@ impl FormatterContext {
         ensures { λ r. ⌜ Changed 0 (noteSkippedWhitespace (now (text .entry)) (self .state)) self r ⌝ }
     {
         let n = buffer::count_newlines(text);
-        if n < 1 {
-            return self;
-        }
         let p = self.position;
-        let mut next = self.state;
-        next.pending_newline = true;
-        if n < 2 {
-            return FormatterContext {
-                state: next,
-                position: p,
-            };
-        }
-        next.pending_blank_line = true;
+        let s = self.state;
+        let mut next = s;
+        next.pending_newline = (1 <= n) | s.pending_newline;
+        next.pending_blank_line = (2 <= n) | s.pending_blank_line;
         FormatterContext {
             state: next,
             position: p,

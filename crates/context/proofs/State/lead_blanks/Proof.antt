@@ -1,11 +1,14 @@
--- `context::State::lead_blanks` meets its contract, by the tests that lead to each answer. Assumes nothing.
-use mathlib.Core.Path.{_≡_}
-use mathlib.Core.Bool.{true, false}
-use Prim.Native.Nat.{_*_}
+-- `context::State::lead_blanks` meets its contract, by the test that leads to each answer. Assumes nothing.
+use mathlib.Core.Path.{_≡_, refl}
+use mathlib.Core.Bool.{Bool, true, false, cond}
+use mathlib.Core.List.{[], _∷_}
+use Prim.Native.Nat.{_*_, _^_, _≤_}
+use mir.Val.{boolByte}
 use native.Mathlib.Omega.{arith}
 use native.Mathlib.Nat.{mul-le-mul}
 use lib.ListN.{replicate}
-use Rattle.context.specs.Cells.{bytesOf}
+use borrow.Author.Needs.{needs}
+use Rattle.context.specs.Cells.{bytesOf, fresh}
 use Rattle.context.specs.Context.{lead}
 use Rattle.context.specs.declared.FormatConfig.{FormatConfig}
 use Rattle.context.specs.declared.State.{State}
@@ -18,27 +21,35 @@ module _ (config : FormatConfig) (s : State) where
   unfolding lead
   at-start e = rw e (bytes-blanks (s .«indent_level» * config .«indent_width»))
 
-  wanted : s .«at_line_start» ≡ false → s .«needs_space» ≡ true → bytesOf (lead config s) ≡ replicate 1 32
+  within : s .«at_line_start» ≡ false → bytesOf (lead config s) ≡ replicate (boolByte (s .«needs_space»)) 32
   unfolding lead
-  wanted e f = rw (e, f)
+  within e = rw e (go (s .«needs_space»))
+    where
+      go : (b : Bool) → bytesOf (cond b (fresh 32 ∷ []) []) ≡ replicate (boolByte b) 32
+      go true = refl
+      go false = refl
 
-  none : s .«at_line_start» ≡ false → s .«needs_space» ≡ false → bytesOf (lead config s) ≡ replicate 0 32
-  unfolding lead
-  none e f = rw (e, f)
+one : (b : Bool) → boolByte b ≤ 2 ^ 24
+one true = omega arith
+one false = omega arith
 
-mul-result : tie.Need-mul-result
-mul-result c =
-    let h = mul-le-mul (c .before .before .before .pre .0) (c .before .before .before .pre .1) in
+mul-indent : tie.Need-mul-indent
+mul-indent c =
+    let h = mul-le-mul (c .before .before .pre .0) (c .before .before .pre .1) in
     omega arith
 
+cast-blank : tie.Need-cast-blank
+cast-blank c = search needs
+
 returns : tie.Need-returns
-returns c = (at-start (c .before .before .before .args .config) (c .before .before .before .args .self) (c .before .before .if1 .taken), mul-le-mul (c .before .before .before .pre .0) (c .before .before .before .pre .1))
+returns c =
+    let b = c .before .before .before .before in
+    (at-start (b .args .config) (b .args .self) (c .if1 .taken), mul-le-mul (b .pre .0) (b .pre .1))
 
 returns-2 : tie.Need-returns-2
-returns-2 c = (wanted (c .before .before .args .config) (c .before .before .args .self) (c .before .if1 .left) (c .if2 .taken), omega arith)
-
-returns-3 : tie.Need-returns-3
-returns-3 c = (none (c .before .before .args .config) (c .before .before .args .self) (c .before .if1 .left) (c .if2 .left), omega arith)
+returns-2 c =
+    let a = c .before .before .before .before .args in
+    (within (a .config) (a .self) (c .if1 .left), one (a .self .«needs_space»))
 
 pub lead-blanks-spec : {M : Type 1} → statement M
-lead-blanks-spec = tie.close (tie.spec mul-result returns returns-2 returns-3)
+lead-blanks-spec = tie.close (tie.spec mul-indent cast-blank returns returns-2)
