@@ -1,7 +1,7 @@
 //! One call of the port held to the oracle: both numbers of both answers, and every byte of the output space and of the margins around it.
 
 use crate::{layout, measure};
-use oracle::answers::{accepted_tree, answer, formatted, Answer, Case};
+use oracle::answers::{accepted_tree, answer, formatted, Answer, Answered, Case};
 use oracle::cases::{make, Class, Made};
 use oracle::masking::Pair;
 
@@ -25,8 +25,6 @@ pub fn compare(seed: u64, class: Class, index: u64) -> Result<(), String> {
 
 /// Measuring, and laying out in the case's own space and in spaces of L, L-1, L+5 and 0 bytes.
 fn call(case: &Case) -> Result<(), String> {
-    let expected = answer(case).measured;
-    equal("measuring", measure(&case.text, &case.tape, case.width, case.case), expected)?;
     in_space(case)?;
     let needed = formatted(case).map_or(5, |output| output.len());
     for length in [needed, needed.saturating_sub(1), needed + 5, 0] {
@@ -40,18 +38,26 @@ fn pattern(length: usize) -> Vec<u8> {
     (0..length).map(|i| 128 + (i * 37 % 128) as u8).collect()
 }
 
-fn in_space(case: &Case) -> Result<(), String> {
-    let expected = answer(case);
+/// What the port's two calls answer, and the space afterwards; the error is that a margin was touched.
+pub fn answered(case: &Case) -> Result<Answered, String> {
     let margin = pattern(MARGIN);
     let mut memory = [&margin[..], &case.space, &margin].concat();
     let end = MARGIN + case.space.len();
-    let got = layout(&case.text, &case.tape, case.width, case.case, &mut memory[MARGIN..end]);
-    equal("laying out", got, expected.laid_out)?;
-    if memory[MARGIN..end] != expected.space[..] {
-        return Err(format!("the space of {} bytes afterwards", case.space.len()));
-    }
+    let measured = measure(&case.text, &case.tape, case.width, case.case);
+    let laid_out = layout(&case.text, &case.tape, case.width, case.case, &mut memory[MARGIN..end]);
     if memory[..MARGIN] != margin[..] || memory[end..] != margin[..] {
         return Err(format!("the margins of a space of {} bytes", case.space.len()));
+    }
+    Ok(Answered { measured, laid_out, space: memory[MARGIN..end].to_vec() })
+}
+
+fn in_space(case: &Case) -> Result<(), String> {
+    let expected = answer(case);
+    let got = answered(case)?;
+    equal("measuring", got.measured, expected.measured)?;
+    equal("laying out", got.laid_out, expected.laid_out)?;
+    if got.space != expected.space {
+        return Err(format!("the space of {} bytes afterwards", case.space.len()));
     }
     Ok(())
 }
