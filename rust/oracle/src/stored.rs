@@ -8,7 +8,7 @@ use crate::answers::{answer, Answer, Answered, Case};
 /// What fills the output space before a call; no layout has this byte.
 pub const FILL: u8 = 255;
 
-/// The most bytes of a text, a tape or an output space that is stored; longer texts and tapes are zeros alone.
+/// The most bytes of a text, a tape or an output space that is stored; longer texts and tapes end in zeros.
 pub const MOST_STORED: usize = 4_096;
 
 /// A call, what laying out answers, and the layout, which is empty where the call is refused.
@@ -66,12 +66,13 @@ fn write_record(list: &mut Vec<u8>, record: &Record) -> Option<()> {
     Some(())
 }
 
-/// The bytes that are stored, and how many zeros stand for the others: all are stored, or none.
+/// The bytes that are stored, and how many zeros come after them; none if too many would be stored.
 fn parts(bytes: &[u8]) -> Option<(&[u8], usize)> {
     if bytes.len() <= MOST_STORED {
         return Some((bytes, 0));
     }
-    bytes.iter().all(|byte| *byte == 0).then_some((&[], bytes.len()))
+    let stored = bytes.iter().rposition(|byte| *byte != 0).map_or(0, |last| last + 1);
+    (stored <= MOST_STORED).then_some((&bytes[..stored], bytes.len() - stored))
 }
 
 /// The list's records; none if it is cut short or goes on after them.

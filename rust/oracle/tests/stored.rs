@@ -3,6 +3,7 @@
 mod common;
 
 use oracle::answers::{Answer, Case};
+use oracle::arms;
 use oracle::stored::{names, read, write, Record, MOST_STORED};
 use oracle::tape::MOST_BYTES;
 use std::collections::BTreeSet;
@@ -47,28 +48,48 @@ fn there_are_2000_records_with_every_answer() {
     assert_eq!(numbers, (0..=13).collect());
 }
 
-/// What vectors/README.md says about zeros: such a text or tape is stored as nothing, and nothing was stored before it.
+/// What vectors/README.md says about zeros: nothing longer was stored before them, so a reader's buffer still has zeros there.
 #[test]
 fn buffers_of_zeros_need_no_filling() {
-    for bytes_of in [|record: &Record| record.case.text.clone(), |record: &Record| record.case.tape.clone()] {
-        let all: Vec<Vec<u8>> = records().iter().map(bytes_of).collect();
-        let last = all.iter().rposition(|bytes| bytes.len() > MOST_STORED).expect("a long one");
-        for bytes in &all[..=last] {
-            assert!(bytes.iter().all(|byte| *byte == 0) && bytes.len() <= MOST_BYTES + 1);
-            assert!(bytes.is_empty() || bytes.len() > MOST_STORED);
+    for bytes_of in [|case: &Case| case.text.clone(), |case: &Case| case.tape.clone()] {
+        let mut buffer = vec![0; MOST_BYTES + 1];
+        let mut long = 0;
+        for record in records() {
+            let bytes = bytes_of(&record.case);
+            let zeros = if bytes.len() > MOST_STORED { trailing_zeros(&bytes) } else { 0 };
+            let stored = bytes.len() - zeros;
+            buffer[..stored].copy_from_slice(&bytes[..stored]);
+            assert!(buffer[..bytes.len()] == bytes, "a record after {long} long ones");
+            long += usize::from(zeros > 0);
         }
+        assert!(long > 0);
     }
+}
+
+fn trailing_zeros(bytes: &[u8]) -> usize {
+    bytes.iter().rev().take_while(|byte| **byte == 0).count()
+}
+
+#[test]
+fn every_arm_is_taken() {
+    needs_source!();
+    let mut left = arms::every();
+    for record in records() {
+        arms::taken(&record.case).iter().for_each(|arm| _ = left.remove(arm));
+    }
+    assert!(left.is_empty(), "{left:?}");
 }
 
 #[test]
 fn a_record_that_does_not_suit_the_list_is_not_written() {
-    let suits = |text: usize, byte: u8, space: usize| {
-        let case = Case { text: vec![byte; text], tape: Vec::new(), width: 4, case: 1, space: vec![255; space] };
+    let suits = |text: usize, last: u8, space: usize| {
+        let text = [vec![1; MOST_STORED], vec![last; text]].concat();
+        let case = Case { text, tape: Vec::new(), width: 4, case: 1, space: vec![255; space] };
         write(&[Record { case, laid_out: Answer { number: 12, second: 0 }, layout: Vec::new() }]).is_ok()
     };
-    assert!(suits(MOST_STORED, 1, MOST_STORED));
-    assert!(!suits(MOST_STORED + 1, 1, 0));
-    assert!(suits(MOST_STORED + 1, 0, 0));
+    assert!(suits(0, 0, MOST_STORED));
+    assert!(suits(1, 0, 0));
+    assert!(!suits(1, 1, 0));
     assert!(!suits(0, 0, MOST_STORED + 1));
 }
 
