@@ -2,17 +2,20 @@
 """Makes single edits of the original formatter, and tries on them whether the stored list tells each from the original.
 
 An edit of a function's text becomes a copy of that function beside the original; a number that is set while the program runs picks the
-copy that is called. So all edits are one program, which is built in a folder outside of the repository with mutants/main.rs as its
-driver. Four families need no copies: a test of a kind that answers otherwise for one kind, a row of the dispatch that leads to
-another routine, a word that is or is not on the keyword list, and a kind that is or is not carried. Edits that do not compile are counted
-and left out. The oracle's own check of a call (answers.rs and tape.rs) is edited in the same way, for the refusals.
+copy that is called. So all edits are one program, which is built in a folder outside of the repository with mutants/ as its driver. Four
+families need no copies: a test of a kind that answers otherwise for one kind, a row of the dispatch that leads to another routine, a
+word that is or is not on the keyword list, and a kind that is or is not carried. Edits that do not compile are counted and left out. The
+oracle's own check of a call (answers.rs and tape.rs) is edited in the same way, for the refusals.
 
-Writes vectors/score.txt: how many edits of each family the list shows, how many vectors/equivalent.txt names as ones that change nothing,
-and which are left; fails if any is. With --choose the calls are chosen anew first, so that every edit that any of many calls shows is shown:
-that writes vectors/cases.txt and vectors/vectors.bin. Needs cargo and the source (rust/README.md); takes minutes, and is no part of the gate.
+Writes vectors/score.txt: how many edits of each family the list shows, and how many vectors/equivalent.txt names as ones that change
+nothing; fails if any other is left. With --choose the calls are chosen anew first, so that every edit that any of many calls shows is
+shown: that writes vectors/cases.txt and vectors/vectors.bin.
+
+Needs cargo and the source (rust/README.md); takes minutes, and is no part of the gate.
 """
 
 import argparse
+import itertools
 import json
 import os
 import pathlib
@@ -24,7 +27,7 @@ import tempfile
 
 ROOT = pathlib.Path(__file__).resolve().parent.parent
 VECTORS = ROOT / "vectors"
-DRIVER = ROOT / "scripts" / "mutants" / "main.rs"
+DRIVER = ROOT / "scripts" / "mutants"
 
 # Functions that serve only what is not carried (thirteen node kinds, the defaults of the settings), or only write tapes.
 LEFT_OUT = {
@@ -210,7 +213,9 @@ def insertions(body):
         yield from exchanged(body, r"(?m)(?<==> )(\w+\([^\n]*\)),$", rf"{{ ctx.{call}(); \1 }}", rf"{{ \1; ctx.{call}() }}")
 
 
-ARM = re.compile(r"(?m)^( +)((?:SyntaxChild::|\"[A-Z]+\"|_)[^\n]*(?:\n\1 +(?:if|\|\|) [^\n]*)*?(?:\n\1)?=> ?)(\{\n(?:[^\n]*\n)*?\1\}|[^\n]*,)$")
+# An arm's indent, its pattern with a guard that may take lines of its own, and its body.
+PATTERN = r"(?:SyntaxChild::|\"[A-Z]+\"|_)[^\n]*(?:\n\1 +(?:if|\|\|) [^\n]*)*?(?:\n\1)?=> ?"
+ARM = re.compile(rf"(?m)^( +)({PATTERN})(\{{\n(?:[^\n]*\n)*?\1\}}|[^\n]*,)$")
 
 
 def arms(body):
@@ -224,14 +229,12 @@ def arms(body):
 
 
 def kinds(body, names):
-    """Each kind exchanged for its neighbours in the list of kinds and for the next kind that the function names; one of several left out."""
+    """Each kind exchanged for its neighbours in the list of kinds and for the next one in the function; one of several left out."""
     found = list(re.finditer(r"SyntaxKind::(\w+)", body))
     for place, match in enumerate(found):
         at = names.index(match[1])
-        news = {names[at - 1], names[(at + 1) % len(names)]}
-        news |= {other[1] for other in found[place + 1 :] + found if other[1] != match[1]} and {
-            next(other[1] for other in found[place + 1 :] + found if other[1] != match[1])
-        }
+        others = [other[1] for other in found[place:] + found if other[1] != match[1]]
+        news = {names[at - 1], names[(at + 1) % len(names)], *others[:1]}
         yield from ((match.start(1), match.end(1), new) for new in sorted(news))
     yield from exchanged(body, r"\bSyntaxKind::\w+\s*\| ", "")
     yield from exchanged(body, r"\s*\| SyntaxKind::\w+", "")
@@ -243,17 +246,21 @@ def constants(body):
         yield from ((match.start(), match.end(), str(new)) for new in (value - 1, value + 1) if new >= 0)
     yield from exchanged(body, r"'\\n'", "' '", r"'\\r'", "'a'")
     yield from exchanged(body, r"' '", r"'\\n'", r"'\\t'")
-    strings = list(re.finditer(r'(?<!expect\()"([^"\n]*)"', body))
-    signs = sorted({match[1] for match in strings} | {";", ")"})
-    for match in strings:
-        at = signs.index(match[1])
-        for new in sorted({"", match[1] + match[1], match[1][1:], signs[at - 1], signs[(at + 1) % len(signs)]} - {match[1]}):
-            yield match.start(1), match.end(1), new
+
+
+def strings(body):
+    """Each string empty, twice, without its first sign, or another of the function's; messages aside."""
+    found = list(re.finditer(r'(?<!expect\()"([^"\n]*)"', body))
+    signs = sorted({match[1] for match in found} | {";", ")"})
+    for match in found:
+        old, at = match[1], signs.index(match[1])
+        news = {"", old + old, old[1:], signs[at - 1], signs[(at + 1) % len(signs)]}
+        yield from ((match.start(1), match.end(1), new) for new in sorted(news - {old}))
 
 
 TEXT = r"t(?:oken)?\.text\(ctx\.source\)"
 
-# What a call may be mistaken for.
+# What a call, a field or a number of the check may be mistaken for.
 CALLS = [
     (r"\bwrite_newline\b", ["write_space"]),
     (r"\bwrite_space\b", ["write_newline"]),
@@ -264,13 +271,11 @@ CALLS = [
     (r"\bctx\.write_(?:token|keyword)\(t\.text\(ctx\.source\)\)", ["emit_token(t, ctx)", "emit_comment(t, ctx)"]),
     (r"\bctx\.write_token\((\"[^\"]*\")\)", [r"ctx.write_raw(\1)", "emit_token(t, ctx)", "ctx.write_token(t.text(ctx.source))"]),
     (r"\bself\.write_token\((&text[^;]*)\);", [r"self.write_raw(\1);", "self.write_token(text);"]),
-    (
-        r"\bemit_token\(t, ctx\)",
-        ["ctx.write_token(t.text(ctx.source))", "ctx.write_keyword(t.text(ctx.source))", "emit_comment(t, ctx)"],
-    ),
-    (r"\bemit_comment\(t, ctx\)", ["emit_token(t, ctx)", "ctx.write_raw(t.text(ctx.source))", "ctx.note_skipped_whitespace(t.text(ctx.source))"]),
+    (r"\bemit_token\(t, ctx\)", ["ctx.write_token(t.text(ctx.source))", "ctx.write_keyword(t.text(ctx.source))", "emit_comment(t, ctx)"]),
+    (r"\bemit_comment\(t, ctx\)", ["emit_token(t, ctx)", "ctx.write_raw(t.text(ctx.source))"]),
+    (r"\bemit_comment\(t, ctx\)", ["ctx.note_skipped_whitespace(t.text(ctx.source))"]),
     (r"\bctx\.note_skipped_whitespace\([^\n;]*\)", ["emit_token(t, ctx)", "ctx.write_token(t.text(ctx.source))", "ctx.write_space()"]),
-    (r"\bformat_node\(subtree, ctx\)", ["format_error_verbatim(subtree, ctx)", "format_passthrough(subtree, ctx)", "format_inline(subtree, ctx)"]),
+    (r"\bformat_node(?=\(subtree, ctx\))", ["format_error_verbatim", "format_passthrough", "format_inline"]),
     (r"\btake_pending_newline\b", ["take_pending_blank_line"]),
     (r"\btake_pending_blank_line\b", ["take_pending_newline"]),
     (r"\bno_space_before\(t\)", ["no_space_after(t.kind)", "true", "false"]),
@@ -285,24 +290,21 @@ CALLS = [
     (r"\bneeds_space\b", ["at_line_start"]),
     (r"\bself\.at_line_start\b", ["self.needs_space"]),
     (r"\.any\(", [".all("]),
-    (r"\btrim_end\(\)", ["trim()", "trim_start()", r"trim_end_matches('\\n')", "trim_end_matches(' ')", r"trim_end_matches([' ', '\\n'])", "trim_end_matches(|c: char| c.is_ascii_whitespace())", "as_str()"]),
+    (r"\btrim_end\(\)", ["trim()", "trim_start()", "as_str()", r"trim_end_matches('\\n')", "trim_end_matches(' ')"]),
+    (r"\btrim_end\(\)", [r"trim_end_matches([' ', '\\n'])", "trim_end_matches(|c: char| c.is_ascii_whitespace())"]),
     (r"\bstarts_with\(", ["ends_with(", "contains("]),
     (r"\bends_with\(", ["starts_with(", "contains("]),
     (r"\bsaturating_sub\(", ["saturating_add(", "min("]),
     (r"(?<= )\+=(?= )", ["-=", "="]),
     (r"(?<= )\*(?= )", ["+"]),
-    (r"\btree\.start\b", ["tree.end"]),
-    (r"\btree\.end\b", ["tree.start"]),
-    (r"&tree\.children \{", ["tree.children.iter().skip(1) {", "tree.children.iter().rev() {", "tree.children.iter().take(1) {"]),
+    (r"\b(tree|token|node)\.(start|end)\b", [r"\1.start", r"\1.end"]),
+    (r"&(tree\.children) \{", [r"\1.iter().skip(1) {", r"\1.iter().rev() {", r"\1.iter().take(1) {"]),
     (r"\bSome\((?:SyntaxKind::BareWord|t\.kind)\);", ["None;"]),
     (r"\bpush_str\(text\)", ["push_str(text.trim())", "push_str(text.trim_end())", "push_str(&text.to_uppercase())"]),
     (r"\bMOST_[A-Z]+\b", [r"(\g<0> + 1)", r"(\g<0> - 1)"]),
     (r"\bSPAN_COMMAND\b", ["10", "12"]),
     (r">= kinds::COUNT", [">= kinds::COUNT - 1", ">= kinds::COUNT + 1"]),
-    (r"(?<!\w)OPEN\b", ["TOKEN", "CLOSE"]),
-    (r"(?<!\w)TOKEN\b", ["OPEN", "CLOSE"]),
-    (r"(?<!\w)CLOSE\b", ["OPEN", "TOKEN"]),
-    (r"\b(token|node)\.(start|end)\b", [r"\1.start", r"\1.end"]),
+    (r"(?<!\w)(?:OPEN|TOKEN|CLOSE)\b", ["OPEN", "TOKEN", "CLOSE"]),
 ]
 
 
@@ -325,15 +327,15 @@ def edits(function, names):
     body = function.body
     last = body.index("match tree.kind") if function.name == "format_node" else len(body)
     seen = {body}
-    families = [comparisons, conditions, booleans, statements, swaps, arms, lambda text: kinds(text, names), constants, calls]
+    families = [comparisons, conditions, booleans, statements, swaps, arms, constants, strings, calls]
     if not function.checks:
         families.append(insertions)
-    for family in families:
-        for start, end, new in family(body):
-            text = body[:start] + new + body[end:]
-            if text not in seen and end <= last and balanced(text):
-                seen.add(text)
-                yield start, end, new, text
+    made = itertools.chain(kinds(body, names), *(family(body) for family in families))
+    for start, end, new in made:
+        text = body[:start] + new + body[end:]
+        if text not in seen and end <= last and balanced(text):
+            seen.add(text)
+            yield start, end, new, text
 
 
 class Copy:
@@ -362,7 +364,7 @@ def all_copies(all_functions, names):
 
 
 class Sites:
-    """The tests of a kind, in the order they are met: what is asked, of what sort of thing, and the kinds that an earlier test has taken."""
+    """The tests of a kind in their order: what is asked, of what sort of thing, and which kinds an earlier test has taken."""
 
     def __init__(self):
         self.rows = []
@@ -377,7 +379,9 @@ class Sites:
         return f"crate::flipped({len(self.rows) - 1}, {kind}, {test})"
 
 
-TEST = re.compile(r"(Tree\(t\) if )?\b((?:t|token|subtree|tree)\.kind) [!=]= SyntaxKind::\w+|matches!\(\s*((?:token\.)?kind),[^)]*\)")
+TEST = re.compile(
+    r"(Tree\(t\) if )?\b((?:t|token|subtree|tree)\.kind) [!=]= SyntaxKind::\w+|matches!\(\s*((?:token\.)?kind),[^)]*\)"
+)
 
 
 def with_sites(function, sites):
@@ -392,17 +396,31 @@ def with_sites(function, sites):
     return TEST.sub(handed, function.body)
 
 
+# Questions that the original asks the driver: the function, what it has, and what stands there instead.
+QUESTIONS = [
+    (
+        "format_node",
+        "match tree.kind",
+        "if let Some(routine) = crate::moved(tree.kind) { return ROUTINES[routine].1(tree, ctx); } match tree.kind",
+    ),
+    ("is_keyword", "KEYWORDS.contains(&upper.as_str())", "crate::listed(KEYWORDS.contains(&upper.as_str()), &upper)"),
+    (
+        "is_value_keyword",
+        'matches!(upper.as_str(), "TRUE" | "FALSE" | "NULL")',
+        'crate::value_listed(matches!(upper.as_str(), "TRUE" | "FALSE" | "NULL"), &upper)',
+    ),
+    ("node", "kinds::is_carried(node.kind)", "crate::carried(kinds::is_carried(node.kind), node.kind)"),
+]
+
+
 def original(function, sites):
+    """The original under another name, with its questions to the driver."""
     body = with_sites(function, sites)
-    if function.name == "format_node":
-        moved = "if let Some(routine) = crate::moved(tree.kind) { return ROUTINES[routine].1(tree, ctx); }\n    match tree.kind"
-        body = body.replace("match tree.kind", moved)
-    if function.name == "is_keyword":
-        body = body.replace("KEYWORDS.contains(&upper.as_str())", "crate::listed(KEYWORDS.contains(&upper.as_str()), &upper)")
-    if function.checks:
-        body = re.sub(r"kinds::is_carried\((.*?)\)", r"crate::carried(\1, \g<0>)", body)
-    if function.name == "is_value_keyword":
-        body = body.replace("matches!(", "crate::value_listed(&upper, matches!(").replace(')\n}', '))\n}')
+    for name, old, new in QUESTIONS:
+        if name == function.name:
+            if old not in body:
+                fail(f"{name} has no {old}")
+            body = body.replace(old, new)
     return f"{function.renamed(function.name + '__0')} {body}\n"
 
 
@@ -457,9 +475,7 @@ def quoted(text):
 def table(sites, copies):
     """The driver's tables of kind tests and of copies."""
     tests = (f"({quoted(name)}, {sort}, &{json.dumps(taken)})" for name, sort, taken in sites.rows)
-    rows = (
-        f"({copy.number}, {copy.function.number}, {str(copy.function.checks).lower()}, {quoted(copy.name)})" for copy in copies
-    )
+    rows = (f"({copy.number}, {copy.function.number}, {json.dumps(copy.function.checks)}, {quoted(copy.name)})" for copy in copies)
     return (
         f"pub const SITES: &[(&str, Sort, &[&str])] = {rust_list(tests)};\n"
         f"pub const COPIES: &[(usize, usize, bool, &str)] = {rust_list(rows)};\n"
@@ -478,7 +494,8 @@ def write_crate(folder, texts, all_functions, copies):
         place.parent.mkdir(parents=True, exist_ok=True)
         place.write_text(out.replace("mod format_node;", "pub mod format_node;"), encoding="utf-8")
     (folder / "src" / "table.rs").write_text(table(sites, copies), encoding="utf-8")
-    shutil.copy(DRIVER, folder / "src" / "main.rs")
+    for file in DRIVER.glob("*.rs"):
+        shutil.copy(file, folder / "src")
     (folder / "Cargo.toml").write_text(CARGO.format(oracle=quoted(str(ROOT / "rust" / "oracle"))), encoding="utf-8")
     return edited
 
@@ -495,7 +512,7 @@ def copy_of(span, edited):
 def faulty_copies(folder, edited):
     """The numbers of the copies that do not compile; none if all do."""
     words = ["cargo", "build", "--release", "--offline", "--quiet", "--message-format=json"]
-    done = subprocess.run(words, cwd=folder, stdout=subprocess.PIPE, text=True)
+    done = subprocess.run(words, cwd=folder, stdout=subprocess.PIPE, stderr=subprocess.PIPE, text=True)
     found = set()
     for line in done.stdout.splitlines():
         message = json.loads(line).get("message")
@@ -506,7 +523,7 @@ def faulty_copies(folder, edited):
                 fail(message["rendered"])
             found |= numbers
     if done.returncode != 0 and not found:
-        fail("the program cannot be built")
+        fail(f"the program cannot be built\n{done.stderr}")
     return found
 
 
@@ -541,21 +558,22 @@ def equivalents():
 
 
 def score(rows, not_compiling):
-    """The text of vectors/score.txt, and the names of the edits that are left; a row is `1` or `0` for shown, a family and a name."""
+    """The text of vectors/score.txt, and what is wrong, if anything; a row is `1` or `0` for shown, a family and a name."""
     known = equivalents()
-    table, left = {}, []
+    table, wrong, met = {}, [], set()
     for shown, family, name in (row.split("\t") for row in rows):
-        counts = table.setdefault(family, [0, 0, 0, 0])
         sort = 1 if shown == "1" else 2 if name in known else 3
+        counts = table.setdefault(family, [0, 0, 0, 0])
         counts[0] += 1
         counts[sort] += 1
-        known.discard(name)
-        left += [name] if sort == 3 else []
+        met.add(name)
+        wrong += [f"left: {name}"] * (sort == 3) + [f"named as equivalent, but shown: {name}"] * (sort == 1 and name in known)
+    wrong += [f"named as equivalent, but no edit: {name}" for name in sorted(known - met)]
     table["all"] = [sum(counts) for counts in zip(*table.values())]
     lines = ["family: edits, shown, equivalent, left"]
     lines += [f"{family}: {', '.join(map(str, counts))}" for family, counts in table.items()]
     lines += [f"edits that do not compile, which are not among these: {not_compiling}"]
-    return "\n".join(lines) + "\n", left + [f"{name} (named as equivalent, but no edit)" for name in known]
+    return "\n".join(lines) + "\n", wrong
 
 
 def work(folder, choose):
@@ -565,11 +583,11 @@ def work(folder, choose):
     built = build(folder, texts, all_functions, copies)
     if choose:
         run(folder, "choose", VECTORS)
-    text, left = score(run(folder, "score", VECTORS / "vectors.bin"), len(copies) - len(built))
+    text, wrong = score(run(folder, "score", VECTORS / "vectors.bin"), len(copies) - len(built))
     (VECTORS / "score.txt").write_text(text, encoding="utf-8")
     print(text, end="")
-    if left:
-        fail("left:\n" + "\n".join(left))
+    if wrong:
+        fail("\n".join(wrong))
 
 
 def main():

@@ -25,6 +25,8 @@ pub fn compare(seed: u64, class: Class, index: u64) -> Result<(), String> {
 
 /// Measuring, and laying out in the case's own space and in spaces of L, L-1, L+5 and 0 bytes.
 fn call(case: &Case) -> Result<(), String> {
+    let expected = answer(case).measured;
+    equal("measuring", measure(&case.text, &case.tape, case.width, case.case), expected)?;
     in_space(case)?;
     let needed = formatted(case).map_or(5, |output| output.len());
     for length in [needed, needed.saturating_sub(1), needed + 5, 0] {
@@ -38,28 +40,32 @@ fn pattern(length: usize) -> Vec<u8> {
     (0..length).map(|i| 128 + (i * 37 % 128) as u8).collect()
 }
 
-/// What the port's two calls answer, and the space afterwards; the error is that a margin was touched.
-pub fn answered(case: &Case) -> Result<Answered, String> {
-    let margin = pattern(MARGIN);
-    let mut memory = [&margin[..], &case.space, &margin].concat();
-    let end = MARGIN + case.space.len();
-    let measured = measure(&case.text, &case.tape, case.width, case.case);
-    let laid_out = layout(&case.text, &case.tape, case.width, case.case, &mut memory[MARGIN..end]);
-    if memory[..MARGIN] != margin[..] || memory[end..] != margin[..] {
-        return Err(format!("the margins of a space of {} bytes", case.space.len()));
-    }
-    Ok(Answered { measured, laid_out, space: memory[MARGIN..end].to_vec() })
-}
-
 fn in_space(case: &Case) -> Result<(), String> {
     let expected = answer(case);
-    let got = answered(case)?;
-    equal("measuring", got.measured, expected.measured)?;
-    equal("laying out", got.laid_out, expected.laid_out)?;
-    if got.space != expected.space {
+    let (got, space) = laid_out(case)?;
+    equal("laying out", got, expected.laid_out)?;
+    if space != expected.space {
         return Err(format!("the space of {} bytes afterwards", case.space.len()));
     }
     Ok(())
+}
+
+/// What both calls of the port answer, and the space afterwards; the error is that a margin was touched.
+pub fn answered(case: &Case) -> Result<Answered, String> {
+    let measured = measure(&case.text, &case.tape, case.width, case.case);
+    laid_out(case).map(|(laid_out, space)| Answered { measured, laid_out, space })
+}
+
+/// What laying out answers, and the space afterwards.
+fn laid_out(case: &Case) -> Result<(Answer, Vec<u8>), String> {
+    let margin = pattern(MARGIN);
+    let mut memory = [&margin[..], &case.space, &margin].concat();
+    let end = MARGIN + case.space.len();
+    let got = layout(&case.text, &case.tape, case.width, case.case, &mut memory[MARGIN..end]);
+    if memory[..MARGIN] != margin[..] || memory[end..] != margin[..] {
+        return Err(format!("the margins of a space of {} bytes", case.space.len()));
+    }
+    Ok((got, memory[MARGIN..end].to_vec()))
 }
 
 fn equal(call: &str, got: Answer, expected: Answer) -> Result<(), String> {

@@ -2,7 +2,7 @@
 
 mod common;
 
-use oracle::answers::{Answer, Case};
+use oracle::answers::{answer, Answer, Case};
 use oracle::arms;
 use oracle::stored::{names, read, write, Record, MOST_STORED};
 use oracle::tape::MOST_BYTES;
@@ -20,6 +20,14 @@ fn the_list_is_made_again_byte_for_byte() {
     needs_source!();
     let records: Vec<Record> = NAMES.lines().map(|line| Record::of(names::call(line).unwrap())).collect();
     assert!(write(&records).unwrap() == LIST, "run the oracle's `stored` on vectors/cases.txt");
+}
+
+#[test]
+fn the_oracle_answers_as_the_list_says() {
+    needs_source!();
+    for (record, name) in records().iter().zip(NAMES.lines()) {
+        assert_eq!(answer(&record.case), record.answered(), "{name}");
+    }
 }
 
 #[test]

@@ -94,7 +94,7 @@ fn calls_of(words: usize) -> usize {
 /// So many of the words under a ColumnReference, typed small for capitals or the other way round.
 fn words_call(words: Vec<String>, call: &str) -> Option<Case> {
     let call: usize = call.parse().ok()?;
-    let upper = call % 2 == 0;
+    let upper = call.is_multiple_of(2);
     let typed = |word: &String| if upper { word.to_lowercase() } else { word.clone() };
     let words: Vec<String> = words.chunks(WORDS).nth(call)?.iter().map(typed).collect();
     let (text, tape) =
