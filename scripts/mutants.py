@@ -214,13 +214,15 @@ def insertions(body):
 
 
 # An arm's indent, its pattern with a guard that may take lines of its own, and its body.
-PATTERN = r"(?:SyntaxChild::|\"[A-Z]+\"|_)[^\n]*(?:\n\1 +(?:if|\|\|) [^\n]*)*?(?:\n\1)?=> ?"
+PATTERN = r"(?:SyntaxChild::|\"[A-Z]+\"|_)[^\n]*(?:\n\1 +(?:if|\|\|) [^\n]*)*?=>(?: |\n\1)"
 ARM = re.compile(rf"(?m)^( +)({PATTERN})(\{{\n(?:[^\n]*\n)*?\1\}}|[^\n]*,)$")
 
 
 def arms(body):
-    """Each arm deleted, and its body exchanged for that of the next arm or of the one before."""
-    found = list(ARM.finditer(body))
+    """Each arm deleted, and its body exchanged for that of the next arm or of the one before; arms within arms too."""
+    lines = (match.start() for match in re.finditer(r"(?m)^ ", body))
+    found = [match for match in (ARM.match(body, line) for line in lines) if match]
+    found.sort(key=lambda match: len(match[1]))
     for one, other in zip(found, found[1:]):
         if one[1] == other[1]:
             yield one.start(3), one.end(3), other[3]
@@ -300,6 +302,10 @@ CALLS = [
     (r"\b(tree|token|node)\.(start|end)\b", [r"\1.start", r"\1.end"]),
     (r"&(tree\.children) \{", [r"\1.iter().skip(1) {", r"\1.iter().rev() {", r"\1.iter().take(1) {"]),
     (r"\bSome\((?:SyntaxKind::BareWord|t\.kind)\);", ["None;"]),
+    (r"\bt\.kind == SyntaxKind::OpeningRoundBracket\s+&& ", [""]),
+    (r"\bmatches!\(\s*prev_kind,[^;]*(?=;)", ["true", "false"]),
+    (r"\bSyntaxChild::Tree\(_\)", ["SyntaxChild::Token(_)", "_"]),
+    (r"\.\.(?=tree\.end)", ["..="]),
     (r"\bpush_str\(text\)", ["push_str(text.trim())", "push_str(text.trim_end())", "push_str(&text.to_uppercase())"]),
     (r"\bMOST_[A-Z]+\b", [r"(\g<0> + 1)", r"(\g<0> - 1)"]),
     (r"\bSPAN_COMMAND\b", ["10", "12"]),
