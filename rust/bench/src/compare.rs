@@ -1,7 +1,7 @@
 //! One call of the port held to the oracle: both numbers of both answers, and every byte of the output space and of the margins around it.
 
 use crate::{layout, measure};
-use oracle::answers::{accepted_tree, answer, formatted, Answer, Case};
+use oracle::answers::{accepted_tree, answer, formatted, Answer, Answered, Case};
 use oracle::cases::{make, Class, Made};
 use oracle::masking::Pair;
 
@@ -42,18 +42,30 @@ fn pattern(length: usize) -> Vec<u8> {
 
 fn in_space(case: &Case) -> Result<(), String> {
     let expected = answer(case);
+    let (got, space) = laid_out(case)?;
+    equal("laying out", got, expected.laid_out)?;
+    if space != expected.space {
+        return Err(format!("the space of {} bytes afterwards", case.space.len()));
+    }
+    Ok(())
+}
+
+/// What both calls of the port answer, and the space afterwards; the error is that a margin was touched.
+pub fn answered(case: &Case) -> Result<Answered, String> {
+    let measured = measure(&case.text, &case.tape, case.width, case.case);
+    laid_out(case).map(|(laid_out, space)| Answered { measured, laid_out, space })
+}
+
+/// What laying out answers, and the space afterwards.
+fn laid_out(case: &Case) -> Result<(Answer, Vec<u8>), String> {
     let margin = pattern(MARGIN);
     let mut memory = [&margin[..], &case.space, &margin].concat();
     let end = MARGIN + case.space.len();
     let got = layout(&case.text, &case.tape, case.width, case.case, &mut memory[MARGIN..end]);
-    equal("laying out", got, expected.laid_out)?;
-    if memory[MARGIN..end] != expected.space[..] {
-        return Err(format!("the space of {} bytes afterwards", case.space.len()));
-    }
     if memory[..MARGIN] != margin[..] || memory[end..] != margin[..] {
         return Err(format!("the margins of a space of {} bytes", case.space.len()));
     }
-    Ok(())
+    Ok((got, memory[MARGIN..end].to_vec()))
 }
 
 fn equal(call: &str, got: Answer, expected: Answer) -> Result<(), String> {

@@ -93,8 +93,17 @@ pub fn missing() -> Option<&'static str> {
 
 /// Whether a comparison may run; where not, says so in one line that the test runner does not swallow.
 pub fn at_hand_for(test: &str) -> bool {
+    says_skipped(test, missing())
+}
+
+/// The same for a test that needs the libraries alone.
+pub fn library_at_hand_for(test: &str) -> bool {
+    says_skipped(test, (!AT_HAND).then_some(HINT))
+}
+
+fn says_skipped(test: &str, missing: Option<&str>) -> bool {
     use std::io::Write;
-    let Some(missing) = missing() else { return true };
+    let Some(missing) = missing else { return true };
     let _ = std::io::stderr().write_all(format!("skipped {test}: {missing}\n").as_bytes());
     false
 }

@@ -12,6 +12,7 @@ pub mod kinds;
 pub mod masking;
 pub mod random;
 pub mod source;
+pub mod stored;
 pub mod tape;
 
 // The source's own modules lexer, parser and formatter; nothing where it is not at hand.

@@ -3,6 +3,7 @@
 use oracle::answers::{accepted_tree, answer, Answer, Case};
 use oracle::cases::{make, Class, Made};
 use oracle::masking::{breaches, claim, Pair};
+use oracle::stored::{self, names, Record};
 use oracle::tape::{Child, Node};
 use oracle::{arms, job, kinds, source};
 use std::io::{self, Read, Write};
@@ -12,6 +13,7 @@ const USAGE: &str = "usage: oracle case SEED CLASS INDEX            prints a cas
        oracle vectors SEED CLASS FIRST COUNT   prints the calls of COUNT cases for a program, a line each
        oracle arms                             prints the arms of the source's routines, which vectors name
        oracle job < FILE                       answers a job as the desk's program does
+       oracle stored < FILE                    writes the stored list of the calls that FILE names, a line each
 CLASS is parser, wild, damaged, jobs, masked, limits or small; the others are numbers from 0 to 2^64-1";
 
 fn main() -> ExitCode {
@@ -29,6 +31,7 @@ fn main() -> ExitCode {
 fn run(arguments: &[&str]) -> Result<Vec<u8>, String> {
     match arguments {
         ["job"] => answer_job(),
+        ["stored"] => stored_list(),
         ["case", seed, class, index] => print_case(seed, class, index).map(String::into_bytes),
         ["vectors", seed, class, first, count] => print_vectors(seed, class, first, count).map(String::into_bytes),
         ["arms"] => print_arms().map(String::into_bytes),
@@ -47,6 +50,13 @@ fn answer_job() -> Result<Vec<u8>, String> {
     let input = io::stdin().lock().take(job::BUFFER as u64 + 1).read_to_end(&mut bytes);
     input.map_err(|error| format!("the job cannot be read: {error}"))?;
     Ok(job::printed(&bytes))
+}
+
+fn stored_list() -> Result<Vec<u8>, String> {
+    source_at_hand()?;
+    let lines = io::read_to_string(io::stdin()).map_err(|error| format!("the names cannot be read: {error}"))?;
+    let records: Result<Vec<Record>, String> = lines.lines().map(|line| names::call(line).map(Record::of)).collect();
+    stored::write(&records?)
 }
 
 fn number(text: &str) -> Result<u64, String> {

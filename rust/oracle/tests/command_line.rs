@@ -4,6 +4,7 @@ mod common;
 
 use oracle::answers::answer;
 use oracle::cases::{call, Class};
+use oracle::stored::{self, names, Record};
 use std::io::Write;
 use std::process::{Command, Output, Stdio};
 
@@ -41,6 +42,19 @@ fn a_bad_call_gets_a_message_and_status_2() {
     assert_bad_call(&["vectors", "0", "parser", "0"], "usage: oracle");
     assert_bad_call(&["vectors", "0", "parser", "18446744073709551615", "1"], "pass the last index");
     assert_bad_call(&["arms", "parser"], "usage: oracle");
+    assert_bad_call(&["stored", "file"], "usage: oracle");
+}
+
+#[test]
+fn a_stored_list_has_a_record_for_each_name() {
+    needs_source!();
+    let output = oracle(&["stored"], b"1 small 0\nhand text-too-long\n");
+    assert!(output.status.success());
+    let records = [call(1, Class::Small, 0), names::call("hand text-too-long").unwrap()].map(Record::of);
+    assert!(stored::write(&records).unwrap() == output.stdout);
+    let output = oracle(&["stored"], b"1 small 0\n1 large 0\n");
+    assert_eq!(output.status.code(), Some(2));
+    assert!(output.stdout.is_empty() && output.stderr == b"oracle: no call has the name: 1 large 0\n");
 }
 
 #[test]
