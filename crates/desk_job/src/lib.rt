@@ -1,5 +1,5 @@
 // What the desk's program prints for a job: the layout, or the line of a refusal.
-mod write;
+pub mod write;
 
 use formatter::layout;
 use write::put_all;

@@ -17,7 +17,7 @@ fn put(out: &mut [u8], at: usize, b: u8) -> usize
     at + 1
 }
 
-pub(crate) fn put_all(out: &mut [u8], start: usize, text: &[u8]) -> usize
+pub fn put_all(out: &mut [u8], start: usize, text: &[u8]) -> usize
     requires { ⌜ start ≤ length (now out) ⌝ }
     ensures { λ r. ⌜ _≡_ {A = Written} (record { end = r; space = now (out .exit) }) (written start (now (text .entry)) (now (out .entry))) ⌝ }
 {
@@ -31,7 +31,7 @@ pub(crate) fn put_all(out: &mut [u8], start: usize, text: &[u8]) -> usize
 }
 
 // The decimal digits of n, at most `places` of them.
-pub(crate) fn put_decimal(out: &mut [u8], at: usize, places: usize, n: u64) -> usize
+pub fn put_decimal(out: &mut [u8], at: usize, places: usize, n: u64) -> usize
     requires { ⌜ at ≤ length (now out) ⌝ }
     ensures { λ r. ⌜ _≡_ {A = Written} (record { end = r; space = now (out .exit) }) (written at (decimal places n) (now (out .entry))) ⌝ }
 {

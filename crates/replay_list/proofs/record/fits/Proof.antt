@@ -1,0 +1,44 @@
+-- `fits` meets its contract: its tests are those of the definition. Assumes nothing.
+use borrow.Author.Tests.{le-leb, lt-leb}
+use Rattle.desk_job.proofs.Reading.{told-false, told-true}
+use Rattle.replay_list.specs.Record.{fitting}
+use borrow.Author.Needs.{needs}
+use Rattle.replay_list.proofs.record.fits.Statement.{statement}
+use Rattle.replay_list.proofs.record.fits.Tie as tie
+
+run-fits-requires : tie.Need-run-fits-requires
+run-fits-requires c κs = search needs
+
+returns : tie.Need-returns
+unfolding fitting
+returns c = simp (told-false (c .before .run-fits .ensures) (c .if1 .taken))
+
+run-fits-requires-2 : tie.Need-run-fits-requires-2
+run-fits-requires-2 c κs = search needs
+
+returns-2 : tie.Need-returns-2
+unfolding fitting
+returns-2 c = simp (told-true (c .before .before .before .run-fits .ensures) (c .before .before .if1 .left), told-false (c .before .run-fits2 .ensures) (c .if2 .taken))
+
+returns-3 : tie.Need-returns-3
+unfolding fitting
+returns-3 c = simp (told-true (c .before .before .before .before .before .run-fits .ensures) (c .before .before .before .before .if1 .left), told-true (c .before .before .before .run-fits2 .ensures) (c .before .before .if2 .left), lt-leb _ _ (c .if3 .taken))
+
+layout-length-requires : tie.Need-layout-length-requires
+layout-length-requires c κs = search needs
+
+returns-4 : tie.Need-returns-4
+unfolding fitting
+returns-4 c = simp (told-true (c .before .before .before .before .before .before .before .run-fits .ensures) (c .before .before .before .before .before .before .if1 .left), told-true (c .before .before .before .before .before .run-fits2 .ensures) (c .before .before .before .before .if2 .left), le-leb _ _ (c .before .before .if3 .left), c .before .layout-length .ensures)
+
+pub fits-spec : {M : Type 1} → statement M
+fits-spec =
+    tie.close
+    (tie.spec
+    run-fits-requires
+    returns
+    run-fits-requires-2
+    returns-2
+    returns-3
+    layout-length-requires
+    returns-4)

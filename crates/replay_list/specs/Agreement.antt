@@ -1,0 +1,34 @@
+-- When the two calls agree with a record. Assumes nothing.
+use Prim.Native.Nat.{ℕ, _-_}
+use mathlib.Core.Bool.{Bool, cond, _&&_}
+use mathlib.Core.List.{List, _++_}
+use lib.ListN.{length, replicate}
+use lib.Dec.{eqb}
+use Rattle.keywords.specs.Words.{same}
+use Rattle.layout.specs.declared.Answer.{Answer}
+use Rattle.layout.specs.Outcome.{Outcome, Result, measured, laidOut}
+
+abbrev pub sameAnswer : Answer → ℕ → ℕ → Bool
+sameAnswer a number value = eqb (a .number) number && eqb (a .value) value
+
+-- measuring answers 0 where laying out answers 13
+abbrev pub measuredNumber : ℕ → ℕ
+measuredNumber number = cond (eqb number 13) 0 number
+
+-- the record's answer, and its layout in a space of 255s
+abbrev pub sameResult : Result → ℕ → ℕ → List ℕ → Bool
+sameResult r number value layout =
+    sameAnswer (r .answer) number value && same (r .space) (layout ++ replicate (length (r .space) - length layout) 255)
+
+-- whether both calls agree with the record, and the space afterwards
+pub record Compared : Type 0 where
+  pub agreed : Bool
+  pub space : List ℕ
+
+unfoldable pub compared : Outcome → ℕ → ℕ → List ℕ → ℕ → Compared
+compared o number value layout room =
+    let r : Result = laidOut o (replicate room 255) in
+    record {
+      agreed = sameAnswer (measured o) (measuredNumber number) value && sameResult r number value layout;
+      space = r .space;
+    }

@@ -1,0 +1,4 @@
+-- A stored list of calls, in the order to read it.
+pub mod Record
+pub mod Agreement
+pub mod Line
