@@ -77,7 +77,7 @@ ANSWERS = {
     "loop-again": f"token-next {HERE} (@if2 .taken) (@head-at .ensures) {{acted}} (@{{token}} .kept .1 .1 .0)",
     "BEFORE-requires": f"let r = side-ready {HERE} in omega arith",
     "sub-node": f"left-pos {CHILD}",
-    "node-requires": f"(omega (arith, @pre .0, left-pos {CHILD}), node-ready {CHILD} {{before}} (omega arith))",
+    "node-requires": f"(omega (arith, @pre .0, left-pos {CHILD}), node-ready {CHILD} (@head-at .ensures) {{before}} (omega arith))",
     "loop-less-2": "omega (arith, @loop .inv .inside, @node .ensures .on)",
     "loop-again-2": f"node-next {HERE} {{at-node}} (@if1 .taken) (@if2 .left) (@head-at .ensures) (λ k z. {{same-node}}) {{before}} "
     "(@node .ensures) {next-local} {after} (omega arith) (omega arith) (@node .kept .1 .1 .1 .1 .0{kept})",
@@ -92,18 +92,18 @@ UNFOLDED = ("loop-holds", "loop-again", "loop-again-2", "returns")
 
 # The needs of the dispatch: those of a copied node by name, then those of each routine that it calls.
 NODE_ANSWERS = {
-    "head-at-requires": "@pre .1 .inside",
-    "is-copied-requires": "(opened-at (@pre .1), clean-node (@pre .1) (@head-at .ensures))",
-    "skip-requires": "opened-at (@pre .1)",
-    "format-error-verbatim-requires": "copy-ready (@pre .1) (@head-at .ensures)",
+    "is-copied-requires": "(opened-at (@pre .1 .0), clean-node (@pre .1 .0) (@pre .1 .1))",
+    "head-at-requires": "@pre .1 .0 .inside",
+    "skip-requires": "opened-at (@pre .1 .0)",
+    "format-error-verbatim-requires": "copy-ready (@pre .1 .0) (@head-at .ensures)",
     "same-length": "@format-error-verbatim .kept .1 .1 .0",
-    "returns": "node-copied (@pre .1) (@head-at .ensures) (scanned-as (@is-copied .ensures) (@if1 .taken)) (@skip .ensures) "
+    "returns": "node-copied (@pre .1 .0) (@pre .1 .1) (@head-at .ensures) (scanned-as (@is-copied .ensures) (@if1 .taken)) (@skip .ensures) "
     "(@format-error-verbatim .ensures)",
     "routine-of-requires": "search needs",
     "enum-told": "search needs",
-    "CALL-requires": "(omega (arith, @pre .0), @pre .1)",
+    "CALL-requires": "(omega (arith, @pre .0), @pre .1 .0)",
     "CALL-same-length": "@{called} .kept .1 .1 .1 .1 .0",
-    "CALL-returns": "node-by the-variants.{variant} (@head-at .ensures) (scanned-as (@is-copied .ensures) (@if1 .left)) "
+    "CALL-returns": "node-by the-variants.{variant} (@pre .1 .1) (scanned-as (@is-copied .ensures) (@if1 .left)) "
     "(sym (@{told} .given .1) ∙ @routine-of .ensures) (@{called} .ensures)",
 }
 

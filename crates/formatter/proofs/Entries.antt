@@ -19,7 +19,7 @@ use Rattle.tape.specs.declared.Fault.{Fault}
 use Rattle.tape.specs.declared.Checked.{Checked}
 use Rattle.tape.specs.declared.Checked.the-variants.{Accepted, Refused}
 use Rattle.tape.specs.Tree.{Tree, hasError}
-use Rattle.tape.specs.Tape.{Read, refused, got, readTree, verdict}
+use Rattle.tape.specs.Tape.{Read, refused, got, readTree, headAt, verdict}
 use Rattle.tape.specs.Call.{readCall}
 use Rattle.tape.specs.Faults.{number}
 use Rattle.tape.proofs.Acceptance.{accepted-call}
@@ -36,20 +36,22 @@ use Rattle.formatter.specs.Entry.{Ready, allCells, Trims, Fills, Measure
 
 -- ── the walk from the start
 
-pub root-ready : {text tape : List ℕ} {config : FormatConfig} {errors : Bool} {c : FormatterContext} → Ready text tape config errors → c ≡ new
-    → NodeReady text tape config errors 63 0 c
-root-ready {text} {tape} {config} {errors} p e =
-    let a = p .accepted in
-    rw e (record {
-      sizes = p .sizes;
-      inside = a .root .inside;
-      room = record { level = omega arith; length = omega arith };
-      span = subst (λ (h : Head). h .start ≤ h .end → h .end ≤ length text) (a .root .head) (a .root .span);
-      kids = a .tree .kids;
-      lies = a .kids;
-      low = omega (arith, a .depth);
-      clean = λ f. ap (λ (h : Head). hasError (record { head = h; kids = a .tree .kids })) (sym (a .root .head)) ∙ p .has-error ∙ f;
-    })
+pub root-ready : {text tape : List ℕ} {config : FormatConfig} {errors : Bool} {h : Head} {c : FormatterContext} → Ready text tape config errors → h ≡ headAt tape 0 → c ≡ new
+    → NodeReady text tape config errors 63 0 c × (h .kind ≡ headAt tape 0 .kind)
+root-ready {text} {tape} {config} {errors} p q e =
+    let a = p .accepted in (
+      rw e (record {
+        sizes = p .sizes;
+        inside = a .root .inside;
+        room = record { level = omega arith; length = omega arith };
+        span = subst (λ (h : Head). h .start ≤ h .end → h .end ≤ length text) (a .root .head) (a .root .span);
+        kids = a .tree .kids;
+        lies = a .kids;
+        low = omega (arith, a .depth);
+        clean = λ f. ap (λ (h : Head). hasError (record { head = h; kids = a .tree .kids })) (sym (a .root .head)) ∙ p .has-error ∙ f;
+      }),
+      ap (λ (x : Head). x .kind) q,
+    )
 
 same-tree : {t u : Tree} {p q : ℕ} → _≡_ {A = Read Tree} (got t p) (got u q) → t ≡ u
 same-tree e = cc

@@ -163,26 +163,25 @@ module _ {source tape : List ℕ} {config : FormatConfig} {errors : Bool} {left 
       let q = lies-node _ _ _ (v .kids) (v .lies) (opens e f) in
       record { len = _; kids = q .0; inside = q .3 .inside; lies = q .4 }
 
-  pub node-ready : {n : ℕ} {a : FormatterContext} {x : List Spacing} {zs : List ℕ} → ((getD tape i 0 ≡ 3) → ⊥) → ((getD tape i 0 ≡ 2) → ⊥)
-      → Spaced n x ctx ys a zs → n ≤ 4 → NodeReady source tape config errors (left - 1) i a
+  pub node-ready : {h : Head} {n : ℕ} {a : FormatterContext} {x : List Spacing} {zs : List ℕ} → ((getD tape i 0 ≡ 3) → ⊥) → ((getD tape i 0 ≡ 2) → ⊥)
+      → h ≡ headAt tape i → Spaced n x ctx ys a zs → n ≤ 4 → NodeReady source tape config errors (left - 1) i a × (h .kind ≡ headAt tape i .kind)
   unfolding height hasErrorBelow hasError
-  node-ready e f d h =
-      let q = lies-node _ _ _ (v .kids) (v .lies) (opens e f) in
-      record {
-        sizes = p .sizes;
-        inside = q .3 .inside;
-        room = omega (arith, d .spent .level, d .spent .length);
-        span = q .3 .span;
-        kids = q .0;
-        lies = q .4;
-        low = omega (arith, v .low, ap height (q .2));
-        clean = λ g.
-            let k = no-error-node (headAt tape i) (q .0) (q .1) (sym (ap hasErrorBelow (q .2)) ∙ v .clean g) in
-            rw (k .0, k .1);
-      }
-
-  pub after-ready : {n : ℕ} {a : FormatterContext} {x : List Spacing} {w : Walk} {zs us : List ℕ} → Spaced n x ctx ys a zs → NodeDone source tape config i a zs w us → n ≤ 4 → Room 4 (w .context)
-  after-ready d e h = omega (arith, d .spent .level, d .spent .length, e .grew .level, e .grew .length, e .inside, p .sizes .tape-fits)
+  node-ready e f r d h =
+      let q = lies-node _ _ _ (v .kids) (v .lies) (opens e f) in (
+        record {
+          sizes = p .sizes;
+          inside = q .3 .inside;
+          room = omega (arith, d .spent .level, d .spent .length);
+          span = q .3 .span;
+          kids = q .0;
+          lies = q .4;
+          low = omega (arith, v .low, ap height (q .2));
+          clean = λ g.
+              let k = no-error-node (headAt tape i) (q .0) (q .1) (sym (ap hasErrorBelow (q .2)) ∙ v .clean g) in
+              rw (k .0, k .1);
+        },
+        ap (λ (x : Head). x .kind) r,
+      )
 
   pub node-next : {h : Head} {m n : ℕ} {a b : FormatterContext} {k : Local} {w : Walk} {zs us vs : List ℕ} (N : Local × List Spacing × List Spacing)
       → ((getD tape i 0 ≡ 3) → ⊥) → ((getD tape i 0 ≡ 2) → ⊥) → h ≡ headAt tape i
@@ -237,58 +236,64 @@ module _ {source tape : List ℕ} {config : FormatConfig} {errors : Bool} {left 
 
 -- ── the dispatch
 
-module _ {source tape : List ℕ} {config : FormatConfig} {errors : Bool} {left at : ℕ} {c : FormatterContext} {h : Head} where
+module _ {source tape : List ℕ} {config : FormatConfig} {errors : Bool} {left at : ℕ} {c : FormatterContext} (p : NodeReady source tape config errors left at c) where
   -- where the tape has no Error node nothing is copied
-  pub clean-node : NodeReady source tape config errors left at c → h ≡ headAt tape at → errors ≡ false → Scanned (copied (h .kind)) tape at false
-  clean-node p q e =
+  pub clean-node : {kind : ℕ} → kind ≡ headAt tape at .kind → errors ≡ false → Scanned (copied kind) tape at false
+  clean-node q e =
       record {
         all = λ len kids z.
             let s = lies-one _ _ _ _ (p .kids) kids (p .lies) z in
             let k = no-error-root _ (p .clean e) in
-            sym (ap (λ (x : Head). copied (x .kind) kids) q ∙ not-copied (headAt tape at .kind) kids (k .0) (sym (ap hasErrorBelow s) ∙ k .1));
+            sym (ap (λ (x : ℕ). copied x kids) q ∙ not-copied (headAt tape at .kind) kids (k .0) (sym (ap hasErrorBelow s) ∙ k .1));
       }
 
-  pub copy-ready : NodeReady source tape config errors left at c → h ≡ headAt tape at
-      → (length source ≤ 262144) × (h .start ≤ h .end → h .end ≤ length source) × Room 1 c
-  copy-ready p q = (p .sizes .text, rw q (p .span), omega arith)
+  pub copy-ready : {h : Head} → h ≡ headAt tape at → (length source ≤ 262144) × (h .start ≤ h .end → h .end ≤ length source) × Room 1 c
+  copy-ready q = (p .sizes .text, rw q (p .span), omega arith)
 
-  pub node-copied : {xs ys : List ℕ} {a : FormatterContext} {j : ℕ} → NodeReady source tape config errors left at c → h ≡ headAt tape at → Scanned (copied (h .kind)) tape at true
-      → Skipped tape at j → Ran 1 config source (formatErrorVerbatim h) c xs a ys → NodeDone source tape config at c xs (record { at = j; context = a }) ys
-  unfolding calls
-  node-copied {xs} {ys} {a} {j} p q o s d =
-      record {
-        on = s .on;
-        inside = s .inside;
-        grew = omega (arith, d .spent .level, d .spent .length, s .past _ (p .kids) (p .lies), some-size (p .kids));
-        all = λ kids z. record {
-          at = s .past _ kids z;
-          did =
-              d .did
-              ∙ ap (λ (b : Bool). run config source (cond b (formatErrorVerbatim h) (walk formatNode source (formatNode (h .kind) kids) (formatNode (h .kind) kids .begin) kids)) (c, xs)) (o .all _ kids z)
-              ∙ ap (λ (x : Head). run config source (calls formatNode source (record { head = x; kids = kids })) (c, xs)) q;
-        };
-      }
+-- a node is copied or goes to its routine, by the kind that the caller read
+by-kind : (config : FormatConfig) (source : Text) (h : Head) (kids : Children) (w : Store) {kind : ℕ} {b : Bool} → kind ≡ h .kind → b ≡ copied kind kids
+    → run config source (cond b (formatErrorVerbatim h) (walk formatNode source (formatNode kind kids) (formatNode kind kids .begin) kids)) w
+    ≡ run config source (calls formatNode source (record { head = h; kids = kids })) w
+unfolding calls
+by-kind config source h kids w {kind} q e =
+    ap (λ (x : Bool). run config source (cond x (formatErrorVerbatim h) (walk formatNode source (formatNode kind kids) (formatNode kind kids .begin) kids)) w) e
+    ∙ ap (λ (x : ℕ). run config source (cond (copied x kids) (formatErrorVerbatim h) (walk formatNode source (formatNode x kids) (formatNode x kids .begin) kids)) w) q
 
-module _ {source tape : List ℕ} {config : FormatConfig} {at : ℕ} {c : FormatterContext} {xs ys : List ℕ} {h : Head} where
-  pub node-by : {w : Walk} (r : Routine) → h ≡ headAt tape at → Scanned (copied (h .kind)) tape at false → r ≡ routineOf (h .kind)
-      → RoutineDone source tape config at (armsOf r) c xs w ys → NodeDone source tape config at c xs w ys
-  unfolding calls formatNode
-  node-by {w} r q o e d =
-      record {
-        on = d .on;
-        inside = d .inside;
-        grew = d .grew;
-        all = λ kids z.
-            let y = d .all kids z in
-            record {
-              at = y .at;
-              did =
-                  y .did
-                  ∙ ap (λ (x : Routine). run config source (walk formatNode source (armsOf x kids) (armsOf x kids .begin) kids) (c, xs)) e
-                  ∙ ap (λ (b : Bool). run config source (cond b (formatErrorVerbatim h) (walk formatNode source (formatNode (h .kind) kids) (formatNode (h .kind) kids .begin) kids)) (c, xs)) (o .all _ kids z)
-                  ∙ ap (λ (x : Head). run config source (calls formatNode source (record { head = x; kids = kids })) (c, xs)) q;
-            };
-      }
+pub node-copied : {source tape : List ℕ} {config : FormatConfig} {errors : Bool} {left at kind j : ℕ} {c a : FormatterContext} {h : Head} {xs ys : List ℕ}
+    → NodeReady source tape config errors left at c → kind ≡ headAt tape at .kind → h ≡ headAt tape at → Scanned (copied kind) tape at true
+    → Skipped tape at j → Ran 1 config source (formatErrorVerbatim h) c xs a ys → NodeDone source tape config at c xs (record { at = j; context = a }) ys
+node-copied {source} {tape} {config} {at = at} {c = c} {xs = xs} p q e o s d =
+    record {
+      on = s .on;
+      inside = s .inside;
+      grew = omega (arith, d .spent .level, d .spent .length, s .past _ (p .kids) (p .lies), some-size (p .kids));
+      all = λ kids z. record {
+        at = s .past _ kids z;
+        did =
+            d .did ∙ ap (λ (x : Head). run config source (formatErrorVerbatim x) (c, xs)) e
+            ∙ by-kind config source (headAt tape at) kids (c, xs) q (o .all _ kids z);
+      };
+    }
+
+pub node-by : {source tape : List ℕ} {config : FormatConfig} {at kind : ℕ} {c : FormatterContext} {xs ys : List ℕ} {w : Walk} (r : Routine)
+    → kind ≡ headAt tape at .kind → Scanned (copied kind) tape at false → r ≡ routineOf kind
+    → RoutineDone source tape config at (armsOf r) c xs w ys → NodeDone source tape config at c xs w ys
+unfolding formatNode
+node-by {source} {tape} {config} {at} {kind} {c} {xs} r q o e d =
+    record {
+      on = d .on;
+      inside = d .inside;
+      grew = d .grew;
+      all = λ kids z.
+          let y = d .all kids z in
+          record {
+            at = y .at;
+            did =
+                y .did
+                ∙ ap (λ (x : Routine). run config source (walk formatNode source (armsOf x kids) (armsOf x kids .begin) kids) (c, xs)) e
+                ∙ by-kind config source (headAt tape at) kids (c, xs) q (o .all _ kids z);
+          };
+    }
 
 pub scanned-as : {A : Type 0} {f : Children → A} {tape : List ℕ} {i : ℕ} {x y : A} → Scanned f tape i x → x ≡ y → Scanned f tape i y
 scanned-as o e = record { all = λ n k z. sym e ∙ o .all n k z }

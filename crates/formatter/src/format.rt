@@ -61,6 +61,7 @@ use tape::syntax_kind;
 ghost use mathlib.Core.Path.{_≡_};
 ghost use mathlib.Core.Bool.{false};
 ghost use Rattle.tape.specs.Lies.{NodeAt, Scanned};
+ghost use Rattle.tape.specs.Tape.{headAt};
 ghost use Rattle.tape.specs.Tree.{copied};
 ghost use Rattle.layout.specs.Routines.{formatAlterCommandList, formatBinaryExpression, formatBraceList, formatBracketList, formatCaseExpression, formatCommaList, formatDataType, formatFile, formatFunctionCall, formatInline, formatInlineCommaList, formatInlineNoSpaces, formatInlineTightParens, formatJoinClause, formatListClause, formatParenList, formatPassthrough, formatQueryList, formatSelectClause, formatSelectStatement, formatSettingsClause, formatSimpleClause, formatSubquery, formatUnaryExpression, formatUnionClause, formatWhenClause, formatWithClause};
 ghost use Rattle.formatter.specs.Promise.{NodeDone, NodeReady, RoutineDone, always};
@@ -92,7 +93,7 @@ fn file(
             i += 11;
         } else {
             let a = file_before(out, ctx, local);
-            let w = node(source, tape, config, errors, out, left - 1, i, a);
+            let w = node(source, tape, config, errors, out, left - 1, i, h.kind, a);
             ctx = w.context;
             local = Local {
                 flag: true,
@@ -134,7 +135,7 @@ fn query_list(
             i += 11;
         } else {
             let a = query_list_before(out, ctx, local);
-            let w = node(source, tape, config, errors, out, left - 1, i, a);
+            let w = node(source, tape, config, errors, out, left - 1, i, h.kind, a);
             ctx = w.context;
             local = Local {
                 flag: false,
@@ -176,7 +177,7 @@ fn statement(
             i += 11;
         } else {
             let a = select_statement_before(out, ctx, local);
-            let w = node(source, tape, config, errors, out, left - 1, i, a);
+            let w = node(source, tape, config, errors, out, left - 1, i, h.kind, a);
             ctx = w.context;
             local = Local {
                 flag: false,
@@ -218,7 +219,7 @@ fn select(
             i += 11;
         } else {
             let a = select_clause_before(out, ctx, local, h.kind);
-            let w = node(source, tape, config, errors, out, left - 1, i, a);
+            let w = node(source, tape, config, errors, out, left - 1, i, h.kind, a);
             let b = w.context;
             ctx = select_clause_after(b, local, h.kind);
             i = w.at;
@@ -259,7 +260,7 @@ fn simple(
             i += 11;
         } else {
             let a = space_if(ctx, local.flag);
-            let w = node(source, tape, config, errors, out, left - 1, i, a);
+            let w = node(source, tape, config, errors, out, left - 1, i, h.kind, a);
             ctx = w.context;
             local = Local {
                 flag: true,
@@ -304,7 +305,7 @@ fn list_by(
         } else {
             let several = several_items(tape, i, list, h.kind);
             let a = list_clause_before(out, ctx, list, multi, local, h.kind, several);
-            let w = node(source, tape, config, errors, out, left - 1, i, a);
+            let w = node(source, tape, config, errors, out, left - 1, i, h.kind, a);
             let b = w.context;
             ctx = list_clause_after(b, list, h.kind, several);
             local = list_clause_local(list, multi, local, h.kind);
@@ -347,7 +348,7 @@ fn join(
             i += 11;
         } else {
             let a = space_if(ctx, local.flag);
-            let w = node(source, tape, config, errors, out, left - 1, i, a);
+            let w = node(source, tape, config, errors, out, left - 1, i, h.kind, a);
             ctx = w.context;
             local = Local {
                 flag: true,
@@ -389,7 +390,7 @@ fn settings(
             i += 11;
         } else {
             let a = settings_clause_before(out, ctx, local, h.kind);
-            let w = node(source, tape, config, errors, out, left - 1, i, a);
+            let w = node(source, tape, config, errors, out, left - 1, i, h.kind, a);
             let b = w.context;
             ctx = settings_clause_after(b, local, h.kind);
             i = w.at;
@@ -424,7 +425,7 @@ fn with_clause(
             i += 11;
         } else {
             let a = with_clause_before(out, ctx);
-            let w = node(source, tape, config, errors, out, left - 1, i, a);
+            let w = node(source, tape, config, errors, out, left - 1, i, h.kind, a);
             let b = w.context;
             ctx = with_clause_after(b);
             i = w.at;
@@ -465,7 +466,7 @@ fn commas(
             i += 11;
         } else {
             let a = space_if(ctx, !local.flag);
-            let w = node(source, tape, config, errors, out, left - 1, i, a);
+            let w = node(source, tape, config, errors, out, left - 1, i, h.kind, a);
             ctx = w.context;
             local = Local {
                 flag: false,
@@ -502,7 +503,7 @@ fn inline_commas(
             ctx = inline_comma_list_token(source, config, out, ctx, h);
             i += 11;
         } else {
-            let w = node(source, tape, config, errors, out, left - 1, i, ctx);
+            let w = node(source, tape, config, errors, out, left - 1, i, h.kind, ctx);
             ctx = w.context;
             i = w.at;
         }
@@ -535,7 +536,7 @@ fn binary(
             ctx = binary_expression_token(source, config, out, ctx, h);
             i += 11;
         } else {
-            let w = node(source, tape, config, errors, out, left - 1, i, ctx);
+            let w = node(source, tape, config, errors, out, left - 1, i, h.kind, ctx);
             ctx = w.context;
             i = w.at;
         }
@@ -568,7 +569,7 @@ fn unary(
             ctx = unary_expression_token(source, config, out, ctx, h);
             i += 11;
         } else {
-            let w = node(source, tape, config, errors, out, left - 1, i, ctx);
+            let w = node(source, tape, config, errors, out, left - 1, i, h.kind, ctx);
             ctx = w.context;
             i = w.at;
         }
@@ -601,7 +602,7 @@ fn call(
             ctx = function_call_token(source, config, out, ctx, h);
             i += 11;
         } else {
-            let w = node(source, tape, config, errors, out, left - 1, i, ctx);
+            let w = node(source, tape, config, errors, out, left - 1, i, h.kind, ctx);
             ctx = w.context;
             i = w.at;
         }
@@ -639,7 +640,7 @@ fn case_of(
             i += 11;
         } else {
             let a = case_expression_before(out, ctx, local, h.kind);
-            let w = node(source, tape, config, errors, out, left - 1, i, a);
+            let w = node(source, tape, config, errors, out, left - 1, i, h.kind, a);
             ctx = w.context;
             i = w.at;
         }
@@ -672,7 +673,7 @@ fn when_then(
             ctx = when_clause_token(source, config, out, ctx, h);
             i += 11;
         } else {
-            let w = node(source, tape, config, errors, out, left - 1, i, ctx);
+            let w = node(source, tape, config, errors, out, left - 1, i, h.kind, ctx);
             ctx = w.context;
             i = w.at;
         }
@@ -705,7 +706,7 @@ fn subquery(
             ctx = subquery_token(source, config, out, ctx, h);
             i += 11;
         } else {
-            let w = node(source, tape, config, errors, out, left - 1, i, ctx);
+            let w = node(source, tape, config, errors, out, left - 1, i, h.kind, ctx);
             ctx = w.context;
             i = w.at;
         }
@@ -738,7 +739,7 @@ fn parens(
             ctx = paren_list_token(source, config, out, ctx, h);
             i += 11;
         } else {
-            let w = node(source, tape, config, errors, out, left - 1, i, ctx);
+            let w = node(source, tape, config, errors, out, left - 1, i, h.kind, ctx);
             ctx = w.context;
             i = w.at;
         }
@@ -771,7 +772,7 @@ fn brackets(
             ctx = bracket_list_token(source, config, out, ctx, h);
             i += 11;
         } else {
-            let w = node(source, tape, config, errors, out, left - 1, i, ctx);
+            let w = node(source, tape, config, errors, out, left - 1, i, h.kind, ctx);
             ctx = w.context;
             i = w.at;
         }
@@ -804,7 +805,7 @@ fn braces(
             ctx = brace_list_token(source, config, out, ctx, h);
             i += 11;
         } else {
-            let w = node(source, tape, config, errors, out, left - 1, i, ctx);
+            let w = node(source, tape, config, errors, out, left - 1, i, h.kind, ctx);
             ctx = w.context;
             i = w.at;
         }
@@ -837,7 +838,7 @@ fn data_type(
             ctx = data_type_token(source, config, out, ctx, h);
             i += 11;
         } else {
-            let w = node(source, tape, config, errors, out, left - 1, i, ctx);
+            let w = node(source, tape, config, errors, out, left - 1, i, h.kind, ctx);
             ctx = w.context;
             i = w.at;
         }
@@ -878,7 +879,7 @@ fn tight(
         } else {
             let prev = local.prev;
             let a = space_if(ctx, space_after(prev));
-            let w = node(source, tape, config, errors, out, left - 1, i, a);
+            let w = node(source, tape, config, errors, out, left - 1, i, h.kind, a);
             ctx = w.context;
             local = Local {
                 flag: false,
@@ -923,7 +924,7 @@ fn inline(
         } else {
             let prev = local.prev;
             let a = space_if(ctx, space_after(prev));
-            let w = node(source, tape, config, errors, out, left - 1, i, a);
+            let w = node(source, tape, config, errors, out, left - 1, i, h.kind, a);
             ctx = w.context;
             local = Local {
                 flag: false,
@@ -960,7 +961,7 @@ fn no_spaces(
             ctx = emit_other(source, config, out, ctx, h);
             i += 11;
         } else {
-            let w = node(source, tape, config, errors, out, left - 1, i, ctx);
+            let w = node(source, tape, config, errors, out, left - 1, i, h.kind, ctx);
             ctx = w.context;
             i = w.at;
         }
@@ -993,7 +994,7 @@ fn passthrough(
             ctx = passthrough_token(source, config, out, ctx, h);
             i += 11;
         } else {
-            let w = node(source, tape, config, errors, out, left - 1, i, ctx);
+            let w = node(source, tape, config, errors, out, left - 1, i, h.kind, ctx);
             ctx = w.context;
             i = w.at;
         }
@@ -1026,7 +1027,7 @@ fn alter(
             ctx = alter_command_list_token(source, config, out, ctx, h);
             i += 11;
         } else {
-            let w = node(source, tape, config, errors, out, left - 1, i, ctx);
+            let w = node(source, tape, config, errors, out, left - 1, i, h.kind, ctx);
             ctx = w.context;
             i = w.at;
         }
@@ -1064,7 +1065,7 @@ fn union_of(
             i += 11;
         } else {
             let a = union_clause_before(out, ctx, local, h.kind);
-            let w = node(source, tape, config, errors, out, left - 1, i, a);
+            let w = node(source, tape, config, errors, out, left - 1, i, h.kind, a);
             ctx = w.context;
             local = union_clause_local(local, h.kind);
             i = w.at;
@@ -1093,7 +1094,7 @@ fn is_copied(tape: &[u8], errors: bool, at: usize, kind: u16) -> bool
     false
 }
 
-// format_node
+// format_node. The caller has read the node's kind, and waiting for the tape again would be a fifth of the time.
 pub(crate) fn node(
     source: &[u8],
     tape: &[u8],
@@ -1102,13 +1103,14 @@ pub(crate) fn node(
     out: &mut [u8],
     left: usize,
     at: usize,
+    kind: u16,
     c: FormatterContext,
 ) -> Walk
-    requires { ⌜ NodeReady (now source) (now tape) config errors left at c ⌝ }
+    requires { ⌜ NodeReady (now source) (now tape) config errors left at c × (kind ≡ headAt (now tape) at .kind) ⌝ }
     ensures { λ r. ⌜ NodeDone (now (source .entry)) (now (tape .entry)) config at c (now (out .entry)) r (now (out .exit)) ⌝ }
 {
-    let h = head_at(tape, at);
-    if is_copied(tape, errors, at, h.kind) {
+    if is_copied(tape, errors, at, kind) {
+        let h = head_at(tape, at);
         let end = skip(tape, at);
         let ctx = format_error_verbatim(source, config, out, c, h);
         return Walk {
@@ -1116,7 +1118,7 @@ pub(crate) fn node(
             context: ctx,
         };
     }
-    let r = routine_of(h.kind);
+    let r = routine_of(kind);
     match r {
         Routine::File => file(source, tape, config, errors, out, left, at, c),
         Routine::QueryList => query_list(source, tape, config, errors, out, left, at, c),

@@ -10,6 +10,7 @@ use layout::Answer;
 use tape::Checked;
 use tape::check::check_call;
 use tape::check::number;
+use tape::commands::head_at;
 ghost use mathlib.Core.Path.{_≡_};
 ghost use Prim.Native.Nat.{_<_};
 ghost use lib.ListN.{length};
@@ -35,6 +36,7 @@ fn trimmed_length(text: &[u8], tape: &[u8], config: FormatConfig, errors: bool) 
     ensures { λ r. ⌜ Trims (now (text .entry)) (now (tape .entry)) config r ⌝ }
 {
     let mut none = [0u8; 1];
+    let root = head_at(tape, 0);
     let w = node(
         text,
         tape,
@@ -43,6 +45,7 @@ fn trimmed_length(text: &[u8], tape: &[u8], config: FormatConfig, errors: bool) 
         &mut none[..0],
         63,
         0,
+        root.kind,
         FormatterContext::new(),
     );
     let c = w.context;
@@ -63,6 +66,7 @@ fn write_layout(
     requires { ⌜ Trims (now text) (now tape) config k × (0 < k) × (k < length (now out)) ⌝ }
     ensures { λ _. ⌜ Fills (now (text .entry)) (now (tape .entry)) config (now (out .entry)) (now (out .exit)) ⌝ }
 {
+    let root = head_at(tape, 0);
     let w = node(
         text,
         tape,
@@ -71,6 +75,7 @@ fn write_layout(
         &mut out[..k],
         63,
         0,
+        root.kind,
         FormatterContext::new(),
     );
     out[k] = 10;

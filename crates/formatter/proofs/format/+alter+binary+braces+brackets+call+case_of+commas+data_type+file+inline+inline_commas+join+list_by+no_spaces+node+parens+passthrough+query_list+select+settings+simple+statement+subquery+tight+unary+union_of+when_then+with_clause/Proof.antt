@@ -544,7 +544,7 @@ alter-node-requires : (t : ℕ) → alter-lts.Need-node-requires (
   node-below t,
   node.Post,
 ) (alter-at t) alter.Post alter-Inv-loop alter-μ-loop
-alter-node-requires t c κs = (omega (arith, c .before .before .before .before .before .before .before .before .before .before .pre .0, left-pos (c .before .before .before .before .before .before .before .before .before .before .pre .1) (c .before .before .before .before .before .before .loop .inv) (c .before .before .before .before .if1 .taken) (c .before .if2 .left)), node-ready (c .before .before .before .before .before .before .before .before .before .before .pre .1) (c .before .before .before .before .before .before .loop .inv) (c .before .before .before .before .if1 .taken) (c .before .if2 .left) (no-spacing {xs = c .before .before .before .before .before .before .loop .out}) (omega arith))
+alter-node-requires t c κs = (omega (arith, c .before .before .before .before .before .before .before .before .before .before .pre .0, left-pos (c .before .before .before .before .before .before .before .before .before .before .pre .1) (c .before .before .before .before .before .before .loop .inv) (c .before .before .before .before .if1 .taken) (c .before .if2 .left)), node-ready (c .before .before .before .before .before .before .before .before .before .before .pre .1) (c .before .before .before .before .before .before .loop .inv) (c .before .before .before .before .if1 .taken) (c .before .if2 .left) (c .before .before .before .head-at .ensures) (no-spacing {xs = c .before .before .before .before .before .before .loop .out}) (omega arith))
 
 alter-loop-less-2 : (t : ℕ) → alter-lts.Need-loop-less-2 (
   head-at-reads.Asked,
@@ -715,7 +715,7 @@ binary-node-requires : (t : ℕ) → binary-lts.Need-node-requires (
   node-below t,
   node.Post,
 ) (binary-at t) binary.Post binary-Inv-loop binary-μ-loop
-binary-node-requires t c κs = (omega (arith, c .before .before .before .before .before .before .before .before .before .before .pre .0, left-pos (c .before .before .before .before .before .before .before .before .before .before .pre .1) (c .before .before .before .before .before .before .loop .inv) (c .before .before .before .before .if1 .taken) (c .before .if2 .left)), node-ready (c .before .before .before .before .before .before .before .before .before .before .pre .1) (c .before .before .before .before .before .before .loop .inv) (c .before .before .before .before .if1 .taken) (c .before .if2 .left) (no-spacing {xs = c .before .before .before .before .before .before .loop .out}) (omega arith))
+binary-node-requires t c κs = (omega (arith, c .before .before .before .before .before .before .before .before .before .before .pre .0, left-pos (c .before .before .before .before .before .before .before .before .before .before .pre .1) (c .before .before .before .before .before .before .loop .inv) (c .before .before .before .before .if1 .taken) (c .before .if2 .left)), node-ready (c .before .before .before .before .before .before .before .before .before .before .pre .1) (c .before .before .before .before .before .before .loop .inv) (c .before .before .before .before .if1 .taken) (c .before .if2 .left) (c .before .before .before .head-at .ensures) (no-spacing {xs = c .before .before .before .before .before .before .loop .out}) (omega arith))
 
 binary-loop-less-2 : (t : ℕ) → binary-lts.Need-loop-less-2 (
   head-at-reads.Asked,
@@ -885,7 +885,7 @@ braces-node-requires : (t : ℕ) → braces-lts.Need-node-requires (
   node-below t,
   node.Post,
 ) (braces-at t) braces.Post braces-Inv-loop braces-μ-loop
-braces-node-requires t c κs = (omega (arith, c .before .before .before .before .before .before .before .before .before .before .pre .0, left-pos (c .before .before .before .before .before .before .before .before .before .before .pre .1) (c .before .before .before .before .before .before .loop .inv) (c .before .before .before .before .if1 .taken) (c .before .if2 .left)), node-ready (c .before .before .before .before .before .before .before .before .before .before .pre .1) (c .before .before .before .before .before .before .loop .inv) (c .before .before .before .before .if1 .taken) (c .before .if2 .left) (no-spacing {xs = c .before .before .before .before .before .before .loop .out}) (omega arith))
+braces-node-requires t c κs = (omega (arith, c .before .before .before .before .before .before .before .before .before .before .pre .0, left-pos (c .before .before .before .before .before .before .before .before .before .before .pre .1) (c .before .before .before .before .before .before .loop .inv) (c .before .before .before .before .if1 .taken) (c .before .if2 .left)), node-ready (c .before .before .before .before .before .before .before .before .before .before .pre .1) (c .before .before .before .before .before .before .loop .inv) (c .before .before .before .before .if1 .taken) (c .before .if2 .left) (c .before .before .before .head-at .ensures) (no-spacing {xs = c .before .before .before .before .before .before .loop .out}) (omega arith))
 
 braces-loop-less-2 : (t : ℕ) → braces-lts.Need-loop-less-2 (
   head-at-reads.Asked,
@@ -1055,7 +1055,7 @@ brackets-node-requires : (t : ℕ) → brackets-lts.Need-node-requires (
   node-below t,
   node.Post,
 ) (brackets-at t) brackets.Post brackets-Inv-loop brackets-μ-loop
-brackets-node-requires t c κs = (omega (arith, c .before .before .before .before .before .before .before .before .before .before .pre .0, left-pos (c .before .before .before .before .before .before .before .before .before .before .pre .1) (c .before .before .before .before .before .before .loop .inv) (c .before .before .before .before .if1 .taken) (c .before .if2 .left)), node-ready (c .before .before .before .before .before .before .before .before .before .before .pre .1) (c .before .before .before .before .before .before .loop .inv) (c .before .before .before .before .if1 .taken) (c .before .if2 .left) (no-spacing {xs = c .before .before .before .before .before .before .loop .out}) (omega arith))
+brackets-node-requires t c κs = (omega (arith, c .before .before .before .before .before .before .before .before .before .before .pre .0, left-pos (c .before .before .before .before .before .before .before .before .before .before .pre .1) (c .before .before .before .before .before .before .loop .inv) (c .before .before .before .before .if1 .taken) (c .before .if2 .left)), node-ready (c .before .before .before .before .before .before .before .before .before .before .pre .1) (c .before .before .before .before .before .before .loop .inv) (c .before .before .before .before .if1 .taken) (c .before .if2 .left) (c .before .before .before .head-at .ensures) (no-spacing {xs = c .before .before .before .before .before .before .loop .out}) (omega arith))
 
 brackets-loop-less-2 : (t : ℕ) → brackets-lts.Need-loop-less-2 (
   head-at-reads.Asked,
@@ -1225,7 +1225,7 @@ call-node-requires : (t : ℕ) → call-lts.Need-node-requires (
   node-below t,
   node.Post,
 ) (call-at t) call.Post call-Inv-loop call-μ-loop
-call-node-requires t c κs = (omega (arith, c .before .before .before .before .before .before .before .before .before .before .pre .0, left-pos (c .before .before .before .before .before .before .before .before .before .before .pre .1) (c .before .before .before .before .before .before .loop .inv) (c .before .before .before .before .if1 .taken) (c .before .if2 .left)), node-ready (c .before .before .before .before .before .before .before .before .before .before .pre .1) (c .before .before .before .before .before .before .loop .inv) (c .before .before .before .before .if1 .taken) (c .before .if2 .left) (no-spacing {xs = c .before .before .before .before .before .before .loop .out}) (omega arith))
+call-node-requires t c κs = (omega (arith, c .before .before .before .before .before .before .before .before .before .before .pre .0, left-pos (c .before .before .before .before .before .before .before .before .before .before .pre .1) (c .before .before .before .before .before .before .loop .inv) (c .before .before .before .before .if1 .taken) (c .before .if2 .left)), node-ready (c .before .before .before .before .before .before .before .before .before .before .pre .1) (c .before .before .before .before .before .before .loop .inv) (c .before .before .before .before .if1 .taken) (c .before .if2 .left) (c .before .before .before .head-at .ensures) (no-spacing {xs = c .before .before .before .before .before .before .loop .out}) (omega arith))
 
 call-loop-less-2 : (t : ℕ) → call-lts.Need-loop-less-2 (
   head-at-reads.Asked,
@@ -1430,7 +1430,7 @@ case-of-node-requires : (t : ℕ) → case-of-lts.Need-node-requires (
   node-below t,
   node.Post,
 ) (case-of-at t) case-of.Post case-of-Inv-loop case-of-μ-loop
-case-of-node-requires t c κs = (omega (arith, c .before .before .before .before .before .before .before .before .before .before .before .before .before .before .pre .0, left-pos (c .before .before .before .before .before .before .before .before .before .before .before .before .before .before .pre .1) (c .before .before .before .before .before .before .before .before .before .before .loop .inv) (c .before .before .before .before .before .before .before .before .if1 .taken) (c .before .before .before .before .before .if2 .left)), node-ready (c .before .before .before .before .before .before .before .before .before .before .before .before .before .before .pre .1) (c .before .before .before .before .before .before .before .before .before .before .loop .inv) (c .before .before .before .before .before .before .before .before .if1 .taken) (c .before .before .before .before .before .if2 .left) (c .before .before .before .case-expression-before .ensures) (omega arith))
+case-of-node-requires t c κs = (omega (arith, c .before .before .before .before .before .before .before .before .before .before .before .before .before .before .pre .0, left-pos (c .before .before .before .before .before .before .before .before .before .before .before .before .before .before .pre .1) (c .before .before .before .before .before .before .before .before .before .before .loop .inv) (c .before .before .before .before .before .before .before .before .if1 .taken) (c .before .before .before .before .before .if2 .left)), node-ready (c .before .before .before .before .before .before .before .before .before .before .before .before .before .before .pre .1) (c .before .before .before .before .before .before .before .before .before .before .loop .inv) (c .before .before .before .before .before .before .before .before .if1 .taken) (c .before .before .before .before .before .if2 .left) (c .before .before .before .before .before .before .before .head-at .ensures) (c .before .before .before .case-expression-before .ensures) (omega arith))
 
 case-of-loop-less-2 : (t : ℕ) → case-of-lts.Need-loop-less-2 (
   head-at-reads.Asked,
@@ -1644,7 +1644,7 @@ commas-node-requires : (t : ℕ) → commas-lts.Need-node-requires (
   node-below t,
   node.Post,
 ) (commas-at t) commas.Post commas-Inv-loop commas-μ-loop
-commas-node-requires t c κs = (omega (arith, c .before .before .before .before .before .before .before .before .before .before .before .before .pre .0, left-pos (c .before .before .before .before .before .before .before .before .before .before .before .before .pre .1) (c .before .before .before .before .before .before .before .before .loop .inv) (c .before .before .before .before .before .before .if1 .taken) (c .before .before .before .if2 .left)), node-ready (c .before .before .before .before .before .before .before .before .before .before .before .before .pre .1) (c .before .before .before .before .before .before .before .before .loop .inv) (c .before .before .before .before .before .before .if1 .taken) (c .before .before .before .if2 .left) (as-spaced (c .before .space-if .ensures)) (omega arith))
+commas-node-requires t c κs = (omega (arith, c .before .before .before .before .before .before .before .before .before .before .before .before .pre .0, left-pos (c .before .before .before .before .before .before .before .before .before .before .before .before .pre .1) (c .before .before .before .before .before .before .before .before .loop .inv) (c .before .before .before .before .before .before .if1 .taken) (c .before .before .before .if2 .left)), node-ready (c .before .before .before .before .before .before .before .before .before .before .before .before .pre .1) (c .before .before .before .before .before .before .before .before .loop .inv) (c .before .before .before .before .before .before .if1 .taken) (c .before .before .before .if2 .left) (c .before .before .before .before .before .head-at .ensures) (as-spaced (c .before .space-if .ensures)) (omega arith))
 
 commas-loop-less-2 : (t : ℕ) → commas-lts.Need-loop-less-2 (
   head-at-reads.Asked,
@@ -1824,7 +1824,7 @@ data-type-node-requires : (t : ℕ) → data-type-lts.Need-node-requires (
   node-below t,
   node.Post,
 ) (data-type-at t) data-type.Post data-type-Inv-loop data-type-μ-loop
-data-type-node-requires t c κs = (omega (arith, c .before .before .before .before .before .before .before .before .before .before .pre .0, left-pos (c .before .before .before .before .before .before .before .before .before .before .pre .1) (c .before .before .before .before .before .before .loop .inv) (c .before .before .before .before .if1 .taken) (c .before .if2 .left)), node-ready (c .before .before .before .before .before .before .before .before .before .before .pre .1) (c .before .before .before .before .before .before .loop .inv) (c .before .before .before .before .if1 .taken) (c .before .if2 .left) (no-spacing {xs = c .before .before .before .before .before .before .loop .out}) (omega arith))
+data-type-node-requires t c κs = (omega (arith, c .before .before .before .before .before .before .before .before .before .before .pre .0, left-pos (c .before .before .before .before .before .before .before .before .before .before .pre .1) (c .before .before .before .before .before .before .loop .inv) (c .before .before .before .before .if1 .taken) (c .before .if2 .left)), node-ready (c .before .before .before .before .before .before .before .before .before .before .pre .1) (c .before .before .before .before .before .before .loop .inv) (c .before .before .before .before .if1 .taken) (c .before .if2 .left) (c .before .before .before .head-at .ensures) (no-spacing {xs = c .before .before .before .before .before .before .loop .out}) (omega arith))
 
 data-type-loop-less-2 : (t : ℕ) → data-type-lts.Need-loop-less-2 (
   head-at-reads.Asked,
@@ -2028,7 +2028,7 @@ file-node-requires : (t : ℕ) → file-lts.Need-node-requires (
   node-below t,
   node.Post,
 ) (file-at t) file.Post file-Inv-loop file-μ-loop
-file-node-requires t c κs = (omega (arith, c .before .before .before .before .before .before .before .before .before .before .before .before .before .before .pre .0, left-pos (c .before .before .before .before .before .before .before .before .before .before .before .before .before .before .pre .1) (c .before .before .before .before .before .before .before .before .before .before .loop .inv) (c .before .before .before .before .before .before .before .before .if1 .taken) (c .before .before .before .before .before .if2 .left)), node-ready (c .before .before .before .before .before .before .before .before .before .before .before .before .before .before .pre .1) (c .before .before .before .before .before .before .before .before .before .before .loop .inv) (c .before .before .before .before .before .before .before .before .if1 .taken) (c .before .before .before .before .before .if2 .left) (c .before .before .before .file-before .ensures) (omega arith))
+file-node-requires t c κs = (omega (arith, c .before .before .before .before .before .before .before .before .before .before .before .before .before .before .pre .0, left-pos (c .before .before .before .before .before .before .before .before .before .before .before .before .before .before .pre .1) (c .before .before .before .before .before .before .before .before .before .before .loop .inv) (c .before .before .before .before .before .before .before .before .if1 .taken) (c .before .before .before .before .before .if2 .left)), node-ready (c .before .before .before .before .before .before .before .before .before .before .before .before .before .before .pre .1) (c .before .before .before .before .before .before .before .before .before .before .loop .inv) (c .before .before .before .before .before .before .before .before .if1 .taken) (c .before .before .before .before .before .if2 .left) (c .before .before .before .before .before .before .before .head-at .ensures) (c .before .before .before .file-before .ensures) (omega arith))
 
 file-loop-less-2 : (t : ℕ) → file-lts.Need-loop-less-2 (
   head-at-reads.Asked,
@@ -2280,7 +2280,7 @@ inline-node-requires : (t : ℕ) → inline-lts.Need-node-requires (
   node-below t,
   node.Post,
 ) (inline-at t) inline.Post inline-Inv-loop inline-μ-loop
-inline-node-requires t c κs = (omega (arith, c .before .before .before .before .before .before .before .before .before .before .before .before .pre .0, left-pos (c .before .before .before .before .before .before .before .before .before .before .before .before .pre .1) (c .before .before .before .before .before .before .before .before .loop .inv) (c .before .before .before .before .before .before .if1 .taken) (c .before .before .before .if2 .left)), node-ready (c .before .before .before .before .before .before .before .before .before .before .before .before .pre .1) (c .before .before .before .before .before .before .before .before .loop .inv) (c .before .before .before .before .before .before .if1 .taken) (c .before .before .before .if2 .left) (spaced 0 (spaceIf (spaceAfter ((c .before .before .before .before .before .before .before .before .loop .local) .prev))) (omega arith) (ap spaceIf (sym (c .before .before .space-after .ensures))) (as-spaced (c .before .space-if .ensures))) (omega arith))
+inline-node-requires t c κs = (omega (arith, c .before .before .before .before .before .before .before .before .before .before .before .before .pre .0, left-pos (c .before .before .before .before .before .before .before .before .before .before .before .before .pre .1) (c .before .before .before .before .before .before .before .before .loop .inv) (c .before .before .before .before .before .before .if1 .taken) (c .before .before .before .if2 .left)), node-ready (c .before .before .before .before .before .before .before .before .before .before .before .before .pre .1) (c .before .before .before .before .before .before .before .before .loop .inv) (c .before .before .before .before .before .before .if1 .taken) (c .before .before .before .if2 .left) (c .before .before .before .before .before .head-at .ensures) (spaced 0 (spaceIf (spaceAfter ((c .before .before .before .before .before .before .before .before .loop .local) .prev))) (omega arith) (ap spaceIf (sym (c .before .before .space-after .ensures))) (as-spaced (c .before .space-if .ensures))) (omega arith))
 
 inline-loop-less-2 : (t : ℕ) → inline-lts.Need-loop-less-2 (
   head-at-reads.Asked,
@@ -2471,7 +2471,7 @@ inline-commas-node-requires : (t : ℕ) → inline-commas-lts.Need-node-requires
   node-below t,
   node.Post,
 ) (inline-commas-at t) inline-commas.Post inline-commas-Inv-loop inline-commas-μ-loop
-inline-commas-node-requires t c κs = (omega (arith, c .before .before .before .before .before .before .before .before .before .before .pre .0, left-pos (c .before .before .before .before .before .before .before .before .before .before .pre .1) (c .before .before .before .before .before .before .loop .inv) (c .before .before .before .before .if1 .taken) (c .before .if2 .left)), node-ready (c .before .before .before .before .before .before .before .before .before .before .pre .1) (c .before .before .before .before .before .before .loop .inv) (c .before .before .before .before .if1 .taken) (c .before .if2 .left) (no-spacing {xs = c .before .before .before .before .before .before .loop .out}) (omega arith))
+inline-commas-node-requires t c κs = (omega (arith, c .before .before .before .before .before .before .before .before .before .before .pre .0, left-pos (c .before .before .before .before .before .before .before .before .before .before .pre .1) (c .before .before .before .before .before .before .loop .inv) (c .before .before .before .before .if1 .taken) (c .before .if2 .left)), node-ready (c .before .before .before .before .before .before .before .before .before .before .pre .1) (c .before .before .before .before .before .before .loop .inv) (c .before .before .before .before .if1 .taken) (c .before .if2 .left) (c .before .before .before .head-at .ensures) (no-spacing {xs = c .before .before .before .before .before .before .loop .out}) (omega arith))
 
 inline-commas-loop-less-2 : (t : ℕ) → inline-commas-lts.Need-loop-less-2 (
   head-at-reads.Asked,
@@ -2675,7 +2675,7 @@ join-node-requires : (t : ℕ) → join-lts.Need-node-requires (
   node-below t,
   node.Post,
 ) (join-at t) join.Post join-Inv-loop join-μ-loop
-join-node-requires t c κs = (omega (arith, c .before .before .before .before .before .before .before .before .before .before .before .pre .0, left-pos (c .before .before .before .before .before .before .before .before .before .before .before .pre .1) (c .before .before .before .before .before .before .before .loop .inv) (c .before .before .before .before .before .if1 .taken) (c .before .before .if2 .left)), node-ready (c .before .before .before .before .before .before .before .before .before .before .before .pre .1) (c .before .before .before .before .before .before .before .loop .inv) (c .before .before .before .before .before .if1 .taken) (c .before .before .if2 .left) (as-spaced (c .before .space-if .ensures)) (omega arith))
+join-node-requires t c κs = (omega (arith, c .before .before .before .before .before .before .before .before .before .before .before .pre .0, left-pos (c .before .before .before .before .before .before .before .before .before .before .before .pre .1) (c .before .before .before .before .before .before .before .loop .inv) (c .before .before .before .before .before .if1 .taken) (c .before .before .if2 .left)), node-ready (c .before .before .before .before .before .before .before .before .before .before .before .pre .1) (c .before .before .before .before .before .before .before .loop .inv) (c .before .before .before .before .before .if1 .taken) (c .before .before .if2 .left) (c .before .before .before .before .head-at .ensures) (as-spaced (c .before .space-if .ensures)) (omega arith))
 
 join-loop-less-2 : (t : ℕ) → join-lts.Need-loop-less-2 (
   head-at-reads.Asked,
@@ -3053,7 +3053,7 @@ list-by-node-requires : (t : ℕ) → list-by-lts.Need-node-requires (
   list-clause-end-reads.Asked,
   list-clause-end-reads.Learnt,
 ) (list-by-at t) list-by.Post list-by-Inv-loop list-by-μ-loop
-list-by-node-requires t c κs = (omega (arith, c .before .before .before .before .before .before .before .before .before .before .before .before .before .before .before .before .pre .0, left-pos (c .before .before .before .before .before .before .before .before .before .before .before .before .before .before .before .before .pre .1) (c .before .before .before .before .before .before .before .before .before .before .before .loop .inv) (c .before .before .before .before .before .before .before .before .before .if1 .taken) (c .before .before .before .before .before .before .if2 .left)), node-ready (c .before .before .before .before .before .before .before .before .before .before .before .before .before .before .before .before .pre .1) (c .before .before .before .before .before .before .before .before .before .before .before .loop .inv) (c .before .before .before .before .before .before .before .before .before .if1 .taken) (c .before .before .before .before .before .before .if2 .left) (c .before .before .before .list-clause-before .ensures) (omega arith))
+list-by-node-requires t c κs = (omega (arith, c .before .before .before .before .before .before .before .before .before .before .before .before .before .before .before .before .pre .0, left-pos (c .before .before .before .before .before .before .before .before .before .before .before .before .before .before .before .before .pre .1) (c .before .before .before .before .before .before .before .before .before .before .before .loop .inv) (c .before .before .before .before .before .before .before .before .before .if1 .taken) (c .before .before .before .before .before .before .if2 .left)), node-ready (c .before .before .before .before .before .before .before .before .before .before .before .before .before .before .before .before .pre .1) (c .before .before .before .before .before .before .before .before .before .before .before .loop .inv) (c .before .before .before .before .before .before .before .before .before .if1 .taken) (c .before .before .before .before .before .before .if2 .left) (c .before .before .before .before .before .before .before .before .head-at .ensures) (c .before .before .before .list-clause-before .ensures) (omega arith))
 
 list-by-list-clause-after-requires : (t : ℕ) → list-by-lts.Need-list-clause-after-requires (
   multi-item-reads.Asked,
@@ -3349,7 +3349,7 @@ no-spaces-node-requires : (t : ℕ) → no-spaces-lts.Need-node-requires (
   node-below t,
   node.Post,
 ) (no-spaces-at t) no-spaces.Post no-spaces-Inv-loop no-spaces-μ-loop
-no-spaces-node-requires t c κs = (omega (arith, c .before .before .before .before .before .before .before .before .before .before .pre .0, left-pos (c .before .before .before .before .before .before .before .before .before .before .pre .1) (c .before .before .before .before .before .before .loop .inv) (c .before .before .before .before .if1 .taken) (c .before .if2 .left)), node-ready (c .before .before .before .before .before .before .before .before .before .before .pre .1) (c .before .before .before .before .before .before .loop .inv) (c .before .before .before .before .if1 .taken) (c .before .if2 .left) (no-spacing {xs = c .before .before .before .before .before .before .loop .out}) (omega arith))
+no-spaces-node-requires t c κs = (omega (arith, c .before .before .before .before .before .before .before .before .before .before .pre .0, left-pos (c .before .before .before .before .before .before .before .before .before .before .pre .1) (c .before .before .before .before .before .before .loop .inv) (c .before .before .before .before .if1 .taken) (c .before .if2 .left)), node-ready (c .before .before .before .before .before .before .before .before .before .before .pre .1) (c .before .before .before .before .before .before .loop .inv) (c .before .before .before .before .if1 .taken) (c .before .if2 .left) (c .before .before .before .head-at .ensures) (no-spacing {xs = c .before .before .before .before .before .before .loop .out}) (omega arith))
 
 no-spaces-loop-less-2 : (t : ℕ) → no-spaces-lts.Need-loop-less-2 (
   head-at-reads.Asked,
@@ -3403,79 +3403,11 @@ no-spaces-returns : (t : ℕ) → no-spaces-lts.Need-returns (
 unfolding formatInlineNoSpaces
 no-spaces-returns t c = loop-last (c .before .before .before .before .before .before .pre .1) (c .before .before .loop .inv) (c .if1 .left) no-spacing (omega arith)
 
-node-head-at-requires : (t : ℕ) → node-lts.Need-head-at-requires (
-  head-at-reads.Asked,
-  head-at-reads.Learnt,
-  is-copied-reads.Asked,
-  is-copied-reads.Learnt,
-  skip-reads.Asked,
-  skip-reads.Learnt,
-  format-error-verbatim-reads.Asked,
-  format-error-verbatim-reads.Learnt,
-  routine-of-reads.Asked,
-  routine-of-reads.Learnt,
-  file-below t,
-  file.Post,
-  query-list-below t,
-  query-list.Post,
-  statement-below t,
-  statement′.Post,
-  select-below t,
-  select.Post,
-  simple-below t,
-  simple.Post,
-  list-by-below t,
-  list-by.Post,
-  join-below t,
-  join.Post,
-  settings-below t,
-  settings.Post,
-  with-clause-below t,
-  with-clause.Post,
-  inline-below t,
-  inline.Post,
-  commas-below t,
-  commas.Post,
-  inline-commas-below t,
-  inline-commas.Post,
-  binary-below t,
-  binary.Post,
-  unary-below t,
-  unary.Post,
-  call-below t,
-  call.Post,
-  case-of-below t,
-  case-of.Post,
-  when-then-below t,
-  when-then.Post,
-  subquery-below t,
-  subquery.Post,
-  parens-below t,
-  parens.Post,
-  brackets-below t,
-  brackets.Post,
-  no-spaces-below t,
-  no-spaces.Post,
-  braces-below t,
-  braces.Post,
-  data-type-below t,
-  data-type.Post,
-  tight-below t,
-  tight.Post,
-  alter-below t,
-  alter.Post,
-  union-of-below t,
-  union-of.Post,
-  passthrough-below t,
-  passthrough.Post,
-) (node-at t) node.Post
-node-head-at-requires t c κs = c .before .before .before .pre .1 .inside
-
 node-is-copied-requires : (t : ℕ) → node-lts.Need-is-copied-requires (
-  head-at-reads.Asked,
-  head-at-reads.Learnt,
   is-copied-reads.Asked,
   is-copied-reads.Learnt,
+  head-at-reads.Asked,
+  head-at-reads.Learnt,
   skip-reads.Asked,
   skip-reads.Learnt,
   format-error-verbatim-reads.Asked,
@@ -3537,13 +3469,81 @@ node-is-copied-requires : (t : ℕ) → node-lts.Need-is-copied-requires (
   passthrough-below t,
   passthrough.Post,
 ) (node-at t) node.Post
-node-is-copied-requires t c κs = (opened-at (c .before .before .before .before .pre .1), clean-node (c .before .before .before .before .pre .1) (c .head-at .ensures))
+node-is-copied-requires t c κs = (opened-at (c .before .before .before .pre .1 .0), clean-node (c .before .before .before .pre .1 .0) (c .before .before .before .pre .1 .1))
+
+node-head-at-requires : (t : ℕ) → node-lts.Need-head-at-requires (
+  is-copied-reads.Asked,
+  is-copied-reads.Learnt,
+  head-at-reads.Asked,
+  head-at-reads.Learnt,
+  skip-reads.Asked,
+  skip-reads.Learnt,
+  format-error-verbatim-reads.Asked,
+  format-error-verbatim-reads.Learnt,
+  routine-of-reads.Asked,
+  routine-of-reads.Learnt,
+  file-below t,
+  file.Post,
+  query-list-below t,
+  query-list.Post,
+  statement-below t,
+  statement′.Post,
+  select-below t,
+  select.Post,
+  simple-below t,
+  simple.Post,
+  list-by-below t,
+  list-by.Post,
+  join-below t,
+  join.Post,
+  settings-below t,
+  settings.Post,
+  with-clause-below t,
+  with-clause.Post,
+  inline-below t,
+  inline.Post,
+  commas-below t,
+  commas.Post,
+  inline-commas-below t,
+  inline-commas.Post,
+  binary-below t,
+  binary.Post,
+  unary-below t,
+  unary.Post,
+  call-below t,
+  call.Post,
+  case-of-below t,
+  case-of.Post,
+  when-then-below t,
+  when-then.Post,
+  subquery-below t,
+  subquery.Post,
+  parens-below t,
+  parens.Post,
+  brackets-below t,
+  brackets.Post,
+  no-spaces-below t,
+  no-spaces.Post,
+  braces-below t,
+  braces.Post,
+  data-type-below t,
+  data-type.Post,
+  tight-below t,
+  tight.Post,
+  alter-below t,
+  alter.Post,
+  union-of-below t,
+  union-of.Post,
+  passthrough-below t,
+  passthrough.Post,
+) (node-at t) node.Post
+node-head-at-requires t c κs = c .before .before .before .before .before .pre .1 .0 .inside
 
 node-skip-requires : (t : ℕ) → node-lts.Need-skip-requires (
-  head-at-reads.Asked,
-  head-at-reads.Learnt,
   is-copied-reads.Asked,
   is-copied-reads.Learnt,
+  head-at-reads.Asked,
+  head-at-reads.Learnt,
   skip-reads.Asked,
   skip-reads.Learnt,
   format-error-verbatim-reads.Asked,
@@ -3605,13 +3605,13 @@ node-skip-requires : (t : ℕ) → node-lts.Need-skip-requires (
   passthrough-below t,
   passthrough.Post,
 ) (node-at t) node.Post
-node-skip-requires t c κs = opened-at (c .before .before .before .before .before .before .pre .1)
+node-skip-requires t c κs = opened-at (c .before .before .before .before .before .before .pre .1 .0)
 
 node-format-error-verbatim-requires : (t : ℕ) → node-lts.Need-format-error-verbatim-requires (
-  head-at-reads.Asked,
-  head-at-reads.Learnt,
   is-copied-reads.Asked,
   is-copied-reads.Learnt,
+  head-at-reads.Asked,
+  head-at-reads.Learnt,
   skip-reads.Asked,
   skip-reads.Learnt,
   format-error-verbatim-reads.Asked,
@@ -3673,13 +3673,13 @@ node-format-error-verbatim-requires : (t : ℕ) → node-lts.Need-format-error-v
   passthrough-below t,
   passthrough.Post,
 ) (node-at t) node.Post
-node-format-error-verbatim-requires t c κs = copy-ready (c .before .before .before .before .before .before .before .before .pre .1) (c .before .before .before .before .head-at .ensures)
+node-format-error-verbatim-requires t c κs = copy-ready (c .before .before .before .before .before .before .before .before .pre .1 .0) (c .before .before .head-at .ensures)
 
 node-same-length : (t : ℕ) → node-lts.Need-same-length (
-  head-at-reads.Asked,
-  head-at-reads.Learnt,
   is-copied-reads.Asked,
   is-copied-reads.Learnt,
+  head-at-reads.Asked,
+  head-at-reads.Learnt,
   skip-reads.Asked,
   skip-reads.Learnt,
   format-error-verbatim-reads.Asked,
@@ -3744,10 +3744,10 @@ node-same-length : (t : ℕ) → node-lts.Need-same-length (
 node-same-length t c = c .before .before .format-error-verbatim .kept .1 .1 .0
 
 node-returns : (t : ℕ) → node-lts.Need-returns (
-  head-at-reads.Asked,
-  head-at-reads.Learnt,
   is-copied-reads.Asked,
   is-copied-reads.Learnt,
+  head-at-reads.Asked,
+  head-at-reads.Learnt,
   skip-reads.Asked,
   skip-reads.Learnt,
   format-error-verbatim-reads.Asked,
@@ -3809,13 +3809,13 @@ node-returns : (t : ℕ) → node-lts.Need-returns (
   passthrough-below t,
   passthrough.Post,
 ) (node-at t) node.Post
-node-returns t c = node-copied (c .before .before .before .before .before .before .before .before .before .before .before .pre .1) (c .before .before .before .before .before .before .before .head-at .ensures) (scanned-as (c .before .before .before .before .before .before .is-copied .ensures) (c .before .before .before .before .before .if1 .taken)) (c .before .before .before .before .skip .ensures) (c .before .before .format-error-verbatim .ensures)
+node-returns t c = node-copied (c .before .before .before .before .before .before .before .before .before .before .before .pre .1 .0) (c .before .before .before .before .before .before .before .before .before .before .before .pre .1 .1) (c .before .before .before .before .before .head-at .ensures) (scanned-as (c .before .before .before .before .before .before .before .is-copied .ensures) (c .before .before .before .before .before .before .if1 .taken)) (c .before .before .before .before .skip .ensures) (c .before .before .format-error-verbatim .ensures)
 
 node-routine-of-requires : (t : ℕ) → node-lts.Need-routine-of-requires (
-  head-at-reads.Asked,
-  head-at-reads.Learnt,
   is-copied-reads.Asked,
   is-copied-reads.Learnt,
+  head-at-reads.Asked,
+  head-at-reads.Learnt,
   skip-reads.Asked,
   skip-reads.Learnt,
   format-error-verbatim-reads.Asked,
@@ -3880,10 +3880,10 @@ node-routine-of-requires : (t : ℕ) → node-lts.Need-routine-of-requires (
 node-routine-of-requires t c κs = search needs
 
 node-enum-told : (t : ℕ) → node-lts.Need-enum-told (
-  head-at-reads.Asked,
-  head-at-reads.Learnt,
   is-copied-reads.Asked,
   is-copied-reads.Learnt,
+  head-at-reads.Asked,
+  head-at-reads.Learnt,
   skip-reads.Asked,
   skip-reads.Learnt,
   format-error-verbatim-reads.Asked,
@@ -3948,10 +3948,10 @@ node-enum-told : (t : ℕ) → node-lts.Need-enum-told (
 node-enum-told t c = search needs
 
 node-file-requires : (t : ℕ) → node-lts.Need-file-requires (
-  head-at-reads.Asked,
-  head-at-reads.Learnt,
   is-copied-reads.Asked,
   is-copied-reads.Learnt,
+  head-at-reads.Asked,
+  head-at-reads.Learnt,
   skip-reads.Asked,
   skip-reads.Learnt,
   format-error-verbatim-reads.Asked,
@@ -4013,13 +4013,13 @@ node-file-requires : (t : ℕ) → node-lts.Need-file-requires (
   passthrough-below t,
   passthrough.Post,
 ) (node-at t) node.Post
-node-file-requires t c κs = (omega (arith, c .before .before .before .before .before .before .before .before .before .before .pre .0), c .before .before .before .before .before .before .before .before .before .before .pre .1)
+node-file-requires t c κs = (omega (arith, c .before .before .before .before .before .before .before .before .before .pre .0), c .before .before .before .before .before .before .before .before .before .pre .1 .0)
 
 node-enum-told-2 : (t : ℕ) → node-lts.Need-enum-told-2 (
-  head-at-reads.Asked,
-  head-at-reads.Learnt,
   is-copied-reads.Asked,
   is-copied-reads.Learnt,
+  head-at-reads.Asked,
+  head-at-reads.Learnt,
   skip-reads.Asked,
   skip-reads.Learnt,
   format-error-verbatim-reads.Asked,
@@ -4084,10 +4084,10 @@ node-enum-told-2 : (t : ℕ) → node-lts.Need-enum-told-2 (
 node-enum-told-2 t c = search needs
 
 node-query-list-requires : (t : ℕ) → node-lts.Need-query-list-requires (
-  head-at-reads.Asked,
-  head-at-reads.Learnt,
   is-copied-reads.Asked,
   is-copied-reads.Learnt,
+  head-at-reads.Asked,
+  head-at-reads.Learnt,
   skip-reads.Asked,
   skip-reads.Learnt,
   format-error-verbatim-reads.Asked,
@@ -4149,13 +4149,13 @@ node-query-list-requires : (t : ℕ) → node-lts.Need-query-list-requires (
   passthrough-below t,
   passthrough.Post,
 ) (node-at t) node.Post
-node-query-list-requires t c κs = (omega (arith, c .before .before .before .before .before .before .before .before .before .before .pre .0), c .before .before .before .before .before .before .before .before .before .before .pre .1)
+node-query-list-requires t c κs = (omega (arith, c .before .before .before .before .before .before .before .before .before .pre .0), c .before .before .before .before .before .before .before .before .before .pre .1 .0)
 
 node-enum-told-3 : (t : ℕ) → node-lts.Need-enum-told-3 (
-  head-at-reads.Asked,
-  head-at-reads.Learnt,
   is-copied-reads.Asked,
   is-copied-reads.Learnt,
+  head-at-reads.Asked,
+  head-at-reads.Learnt,
   skip-reads.Asked,
   skip-reads.Learnt,
   format-error-verbatim-reads.Asked,
@@ -4220,10 +4220,10 @@ node-enum-told-3 : (t : ℕ) → node-lts.Need-enum-told-3 (
 node-enum-told-3 t c = search needs
 
 node-statement-requires : (t : ℕ) → node-lts.Need-statement-requires (
-  head-at-reads.Asked,
-  head-at-reads.Learnt,
   is-copied-reads.Asked,
   is-copied-reads.Learnt,
+  head-at-reads.Asked,
+  head-at-reads.Learnt,
   skip-reads.Asked,
   skip-reads.Learnt,
   format-error-verbatim-reads.Asked,
@@ -4285,13 +4285,13 @@ node-statement-requires : (t : ℕ) → node-lts.Need-statement-requires (
   passthrough-below t,
   passthrough.Post,
 ) (node-at t) node.Post
-node-statement-requires t c κs = (omega (arith, c .before .before .before .before .before .before .before .before .before .before .pre .0), c .before .before .before .before .before .before .before .before .before .before .pre .1)
+node-statement-requires t c κs = (omega (arith, c .before .before .before .before .before .before .before .before .before .pre .0), c .before .before .before .before .before .before .before .before .before .pre .1 .0)
 
 node-enum-told-4 : (t : ℕ) → node-lts.Need-enum-told-4 (
-  head-at-reads.Asked,
-  head-at-reads.Learnt,
   is-copied-reads.Asked,
   is-copied-reads.Learnt,
+  head-at-reads.Asked,
+  head-at-reads.Learnt,
   skip-reads.Asked,
   skip-reads.Learnt,
   format-error-verbatim-reads.Asked,
@@ -4356,10 +4356,10 @@ node-enum-told-4 : (t : ℕ) → node-lts.Need-enum-told-4 (
 node-enum-told-4 t c = search needs
 
 node-select-requires : (t : ℕ) → node-lts.Need-select-requires (
-  head-at-reads.Asked,
-  head-at-reads.Learnt,
   is-copied-reads.Asked,
   is-copied-reads.Learnt,
+  head-at-reads.Asked,
+  head-at-reads.Learnt,
   skip-reads.Asked,
   skip-reads.Learnt,
   format-error-verbatim-reads.Asked,
@@ -4421,13 +4421,13 @@ node-select-requires : (t : ℕ) → node-lts.Need-select-requires (
   passthrough-below t,
   passthrough.Post,
 ) (node-at t) node.Post
-node-select-requires t c κs = (omega (arith, c .before .before .before .before .before .before .before .before .before .before .pre .0), c .before .before .before .before .before .before .before .before .before .before .pre .1)
+node-select-requires t c κs = (omega (arith, c .before .before .before .before .before .before .before .before .before .pre .0), c .before .before .before .before .before .before .before .before .before .pre .1 .0)
 
 node-enum-told-5 : (t : ℕ) → node-lts.Need-enum-told-5 (
-  head-at-reads.Asked,
-  head-at-reads.Learnt,
   is-copied-reads.Asked,
   is-copied-reads.Learnt,
+  head-at-reads.Asked,
+  head-at-reads.Learnt,
   skip-reads.Asked,
   skip-reads.Learnt,
   format-error-verbatim-reads.Asked,
@@ -4492,10 +4492,10 @@ node-enum-told-5 : (t : ℕ) → node-lts.Need-enum-told-5 (
 node-enum-told-5 t c = search needs
 
 node-simple-requires : (t : ℕ) → node-lts.Need-simple-requires (
-  head-at-reads.Asked,
-  head-at-reads.Learnt,
   is-copied-reads.Asked,
   is-copied-reads.Learnt,
+  head-at-reads.Asked,
+  head-at-reads.Learnt,
   skip-reads.Asked,
   skip-reads.Learnt,
   format-error-verbatim-reads.Asked,
@@ -4557,13 +4557,13 @@ node-simple-requires : (t : ℕ) → node-lts.Need-simple-requires (
   passthrough-below t,
   passthrough.Post,
 ) (node-at t) node.Post
-node-simple-requires t c κs = (omega (arith, c .before .before .before .before .before .before .before .before .before .before .pre .0), c .before .before .before .before .before .before .before .before .before .before .pre .1)
+node-simple-requires t c κs = (omega (arith, c .before .before .before .before .before .before .before .before .before .pre .0), c .before .before .before .before .before .before .before .before .before .pre .1 .0)
 
 node-enum-told-6 : (t : ℕ) → node-lts.Need-enum-told-6 (
-  head-at-reads.Asked,
-  head-at-reads.Learnt,
   is-copied-reads.Asked,
   is-copied-reads.Learnt,
+  head-at-reads.Asked,
+  head-at-reads.Learnt,
   skip-reads.Asked,
   skip-reads.Learnt,
   format-error-verbatim-reads.Asked,
@@ -4628,10 +4628,10 @@ node-enum-told-6 : (t : ℕ) → node-lts.Need-enum-told-6 (
 node-enum-told-6 t c = search needs
 
 node-list-by-requires : (t : ℕ) → node-lts.Need-list-by-requires (
-  head-at-reads.Asked,
-  head-at-reads.Learnt,
   is-copied-reads.Asked,
   is-copied-reads.Learnt,
+  head-at-reads.Asked,
+  head-at-reads.Learnt,
   skip-reads.Asked,
   skip-reads.Learnt,
   format-error-verbatim-reads.Asked,
@@ -4693,13 +4693,13 @@ node-list-by-requires : (t : ℕ) → node-lts.Need-list-by-requires (
   passthrough-below t,
   passthrough.Post,
 ) (node-at t) node.Post
-node-list-by-requires t c κs = (omega (arith, c .before .before .before .before .before .before .before .before .before .before .pre .0), c .before .before .before .before .before .before .before .before .before .before .pre .1)
+node-list-by-requires t c κs = (omega (arith, c .before .before .before .before .before .before .before .before .before .pre .0), c .before .before .before .before .before .before .before .before .before .pre .1 .0)
 
 node-enum-told-7 : (t : ℕ) → node-lts.Need-enum-told-7 (
-  head-at-reads.Asked,
-  head-at-reads.Learnt,
   is-copied-reads.Asked,
   is-copied-reads.Learnt,
+  head-at-reads.Asked,
+  head-at-reads.Learnt,
   skip-reads.Asked,
   skip-reads.Learnt,
   format-error-verbatim-reads.Asked,
@@ -4764,10 +4764,10 @@ node-enum-told-7 : (t : ℕ) → node-lts.Need-enum-told-7 (
 node-enum-told-7 t c = search needs
 
 node-list-by-requires-2 : (t : ℕ) → node-lts.Need-list-by-requires-2 (
-  head-at-reads.Asked,
-  head-at-reads.Learnt,
   is-copied-reads.Asked,
   is-copied-reads.Learnt,
+  head-at-reads.Asked,
+  head-at-reads.Learnt,
   skip-reads.Asked,
   skip-reads.Learnt,
   format-error-verbatim-reads.Asked,
@@ -4829,13 +4829,13 @@ node-list-by-requires-2 : (t : ℕ) → node-lts.Need-list-by-requires-2 (
   passthrough-below t,
   passthrough.Post,
 ) (node-at t) node.Post
-node-list-by-requires-2 t c κs = (omega (arith, c .before .before .before .before .before .before .before .before .before .before .pre .0), c .before .before .before .before .before .before .before .before .before .before .pre .1)
+node-list-by-requires-2 t c κs = (omega (arith, c .before .before .before .before .before .before .before .before .before .pre .0), c .before .before .before .before .before .before .before .before .before .pre .1 .0)
 
 node-enum-told-8 : (t : ℕ) → node-lts.Need-enum-told-8 (
-  head-at-reads.Asked,
-  head-at-reads.Learnt,
   is-copied-reads.Asked,
   is-copied-reads.Learnt,
+  head-at-reads.Asked,
+  head-at-reads.Learnt,
   skip-reads.Asked,
   skip-reads.Learnt,
   format-error-verbatim-reads.Asked,
@@ -4900,10 +4900,10 @@ node-enum-told-8 : (t : ℕ) → node-lts.Need-enum-told-8 (
 node-enum-told-8 t c = search needs
 
 node-join-requires : (t : ℕ) → node-lts.Need-join-requires (
-  head-at-reads.Asked,
-  head-at-reads.Learnt,
   is-copied-reads.Asked,
   is-copied-reads.Learnt,
+  head-at-reads.Asked,
+  head-at-reads.Learnt,
   skip-reads.Asked,
   skip-reads.Learnt,
   format-error-verbatim-reads.Asked,
@@ -4965,13 +4965,13 @@ node-join-requires : (t : ℕ) → node-lts.Need-join-requires (
   passthrough-below t,
   passthrough.Post,
 ) (node-at t) node.Post
-node-join-requires t c κs = (omega (arith, c .before .before .before .before .before .before .before .before .before .before .pre .0), c .before .before .before .before .before .before .before .before .before .before .pre .1)
+node-join-requires t c κs = (omega (arith, c .before .before .before .before .before .before .before .before .before .pre .0), c .before .before .before .before .before .before .before .before .before .pre .1 .0)
 
 node-enum-told-9 : (t : ℕ) → node-lts.Need-enum-told-9 (
-  head-at-reads.Asked,
-  head-at-reads.Learnt,
   is-copied-reads.Asked,
   is-copied-reads.Learnt,
+  head-at-reads.Asked,
+  head-at-reads.Learnt,
   skip-reads.Asked,
   skip-reads.Learnt,
   format-error-verbatim-reads.Asked,
@@ -5036,10 +5036,10 @@ node-enum-told-9 : (t : ℕ) → node-lts.Need-enum-told-9 (
 node-enum-told-9 t c = search needs
 
 node-settings-requires : (t : ℕ) → node-lts.Need-settings-requires (
-  head-at-reads.Asked,
-  head-at-reads.Learnt,
   is-copied-reads.Asked,
   is-copied-reads.Learnt,
+  head-at-reads.Asked,
+  head-at-reads.Learnt,
   skip-reads.Asked,
   skip-reads.Learnt,
   format-error-verbatim-reads.Asked,
@@ -5101,13 +5101,13 @@ node-settings-requires : (t : ℕ) → node-lts.Need-settings-requires (
   passthrough-below t,
   passthrough.Post,
 ) (node-at t) node.Post
-node-settings-requires t c κs = (omega (arith, c .before .before .before .before .before .before .before .before .before .before .pre .0), c .before .before .before .before .before .before .before .before .before .before .pre .1)
+node-settings-requires t c κs = (omega (arith, c .before .before .before .before .before .before .before .before .before .pre .0), c .before .before .before .before .before .before .before .before .before .pre .1 .0)
 
 node-enum-told-10 : (t : ℕ) → node-lts.Need-enum-told-10 (
-  head-at-reads.Asked,
-  head-at-reads.Learnt,
   is-copied-reads.Asked,
   is-copied-reads.Learnt,
+  head-at-reads.Asked,
+  head-at-reads.Learnt,
   skip-reads.Asked,
   skip-reads.Learnt,
   format-error-verbatim-reads.Asked,
@@ -5172,10 +5172,10 @@ node-enum-told-10 : (t : ℕ) → node-lts.Need-enum-told-10 (
 node-enum-told-10 t c = search needs
 
 node-with-clause-requires : (t : ℕ) → node-lts.Need-with-clause-requires (
-  head-at-reads.Asked,
-  head-at-reads.Learnt,
   is-copied-reads.Asked,
   is-copied-reads.Learnt,
+  head-at-reads.Asked,
+  head-at-reads.Learnt,
   skip-reads.Asked,
   skip-reads.Learnt,
   format-error-verbatim-reads.Asked,
@@ -5237,13 +5237,13 @@ node-with-clause-requires : (t : ℕ) → node-lts.Need-with-clause-requires (
   passthrough-below t,
   passthrough.Post,
 ) (node-at t) node.Post
-node-with-clause-requires t c κs = (omega (arith, c .before .before .before .before .before .before .before .before .before .before .pre .0), c .before .before .before .before .before .before .before .before .before .before .pre .1)
+node-with-clause-requires t c κs = (omega (arith, c .before .before .before .before .before .before .before .before .before .pre .0), c .before .before .before .before .before .before .before .before .before .pre .1 .0)
 
 node-enum-told-11 : (t : ℕ) → node-lts.Need-enum-told-11 (
-  head-at-reads.Asked,
-  head-at-reads.Learnt,
   is-copied-reads.Asked,
   is-copied-reads.Learnt,
+  head-at-reads.Asked,
+  head-at-reads.Learnt,
   skip-reads.Asked,
   skip-reads.Learnt,
   format-error-verbatim-reads.Asked,
@@ -5308,10 +5308,10 @@ node-enum-told-11 : (t : ℕ) → node-lts.Need-enum-told-11 (
 node-enum-told-11 t c = search needs
 
 node-join-requires-2 : (t : ℕ) → node-lts.Need-join-requires-2 (
-  head-at-reads.Asked,
-  head-at-reads.Learnt,
   is-copied-reads.Asked,
   is-copied-reads.Learnt,
+  head-at-reads.Asked,
+  head-at-reads.Learnt,
   skip-reads.Asked,
   skip-reads.Learnt,
   format-error-verbatim-reads.Asked,
@@ -5373,13 +5373,13 @@ node-join-requires-2 : (t : ℕ) → node-lts.Need-join-requires-2 (
   passthrough-below t,
   passthrough.Post,
 ) (node-at t) node.Post
-node-join-requires-2 t c κs = (omega (arith, c .before .before .before .before .before .before .before .before .before .before .pre .0), c .before .before .before .before .before .before .before .before .before .before .pre .1)
+node-join-requires-2 t c κs = (omega (arith, c .before .before .before .before .before .before .before .before .before .pre .0), c .before .before .before .before .before .before .before .before .before .pre .1 .0)
 
 node-enum-told-12 : (t : ℕ) → node-lts.Need-enum-told-12 (
-  head-at-reads.Asked,
-  head-at-reads.Learnt,
   is-copied-reads.Asked,
   is-copied-reads.Learnt,
+  head-at-reads.Asked,
+  head-at-reads.Learnt,
   skip-reads.Asked,
   skip-reads.Learnt,
   format-error-verbatim-reads.Asked,
@@ -5444,10 +5444,10 @@ node-enum-told-12 : (t : ℕ) → node-lts.Need-enum-told-12 (
 node-enum-told-12 t c = search needs
 
 node-inline-requires : (t : ℕ) → node-lts.Need-inline-requires (
-  head-at-reads.Asked,
-  head-at-reads.Learnt,
   is-copied-reads.Asked,
   is-copied-reads.Learnt,
+  head-at-reads.Asked,
+  head-at-reads.Learnt,
   skip-reads.Asked,
   skip-reads.Learnt,
   format-error-verbatim-reads.Asked,
@@ -5509,13 +5509,13 @@ node-inline-requires : (t : ℕ) → node-lts.Need-inline-requires (
   passthrough-below t,
   passthrough.Post,
 ) (node-at t) node.Post
-node-inline-requires t c κs = (omega (arith, c .before .before .before .before .before .before .before .before .before .before .pre .0), c .before .before .before .before .before .before .before .before .before .before .pre .1)
+node-inline-requires t c κs = (omega (arith, c .before .before .before .before .before .before .before .before .before .pre .0), c .before .before .before .before .before .before .before .before .before .pre .1 .0)
 
 node-enum-told-13 : (t : ℕ) → node-lts.Need-enum-told-13 (
-  head-at-reads.Asked,
-  head-at-reads.Learnt,
   is-copied-reads.Asked,
   is-copied-reads.Learnt,
+  head-at-reads.Asked,
+  head-at-reads.Learnt,
   skip-reads.Asked,
   skip-reads.Learnt,
   format-error-verbatim-reads.Asked,
@@ -5580,10 +5580,10 @@ node-enum-told-13 : (t : ℕ) → node-lts.Need-enum-told-13 (
 node-enum-told-13 t c = search needs
 
 node-commas-requires : (t : ℕ) → node-lts.Need-commas-requires (
-  head-at-reads.Asked,
-  head-at-reads.Learnt,
   is-copied-reads.Asked,
   is-copied-reads.Learnt,
+  head-at-reads.Asked,
+  head-at-reads.Learnt,
   skip-reads.Asked,
   skip-reads.Learnt,
   format-error-verbatim-reads.Asked,
@@ -5645,13 +5645,13 @@ node-commas-requires : (t : ℕ) → node-lts.Need-commas-requires (
   passthrough-below t,
   passthrough.Post,
 ) (node-at t) node.Post
-node-commas-requires t c κs = (omega (arith, c .before .before .before .before .before .before .before .before .before .before .pre .0), c .before .before .before .before .before .before .before .before .before .before .pre .1)
+node-commas-requires t c κs = (omega (arith, c .before .before .before .before .before .before .before .before .before .pre .0), c .before .before .before .before .before .before .before .before .before .pre .1 .0)
 
 node-enum-told-14 : (t : ℕ) → node-lts.Need-enum-told-14 (
-  head-at-reads.Asked,
-  head-at-reads.Learnt,
   is-copied-reads.Asked,
   is-copied-reads.Learnt,
+  head-at-reads.Asked,
+  head-at-reads.Learnt,
   skip-reads.Asked,
   skip-reads.Learnt,
   format-error-verbatim-reads.Asked,
@@ -5716,10 +5716,10 @@ node-enum-told-14 : (t : ℕ) → node-lts.Need-enum-told-14 (
 node-enum-told-14 t c = search needs
 
 node-inline-commas-requires : (t : ℕ) → node-lts.Need-inline-commas-requires (
-  head-at-reads.Asked,
-  head-at-reads.Learnt,
   is-copied-reads.Asked,
   is-copied-reads.Learnt,
+  head-at-reads.Asked,
+  head-at-reads.Learnt,
   skip-reads.Asked,
   skip-reads.Learnt,
   format-error-verbatim-reads.Asked,
@@ -5781,13 +5781,13 @@ node-inline-commas-requires : (t : ℕ) → node-lts.Need-inline-commas-requires
   passthrough-below t,
   passthrough.Post,
 ) (node-at t) node.Post
-node-inline-commas-requires t c κs = (omega (arith, c .before .before .before .before .before .before .before .before .before .before .pre .0), c .before .before .before .before .before .before .before .before .before .before .pre .1)
+node-inline-commas-requires t c κs = (omega (arith, c .before .before .before .before .before .before .before .before .before .pre .0), c .before .before .before .before .before .before .before .before .before .pre .1 .0)
 
 node-enum-told-15 : (t : ℕ) → node-lts.Need-enum-told-15 (
-  head-at-reads.Asked,
-  head-at-reads.Learnt,
   is-copied-reads.Asked,
   is-copied-reads.Learnt,
+  head-at-reads.Asked,
+  head-at-reads.Learnt,
   skip-reads.Asked,
   skip-reads.Learnt,
   format-error-verbatim-reads.Asked,
@@ -5852,10 +5852,10 @@ node-enum-told-15 : (t : ℕ) → node-lts.Need-enum-told-15 (
 node-enum-told-15 t c = search needs
 
 node-binary-requires : (t : ℕ) → node-lts.Need-binary-requires (
-  head-at-reads.Asked,
-  head-at-reads.Learnt,
   is-copied-reads.Asked,
   is-copied-reads.Learnt,
+  head-at-reads.Asked,
+  head-at-reads.Learnt,
   skip-reads.Asked,
   skip-reads.Learnt,
   format-error-verbatim-reads.Asked,
@@ -5917,13 +5917,13 @@ node-binary-requires : (t : ℕ) → node-lts.Need-binary-requires (
   passthrough-below t,
   passthrough.Post,
 ) (node-at t) node.Post
-node-binary-requires t c κs = (omega (arith, c .before .before .before .before .before .before .before .before .before .before .pre .0), c .before .before .before .before .before .before .before .before .before .before .pre .1)
+node-binary-requires t c κs = (omega (arith, c .before .before .before .before .before .before .before .before .before .pre .0), c .before .before .before .before .before .before .before .before .before .pre .1 .0)
 
 node-enum-told-16 : (t : ℕ) → node-lts.Need-enum-told-16 (
-  head-at-reads.Asked,
-  head-at-reads.Learnt,
   is-copied-reads.Asked,
   is-copied-reads.Learnt,
+  head-at-reads.Asked,
+  head-at-reads.Learnt,
   skip-reads.Asked,
   skip-reads.Learnt,
   format-error-verbatim-reads.Asked,
@@ -5988,10 +5988,10 @@ node-enum-told-16 : (t : ℕ) → node-lts.Need-enum-told-16 (
 node-enum-told-16 t c = search needs
 
 node-unary-requires : (t : ℕ) → node-lts.Need-unary-requires (
-  head-at-reads.Asked,
-  head-at-reads.Learnt,
   is-copied-reads.Asked,
   is-copied-reads.Learnt,
+  head-at-reads.Asked,
+  head-at-reads.Learnt,
   skip-reads.Asked,
   skip-reads.Learnt,
   format-error-verbatim-reads.Asked,
@@ -6053,13 +6053,13 @@ node-unary-requires : (t : ℕ) → node-lts.Need-unary-requires (
   passthrough-below t,
   passthrough.Post,
 ) (node-at t) node.Post
-node-unary-requires t c κs = (omega (arith, c .before .before .before .before .before .before .before .before .before .before .pre .0), c .before .before .before .before .before .before .before .before .before .before .pre .1)
+node-unary-requires t c κs = (omega (arith, c .before .before .before .before .before .before .before .before .before .pre .0), c .before .before .before .before .before .before .before .before .before .pre .1 .0)
 
 node-enum-told-17 : (t : ℕ) → node-lts.Need-enum-told-17 (
-  head-at-reads.Asked,
-  head-at-reads.Learnt,
   is-copied-reads.Asked,
   is-copied-reads.Learnt,
+  head-at-reads.Asked,
+  head-at-reads.Learnt,
   skip-reads.Asked,
   skip-reads.Learnt,
   format-error-verbatim-reads.Asked,
@@ -6124,10 +6124,10 @@ node-enum-told-17 : (t : ℕ) → node-lts.Need-enum-told-17 (
 node-enum-told-17 t c = search needs
 
 node-call-requires : (t : ℕ) → node-lts.Need-call-requires (
-  head-at-reads.Asked,
-  head-at-reads.Learnt,
   is-copied-reads.Asked,
   is-copied-reads.Learnt,
+  head-at-reads.Asked,
+  head-at-reads.Learnt,
   skip-reads.Asked,
   skip-reads.Learnt,
   format-error-verbatim-reads.Asked,
@@ -6189,13 +6189,13 @@ node-call-requires : (t : ℕ) → node-lts.Need-call-requires (
   passthrough-below t,
   passthrough.Post,
 ) (node-at t) node.Post
-node-call-requires t c κs = (omega (arith, c .before .before .before .before .before .before .before .before .before .before .pre .0), c .before .before .before .before .before .before .before .before .before .before .pre .1)
+node-call-requires t c κs = (omega (arith, c .before .before .before .before .before .before .before .before .before .pre .0), c .before .before .before .before .before .before .before .before .before .pre .1 .0)
 
 node-enum-told-18 : (t : ℕ) → node-lts.Need-enum-told-18 (
-  head-at-reads.Asked,
-  head-at-reads.Learnt,
   is-copied-reads.Asked,
   is-copied-reads.Learnt,
+  head-at-reads.Asked,
+  head-at-reads.Learnt,
   skip-reads.Asked,
   skip-reads.Learnt,
   format-error-verbatim-reads.Asked,
@@ -6260,10 +6260,10 @@ node-enum-told-18 : (t : ℕ) → node-lts.Need-enum-told-18 (
 node-enum-told-18 t c = search needs
 
 node-case-of-requires : (t : ℕ) → node-lts.Need-case-of-requires (
-  head-at-reads.Asked,
-  head-at-reads.Learnt,
   is-copied-reads.Asked,
   is-copied-reads.Learnt,
+  head-at-reads.Asked,
+  head-at-reads.Learnt,
   skip-reads.Asked,
   skip-reads.Learnt,
   format-error-verbatim-reads.Asked,
@@ -6325,13 +6325,13 @@ node-case-of-requires : (t : ℕ) → node-lts.Need-case-of-requires (
   passthrough-below t,
   passthrough.Post,
 ) (node-at t) node.Post
-node-case-of-requires t c κs = (omega (arith, c .before .before .before .before .before .before .before .before .before .before .pre .0), c .before .before .before .before .before .before .before .before .before .before .pre .1)
+node-case-of-requires t c κs = (omega (arith, c .before .before .before .before .before .before .before .before .before .pre .0), c .before .before .before .before .before .before .before .before .before .pre .1 .0)
 
 node-enum-told-19 : (t : ℕ) → node-lts.Need-enum-told-19 (
-  head-at-reads.Asked,
-  head-at-reads.Learnt,
   is-copied-reads.Asked,
   is-copied-reads.Learnt,
+  head-at-reads.Asked,
+  head-at-reads.Learnt,
   skip-reads.Asked,
   skip-reads.Learnt,
   format-error-verbatim-reads.Asked,
@@ -6396,10 +6396,10 @@ node-enum-told-19 : (t : ℕ) → node-lts.Need-enum-told-19 (
 node-enum-told-19 t c = search needs
 
 node-when-then-requires : (t : ℕ) → node-lts.Need-when-then-requires (
-  head-at-reads.Asked,
-  head-at-reads.Learnt,
   is-copied-reads.Asked,
   is-copied-reads.Learnt,
+  head-at-reads.Asked,
+  head-at-reads.Learnt,
   skip-reads.Asked,
   skip-reads.Learnt,
   format-error-verbatim-reads.Asked,
@@ -6461,13 +6461,13 @@ node-when-then-requires : (t : ℕ) → node-lts.Need-when-then-requires (
   passthrough-below t,
   passthrough.Post,
 ) (node-at t) node.Post
-node-when-then-requires t c κs = (omega (arith, c .before .before .before .before .before .before .before .before .before .before .pre .0), c .before .before .before .before .before .before .before .before .before .before .pre .1)
+node-when-then-requires t c κs = (omega (arith, c .before .before .before .before .before .before .before .before .before .pre .0), c .before .before .before .before .before .before .before .before .before .pre .1 .0)
 
 node-enum-told-20 : (t : ℕ) → node-lts.Need-enum-told-20 (
-  head-at-reads.Asked,
-  head-at-reads.Learnt,
   is-copied-reads.Asked,
   is-copied-reads.Learnt,
+  head-at-reads.Asked,
+  head-at-reads.Learnt,
   skip-reads.Asked,
   skip-reads.Learnt,
   format-error-verbatim-reads.Asked,
@@ -6532,10 +6532,10 @@ node-enum-told-20 : (t : ℕ) → node-lts.Need-enum-told-20 (
 node-enum-told-20 t c = search needs
 
 node-subquery-requires : (t : ℕ) → node-lts.Need-subquery-requires (
-  head-at-reads.Asked,
-  head-at-reads.Learnt,
   is-copied-reads.Asked,
   is-copied-reads.Learnt,
+  head-at-reads.Asked,
+  head-at-reads.Learnt,
   skip-reads.Asked,
   skip-reads.Learnt,
   format-error-verbatim-reads.Asked,
@@ -6597,13 +6597,13 @@ node-subquery-requires : (t : ℕ) → node-lts.Need-subquery-requires (
   passthrough-below t,
   passthrough.Post,
 ) (node-at t) node.Post
-node-subquery-requires t c κs = (omega (arith, c .before .before .before .before .before .before .before .before .before .before .pre .0), c .before .before .before .before .before .before .before .before .before .before .pre .1)
+node-subquery-requires t c κs = (omega (arith, c .before .before .before .before .before .before .before .before .before .pre .0), c .before .before .before .before .before .before .before .before .before .pre .1 .0)
 
 node-enum-told-21 : (t : ℕ) → node-lts.Need-enum-told-21 (
-  head-at-reads.Asked,
-  head-at-reads.Learnt,
   is-copied-reads.Asked,
   is-copied-reads.Learnt,
+  head-at-reads.Asked,
+  head-at-reads.Learnt,
   skip-reads.Asked,
   skip-reads.Learnt,
   format-error-verbatim-reads.Asked,
@@ -6668,10 +6668,10 @@ node-enum-told-21 : (t : ℕ) → node-lts.Need-enum-told-21 (
 node-enum-told-21 t c = search needs
 
 node-parens-requires : (t : ℕ) → node-lts.Need-parens-requires (
-  head-at-reads.Asked,
-  head-at-reads.Learnt,
   is-copied-reads.Asked,
   is-copied-reads.Learnt,
+  head-at-reads.Asked,
+  head-at-reads.Learnt,
   skip-reads.Asked,
   skip-reads.Learnt,
   format-error-verbatim-reads.Asked,
@@ -6733,13 +6733,13 @@ node-parens-requires : (t : ℕ) → node-lts.Need-parens-requires (
   passthrough-below t,
   passthrough.Post,
 ) (node-at t) node.Post
-node-parens-requires t c κs = (omega (arith, c .before .before .before .before .before .before .before .before .before .before .pre .0), c .before .before .before .before .before .before .before .before .before .before .pre .1)
+node-parens-requires t c κs = (omega (arith, c .before .before .before .before .before .before .before .before .before .pre .0), c .before .before .before .before .before .before .before .before .before .pre .1 .0)
 
 node-enum-told-22 : (t : ℕ) → node-lts.Need-enum-told-22 (
-  head-at-reads.Asked,
-  head-at-reads.Learnt,
   is-copied-reads.Asked,
   is-copied-reads.Learnt,
+  head-at-reads.Asked,
+  head-at-reads.Learnt,
   skip-reads.Asked,
   skip-reads.Learnt,
   format-error-verbatim-reads.Asked,
@@ -6804,10 +6804,10 @@ node-enum-told-22 : (t : ℕ) → node-lts.Need-enum-told-22 (
 node-enum-told-22 t c = search needs
 
 node-brackets-requires : (t : ℕ) → node-lts.Need-brackets-requires (
-  head-at-reads.Asked,
-  head-at-reads.Learnt,
   is-copied-reads.Asked,
   is-copied-reads.Learnt,
+  head-at-reads.Asked,
+  head-at-reads.Learnt,
   skip-reads.Asked,
   skip-reads.Learnt,
   format-error-verbatim-reads.Asked,
@@ -6869,13 +6869,13 @@ node-brackets-requires : (t : ℕ) → node-lts.Need-brackets-requires (
   passthrough-below t,
   passthrough.Post,
 ) (node-at t) node.Post
-node-brackets-requires t c κs = (omega (arith, c .before .before .before .before .before .before .before .before .before .before .pre .0), c .before .before .before .before .before .before .before .before .before .before .pre .1)
+node-brackets-requires t c κs = (omega (arith, c .before .before .before .before .before .before .before .before .before .pre .0), c .before .before .before .before .before .before .before .before .before .pre .1 .0)
 
 node-enum-told-23 : (t : ℕ) → node-lts.Need-enum-told-23 (
-  head-at-reads.Asked,
-  head-at-reads.Learnt,
   is-copied-reads.Asked,
   is-copied-reads.Learnt,
+  head-at-reads.Asked,
+  head-at-reads.Learnt,
   skip-reads.Asked,
   skip-reads.Learnt,
   format-error-verbatim-reads.Asked,
@@ -6940,10 +6940,10 @@ node-enum-told-23 : (t : ℕ) → node-lts.Need-enum-told-23 (
 node-enum-told-23 t c = search needs
 
 node-no-spaces-requires : (t : ℕ) → node-lts.Need-no-spaces-requires (
-  head-at-reads.Asked,
-  head-at-reads.Learnt,
   is-copied-reads.Asked,
   is-copied-reads.Learnt,
+  head-at-reads.Asked,
+  head-at-reads.Learnt,
   skip-reads.Asked,
   skip-reads.Learnt,
   format-error-verbatim-reads.Asked,
@@ -7005,13 +7005,13 @@ node-no-spaces-requires : (t : ℕ) → node-lts.Need-no-spaces-requires (
   passthrough-below t,
   passthrough.Post,
 ) (node-at t) node.Post
-node-no-spaces-requires t c κs = (omega (arith, c .before .before .before .before .before .before .before .before .before .before .pre .0), c .before .before .before .before .before .before .before .before .before .before .pre .1)
+node-no-spaces-requires t c κs = (omega (arith, c .before .before .before .before .before .before .before .before .before .pre .0), c .before .before .before .before .before .before .before .before .before .pre .1 .0)
 
 node-enum-told-24 : (t : ℕ) → node-lts.Need-enum-told-24 (
-  head-at-reads.Asked,
-  head-at-reads.Learnt,
   is-copied-reads.Asked,
   is-copied-reads.Learnt,
+  head-at-reads.Asked,
+  head-at-reads.Learnt,
   skip-reads.Asked,
   skip-reads.Learnt,
   format-error-verbatim-reads.Asked,
@@ -7076,10 +7076,10 @@ node-enum-told-24 : (t : ℕ) → node-lts.Need-enum-told-24 (
 node-enum-told-24 t c = search needs
 
 node-braces-requires : (t : ℕ) → node-lts.Need-braces-requires (
-  head-at-reads.Asked,
-  head-at-reads.Learnt,
   is-copied-reads.Asked,
   is-copied-reads.Learnt,
+  head-at-reads.Asked,
+  head-at-reads.Learnt,
   skip-reads.Asked,
   skip-reads.Learnt,
   format-error-verbatim-reads.Asked,
@@ -7141,13 +7141,13 @@ node-braces-requires : (t : ℕ) → node-lts.Need-braces-requires (
   passthrough-below t,
   passthrough.Post,
 ) (node-at t) node.Post
-node-braces-requires t c κs = (omega (arith, c .before .before .before .before .before .before .before .before .before .before .pre .0), c .before .before .before .before .before .before .before .before .before .before .pre .1)
+node-braces-requires t c κs = (omega (arith, c .before .before .before .before .before .before .before .before .before .pre .0), c .before .before .before .before .before .before .before .before .before .pre .1 .0)
 
 node-enum-told-25 : (t : ℕ) → node-lts.Need-enum-told-25 (
-  head-at-reads.Asked,
-  head-at-reads.Learnt,
   is-copied-reads.Asked,
   is-copied-reads.Learnt,
+  head-at-reads.Asked,
+  head-at-reads.Learnt,
   skip-reads.Asked,
   skip-reads.Learnt,
   format-error-verbatim-reads.Asked,
@@ -7212,10 +7212,10 @@ node-enum-told-25 : (t : ℕ) → node-lts.Need-enum-told-25 (
 node-enum-told-25 t c = search needs
 
 node-data-type-requires : (t : ℕ) → node-lts.Need-data-type-requires (
-  head-at-reads.Asked,
-  head-at-reads.Learnt,
   is-copied-reads.Asked,
   is-copied-reads.Learnt,
+  head-at-reads.Asked,
+  head-at-reads.Learnt,
   skip-reads.Asked,
   skip-reads.Learnt,
   format-error-verbatim-reads.Asked,
@@ -7277,13 +7277,13 @@ node-data-type-requires : (t : ℕ) → node-lts.Need-data-type-requires (
   passthrough-below t,
   passthrough.Post,
 ) (node-at t) node.Post
-node-data-type-requires t c κs = (omega (arith, c .before .before .before .before .before .before .before .before .before .before .pre .0), c .before .before .before .before .before .before .before .before .before .before .pre .1)
+node-data-type-requires t c κs = (omega (arith, c .before .before .before .before .before .before .before .before .before .pre .0), c .before .before .before .before .before .before .before .before .before .pre .1 .0)
 
 node-enum-told-26 : (t : ℕ) → node-lts.Need-enum-told-26 (
-  head-at-reads.Asked,
-  head-at-reads.Learnt,
   is-copied-reads.Asked,
   is-copied-reads.Learnt,
+  head-at-reads.Asked,
+  head-at-reads.Learnt,
   skip-reads.Asked,
   skip-reads.Learnt,
   format-error-verbatim-reads.Asked,
@@ -7348,10 +7348,10 @@ node-enum-told-26 : (t : ℕ) → node-lts.Need-enum-told-26 (
 node-enum-told-26 t c = search needs
 
 node-tight-requires : (t : ℕ) → node-lts.Need-tight-requires (
-  head-at-reads.Asked,
-  head-at-reads.Learnt,
   is-copied-reads.Asked,
   is-copied-reads.Learnt,
+  head-at-reads.Asked,
+  head-at-reads.Learnt,
   skip-reads.Asked,
   skip-reads.Learnt,
   format-error-verbatim-reads.Asked,
@@ -7413,13 +7413,13 @@ node-tight-requires : (t : ℕ) → node-lts.Need-tight-requires (
   passthrough-below t,
   passthrough.Post,
 ) (node-at t) node.Post
-node-tight-requires t c κs = (omega (arith, c .before .before .before .before .before .before .before .before .before .before .pre .0), c .before .before .before .before .before .before .before .before .before .before .pre .1)
+node-tight-requires t c κs = (omega (arith, c .before .before .before .before .before .before .before .before .before .pre .0), c .before .before .before .before .before .before .before .before .before .pre .1 .0)
 
 node-enum-told-27 : (t : ℕ) → node-lts.Need-enum-told-27 (
-  head-at-reads.Asked,
-  head-at-reads.Learnt,
   is-copied-reads.Asked,
   is-copied-reads.Learnt,
+  head-at-reads.Asked,
+  head-at-reads.Learnt,
   skip-reads.Asked,
   skip-reads.Learnt,
   format-error-verbatim-reads.Asked,
@@ -7484,10 +7484,10 @@ node-enum-told-27 : (t : ℕ) → node-lts.Need-enum-told-27 (
 node-enum-told-27 t c = search needs
 
 node-alter-requires : (t : ℕ) → node-lts.Need-alter-requires (
-  head-at-reads.Asked,
-  head-at-reads.Learnt,
   is-copied-reads.Asked,
   is-copied-reads.Learnt,
+  head-at-reads.Asked,
+  head-at-reads.Learnt,
   skip-reads.Asked,
   skip-reads.Learnt,
   format-error-verbatim-reads.Asked,
@@ -7549,13 +7549,13 @@ node-alter-requires : (t : ℕ) → node-lts.Need-alter-requires (
   passthrough-below t,
   passthrough.Post,
 ) (node-at t) node.Post
-node-alter-requires t c κs = (omega (arith, c .before .before .before .before .before .before .before .before .before .before .pre .0), c .before .before .before .before .before .before .before .before .before .before .pre .1)
+node-alter-requires t c κs = (omega (arith, c .before .before .before .before .before .before .before .before .before .pre .0), c .before .before .before .before .before .before .before .before .before .pre .1 .0)
 
 node-enum-told-28 : (t : ℕ) → node-lts.Need-enum-told-28 (
-  head-at-reads.Asked,
-  head-at-reads.Learnt,
   is-copied-reads.Asked,
   is-copied-reads.Learnt,
+  head-at-reads.Asked,
+  head-at-reads.Learnt,
   skip-reads.Asked,
   skip-reads.Learnt,
   format-error-verbatim-reads.Asked,
@@ -7620,10 +7620,10 @@ node-enum-told-28 : (t : ℕ) → node-lts.Need-enum-told-28 (
 node-enum-told-28 t c = search needs
 
 node-union-of-requires : (t : ℕ) → node-lts.Need-union-of-requires (
-  head-at-reads.Asked,
-  head-at-reads.Learnt,
   is-copied-reads.Asked,
   is-copied-reads.Learnt,
+  head-at-reads.Asked,
+  head-at-reads.Learnt,
   skip-reads.Asked,
   skip-reads.Learnt,
   format-error-verbatim-reads.Asked,
@@ -7685,13 +7685,13 @@ node-union-of-requires : (t : ℕ) → node-lts.Need-union-of-requires (
   passthrough-below t,
   passthrough.Post,
 ) (node-at t) node.Post
-node-union-of-requires t c κs = (omega (arith, c .before .before .before .before .before .before .before .before .before .before .pre .0), c .before .before .before .before .before .before .before .before .before .before .pre .1)
+node-union-of-requires t c κs = (omega (arith, c .before .before .before .before .before .before .before .before .before .pre .0), c .before .before .before .before .before .before .before .before .before .pre .1 .0)
 
 node-enum-told-29 : (t : ℕ) → node-lts.Need-enum-told-29 (
-  head-at-reads.Asked,
-  head-at-reads.Learnt,
   is-copied-reads.Asked,
   is-copied-reads.Learnt,
+  head-at-reads.Asked,
+  head-at-reads.Learnt,
   skip-reads.Asked,
   skip-reads.Learnt,
   format-error-verbatim-reads.Asked,
@@ -7756,10 +7756,10 @@ node-enum-told-29 : (t : ℕ) → node-lts.Need-enum-told-29 (
 node-enum-told-29 t c = search needs
 
 node-passthrough-requires : (t : ℕ) → node-lts.Need-passthrough-requires (
-  head-at-reads.Asked,
-  head-at-reads.Learnt,
   is-copied-reads.Asked,
   is-copied-reads.Learnt,
+  head-at-reads.Asked,
+  head-at-reads.Learnt,
   skip-reads.Asked,
   skip-reads.Learnt,
   format-error-verbatim-reads.Asked,
@@ -7821,13 +7821,13 @@ node-passthrough-requires : (t : ℕ) → node-lts.Need-passthrough-requires (
   passthrough-below t,
   passthrough.Post,
 ) (node-at t) node.Post
-node-passthrough-requires t c κs = (omega (arith, c .before .before .before .before .before .before .before .before .before .before .pre .0), c .before .before .before .before .before .before .before .before .before .before .pre .1)
+node-passthrough-requires t c κs = (omega (arith, c .before .before .before .before .before .before .before .before .before .pre .0), c .before .before .before .before .before .before .before .before .before .pre .1 .0)
 
 node-same-length-2 : (t : ℕ) → node-lts.Need-same-length-2 (
-  head-at-reads.Asked,
-  head-at-reads.Learnt,
   is-copied-reads.Asked,
   is-copied-reads.Learnt,
+  head-at-reads.Asked,
+  head-at-reads.Learnt,
   skip-reads.Asked,
   skip-reads.Learnt,
   format-error-verbatim-reads.Asked,
@@ -7892,10 +7892,10 @@ node-same-length-2 : (t : ℕ) → node-lts.Need-same-length-2 (
 node-same-length-2 t c = c .before .before .file .kept .1 .1 .1 .1 .0
 
 node-returns-2 : (t : ℕ) → node-lts.Need-returns-2 (
-  head-at-reads.Asked,
-  head-at-reads.Learnt,
   is-copied-reads.Asked,
   is-copied-reads.Learnt,
+  head-at-reads.Asked,
+  head-at-reads.Learnt,
   skip-reads.Asked,
   skip-reads.Learnt,
   format-error-verbatim-reads.Asked,
@@ -7958,13 +7958,13 @@ node-returns-2 : (t : ℕ) → node-lts.Need-returns-2 (
   passthrough.Post,
 ) (node-at t) node.Post
 unfolding armsOf
-node-returns-2 t c = node-by the-variants.File (c .before .before .before .before .before .before .before .before .before .head-at .ensures) (scanned-as (c .before .before .before .before .before .before .before .before .is-copied .ensures) (c .before .before .before .before .before .before .before .if1 .left)) (sym (c .before .before .before .before .enum-told .given .1) ∙ c .before .before .before .before .before .before .routine-of .ensures) (c .before .before .file .ensures)
+node-returns-2 t c = node-by the-variants.File (c .before .before .before .before .before .before .before .before .before .before .before .before .pre .1 .1) (scanned-as (c .before .before .before .before .before .before .before .before .is-copied .ensures) (c .before .before .before .before .before .before .before .if1 .left)) (sym (c .before .before .before .before .enum-told .given .1) ∙ c .before .before .before .before .before .before .routine-of .ensures) (c .before .before .file .ensures)
 
 node-same-length-3 : (t : ℕ) → node-lts.Need-same-length-3 (
-  head-at-reads.Asked,
-  head-at-reads.Learnt,
   is-copied-reads.Asked,
   is-copied-reads.Learnt,
+  head-at-reads.Asked,
+  head-at-reads.Learnt,
   skip-reads.Asked,
   skip-reads.Learnt,
   format-error-verbatim-reads.Asked,
@@ -8029,10 +8029,10 @@ node-same-length-3 : (t : ℕ) → node-lts.Need-same-length-3 (
 node-same-length-3 t c = c .before .before .query-list .kept .1 .1 .1 .1 .0
 
 node-returns-3 : (t : ℕ) → node-lts.Need-returns-3 (
-  head-at-reads.Asked,
-  head-at-reads.Learnt,
   is-copied-reads.Asked,
   is-copied-reads.Learnt,
+  head-at-reads.Asked,
+  head-at-reads.Learnt,
   skip-reads.Asked,
   skip-reads.Learnt,
   format-error-verbatim-reads.Asked,
@@ -8095,13 +8095,13 @@ node-returns-3 : (t : ℕ) → node-lts.Need-returns-3 (
   passthrough.Post,
 ) (node-at t) node.Post
 unfolding armsOf
-node-returns-3 t c = node-by the-variants.QueryList (c .before .before .before .before .before .before .before .before .before .head-at .ensures) (scanned-as (c .before .before .before .before .before .before .before .before .is-copied .ensures) (c .before .before .before .before .before .before .before .if1 .left)) (sym (c .before .before .before .before .enum-told2 .given .1) ∙ c .before .before .before .before .before .before .routine-of .ensures) (c .before .before .query-list .ensures)
+node-returns-3 t c = node-by the-variants.QueryList (c .before .before .before .before .before .before .before .before .before .before .before .before .pre .1 .1) (scanned-as (c .before .before .before .before .before .before .before .before .is-copied .ensures) (c .before .before .before .before .before .before .before .if1 .left)) (sym (c .before .before .before .before .enum-told2 .given .1) ∙ c .before .before .before .before .before .before .routine-of .ensures) (c .before .before .query-list .ensures)
 
 node-same-length-4 : (t : ℕ) → node-lts.Need-same-length-4 (
-  head-at-reads.Asked,
-  head-at-reads.Learnt,
   is-copied-reads.Asked,
   is-copied-reads.Learnt,
+  head-at-reads.Asked,
+  head-at-reads.Learnt,
   skip-reads.Asked,
   skip-reads.Learnt,
   format-error-verbatim-reads.Asked,
@@ -8166,10 +8166,10 @@ node-same-length-4 : (t : ℕ) → node-lts.Need-same-length-4 (
 node-same-length-4 t c = c .before .before .statement .kept .1 .1 .1 .1 .0
 
 node-returns-4 : (t : ℕ) → node-lts.Need-returns-4 (
-  head-at-reads.Asked,
-  head-at-reads.Learnt,
   is-copied-reads.Asked,
   is-copied-reads.Learnt,
+  head-at-reads.Asked,
+  head-at-reads.Learnt,
   skip-reads.Asked,
   skip-reads.Learnt,
   format-error-verbatim-reads.Asked,
@@ -8232,13 +8232,13 @@ node-returns-4 : (t : ℕ) → node-lts.Need-returns-4 (
   passthrough.Post,
 ) (node-at t) node.Post
 unfolding armsOf
-node-returns-4 t c = node-by the-variants.SelectStatement (c .before .before .before .before .before .before .before .before .before .head-at .ensures) (scanned-as (c .before .before .before .before .before .before .before .before .is-copied .ensures) (c .before .before .before .before .before .before .before .if1 .left)) (sym (c .before .before .before .before .enum-told3 .given .1) ∙ c .before .before .before .before .before .before .routine-of .ensures) (c .before .before .statement .ensures)
+node-returns-4 t c = node-by the-variants.SelectStatement (c .before .before .before .before .before .before .before .before .before .before .before .before .pre .1 .1) (scanned-as (c .before .before .before .before .before .before .before .before .is-copied .ensures) (c .before .before .before .before .before .before .before .if1 .left)) (sym (c .before .before .before .before .enum-told3 .given .1) ∙ c .before .before .before .before .before .before .routine-of .ensures) (c .before .before .statement .ensures)
 
 node-same-length-5 : (t : ℕ) → node-lts.Need-same-length-5 (
-  head-at-reads.Asked,
-  head-at-reads.Learnt,
   is-copied-reads.Asked,
   is-copied-reads.Learnt,
+  head-at-reads.Asked,
+  head-at-reads.Learnt,
   skip-reads.Asked,
   skip-reads.Learnt,
   format-error-verbatim-reads.Asked,
@@ -8303,10 +8303,10 @@ node-same-length-5 : (t : ℕ) → node-lts.Need-same-length-5 (
 node-same-length-5 t c = c .before .before .select .kept .1 .1 .1 .1 .0
 
 node-returns-5 : (t : ℕ) → node-lts.Need-returns-5 (
-  head-at-reads.Asked,
-  head-at-reads.Learnt,
   is-copied-reads.Asked,
   is-copied-reads.Learnt,
+  head-at-reads.Asked,
+  head-at-reads.Learnt,
   skip-reads.Asked,
   skip-reads.Learnt,
   format-error-verbatim-reads.Asked,
@@ -8369,13 +8369,13 @@ node-returns-5 : (t : ℕ) → node-lts.Need-returns-5 (
   passthrough.Post,
 ) (node-at t) node.Post
 unfolding armsOf
-node-returns-5 t c = node-by the-variants.SelectClause (c .before .before .before .before .before .before .before .before .before .head-at .ensures) (scanned-as (c .before .before .before .before .before .before .before .before .is-copied .ensures) (c .before .before .before .before .before .before .before .if1 .left)) (sym (c .before .before .before .before .enum-told4 .given .1) ∙ c .before .before .before .before .before .before .routine-of .ensures) (c .before .before .select .ensures)
+node-returns-5 t c = node-by the-variants.SelectClause (c .before .before .before .before .before .before .before .before .before .before .before .before .pre .1 .1) (scanned-as (c .before .before .before .before .before .before .before .before .is-copied .ensures) (c .before .before .before .before .before .before .before .if1 .left)) (sym (c .before .before .before .before .enum-told4 .given .1) ∙ c .before .before .before .before .before .before .routine-of .ensures) (c .before .before .select .ensures)
 
 node-same-length-6 : (t : ℕ) → node-lts.Need-same-length-6 (
-  head-at-reads.Asked,
-  head-at-reads.Learnt,
   is-copied-reads.Asked,
   is-copied-reads.Learnt,
+  head-at-reads.Asked,
+  head-at-reads.Learnt,
   skip-reads.Asked,
   skip-reads.Learnt,
   format-error-verbatim-reads.Asked,
@@ -8440,10 +8440,10 @@ node-same-length-6 : (t : ℕ) → node-lts.Need-same-length-6 (
 node-same-length-6 t c = c .before .before .simple .kept .1 .1 .1 .1 .0
 
 node-returns-6 : (t : ℕ) → node-lts.Need-returns-6 (
-  head-at-reads.Asked,
-  head-at-reads.Learnt,
   is-copied-reads.Asked,
   is-copied-reads.Learnt,
+  head-at-reads.Asked,
+  head-at-reads.Learnt,
   skip-reads.Asked,
   skip-reads.Learnt,
   format-error-verbatim-reads.Asked,
@@ -8506,13 +8506,13 @@ node-returns-6 : (t : ℕ) → node-lts.Need-returns-6 (
   passthrough.Post,
 ) (node-at t) node.Post
 unfolding armsOf
-node-returns-6 t c = node-by the-variants.SimpleClause (c .before .before .before .before .before .before .before .before .before .head-at .ensures) (scanned-as (c .before .before .before .before .before .before .before .before .is-copied .ensures) (c .before .before .before .before .before .before .before .if1 .left)) (sym (c .before .before .before .before .enum-told5 .given .1) ∙ c .before .before .before .before .before .before .routine-of .ensures) (c .before .before .simple .ensures)
+node-returns-6 t c = node-by the-variants.SimpleClause (c .before .before .before .before .before .before .before .before .before .before .before .before .pre .1 .1) (scanned-as (c .before .before .before .before .before .before .before .before .is-copied .ensures) (c .before .before .before .before .before .before .before .if1 .left)) (sym (c .before .before .before .before .enum-told5 .given .1) ∙ c .before .before .before .before .before .before .routine-of .ensures) (c .before .before .simple .ensures)
 
 node-same-length-7 : (t : ℕ) → node-lts.Need-same-length-7 (
-  head-at-reads.Asked,
-  head-at-reads.Learnt,
   is-copied-reads.Asked,
   is-copied-reads.Learnt,
+  head-at-reads.Asked,
+  head-at-reads.Learnt,
   skip-reads.Asked,
   skip-reads.Learnt,
   format-error-verbatim-reads.Asked,
@@ -8577,10 +8577,10 @@ node-same-length-7 : (t : ℕ) → node-lts.Need-same-length-7 (
 node-same-length-7 t c = c .before .before .list-by .kept .1 .1 .1 .1 .0
 
 node-returns-7 : (t : ℕ) → node-lts.Need-returns-7 (
-  head-at-reads.Asked,
-  head-at-reads.Learnt,
   is-copied-reads.Asked,
   is-copied-reads.Learnt,
+  head-at-reads.Asked,
+  head-at-reads.Learnt,
   skip-reads.Asked,
   skip-reads.Learnt,
   format-error-verbatim-reads.Asked,
@@ -8643,13 +8643,13 @@ node-returns-7 : (t : ℕ) → node-lts.Need-returns-7 (
   passthrough.Post,
 ) (node-at t) node.Post
 unfolding armsOf
-node-returns-7 t c = node-by the-variants.GroupByClause (c .before .before .before .before .before .before .before .before .before .head-at .ensures) (scanned-as (c .before .before .before .before .before .before .before .before .is-copied .ensures) (c .before .before .before .before .before .before .before .if1 .left)) (sym (c .before .before .before .before .enum-told6 .given .1) ∙ c .before .before .before .before .before .before .routine-of .ensures) (c .before .before .list-by .ensures)
+node-returns-7 t c = node-by the-variants.GroupByClause (c .before .before .before .before .before .before .before .before .before .before .before .before .pre .1 .1) (scanned-as (c .before .before .before .before .before .before .before .before .is-copied .ensures) (c .before .before .before .before .before .before .before .if1 .left)) (sym (c .before .before .before .before .enum-told6 .given .1) ∙ c .before .before .before .before .before .before .routine-of .ensures) (c .before .before .list-by .ensures)
 
 node-same-length-8 : (t : ℕ) → node-lts.Need-same-length-8 (
-  head-at-reads.Asked,
-  head-at-reads.Learnt,
   is-copied-reads.Asked,
   is-copied-reads.Learnt,
+  head-at-reads.Asked,
+  head-at-reads.Learnt,
   skip-reads.Asked,
   skip-reads.Learnt,
   format-error-verbatim-reads.Asked,
@@ -8714,10 +8714,10 @@ node-same-length-8 : (t : ℕ) → node-lts.Need-same-length-8 (
 node-same-length-8 t c = c .before .before .list-by2 .kept .1 .1 .1 .1 .0
 
 node-returns-8 : (t : ℕ) → node-lts.Need-returns-8 (
-  head-at-reads.Asked,
-  head-at-reads.Learnt,
   is-copied-reads.Asked,
   is-copied-reads.Learnt,
+  head-at-reads.Asked,
+  head-at-reads.Learnt,
   skip-reads.Asked,
   skip-reads.Learnt,
   format-error-verbatim-reads.Asked,
@@ -8780,13 +8780,13 @@ node-returns-8 : (t : ℕ) → node-lts.Need-returns-8 (
   passthrough.Post,
 ) (node-at t) node.Post
 unfolding armsOf
-node-returns-8 t c = node-by the-variants.OrderByClause (c .before .before .before .before .before .before .before .before .before .head-at .ensures) (scanned-as (c .before .before .before .before .before .before .before .before .is-copied .ensures) (c .before .before .before .before .before .before .before .if1 .left)) (sym (c .before .before .before .before .enum-told7 .given .1) ∙ c .before .before .before .before .before .before .routine-of .ensures) (c .before .before .list-by2 .ensures)
+node-returns-8 t c = node-by the-variants.OrderByClause (c .before .before .before .before .before .before .before .before .before .before .before .before .pre .1 .1) (scanned-as (c .before .before .before .before .before .before .before .before .is-copied .ensures) (c .before .before .before .before .before .before .before .if1 .left)) (sym (c .before .before .before .before .enum-told7 .given .1) ∙ c .before .before .before .before .before .before .routine-of .ensures) (c .before .before .list-by2 .ensures)
 
 node-same-length-9 : (t : ℕ) → node-lts.Need-same-length-9 (
-  head-at-reads.Asked,
-  head-at-reads.Learnt,
   is-copied-reads.Asked,
   is-copied-reads.Learnt,
+  head-at-reads.Asked,
+  head-at-reads.Learnt,
   skip-reads.Asked,
   skip-reads.Learnt,
   format-error-verbatim-reads.Asked,
@@ -8851,10 +8851,10 @@ node-same-length-9 : (t : ℕ) → node-lts.Need-same-length-9 (
 node-same-length-9 t c = c .before .before .join .kept .1 .1 .1 .1 .0
 
 node-returns-9 : (t : ℕ) → node-lts.Need-returns-9 (
-  head-at-reads.Asked,
-  head-at-reads.Learnt,
   is-copied-reads.Asked,
   is-copied-reads.Learnt,
+  head-at-reads.Asked,
+  head-at-reads.Learnt,
   skip-reads.Asked,
   skip-reads.Learnt,
   format-error-verbatim-reads.Asked,
@@ -8917,13 +8917,13 @@ node-returns-9 : (t : ℕ) → node-lts.Need-returns-9 (
   passthrough.Post,
 ) (node-at t) node.Post
 unfolding armsOf
-node-returns-9 t c = node-by the-variants.LimitByClause (c .before .before .before .before .before .before .before .before .before .head-at .ensures) (scanned-as (c .before .before .before .before .before .before .before .before .is-copied .ensures) (c .before .before .before .before .before .before .before .if1 .left)) (sym (c .before .before .before .before .enum-told8 .given .1) ∙ c .before .before .before .before .before .before .routine-of .ensures) (c .before .before .join .ensures)
+node-returns-9 t c = node-by the-variants.LimitByClause (c .before .before .before .before .before .before .before .before .before .before .before .before .pre .1 .1) (scanned-as (c .before .before .before .before .before .before .before .before .is-copied .ensures) (c .before .before .before .before .before .before .before .if1 .left)) (sym (c .before .before .before .before .enum-told8 .given .1) ∙ c .before .before .before .before .before .before .routine-of .ensures) (c .before .before .join .ensures)
 
 node-same-length-10 : (t : ℕ) → node-lts.Need-same-length-10 (
-  head-at-reads.Asked,
-  head-at-reads.Learnt,
   is-copied-reads.Asked,
   is-copied-reads.Learnt,
+  head-at-reads.Asked,
+  head-at-reads.Learnt,
   skip-reads.Asked,
   skip-reads.Learnt,
   format-error-verbatim-reads.Asked,
@@ -8988,10 +8988,10 @@ node-same-length-10 : (t : ℕ) → node-lts.Need-same-length-10 (
 node-same-length-10 t c = c .before .before .settings .kept .1 .1 .1 .1 .0
 
 node-returns-10 : (t : ℕ) → node-lts.Need-returns-10 (
-  head-at-reads.Asked,
-  head-at-reads.Learnt,
   is-copied-reads.Asked,
   is-copied-reads.Learnt,
+  head-at-reads.Asked,
+  head-at-reads.Learnt,
   skip-reads.Asked,
   skip-reads.Learnt,
   format-error-verbatim-reads.Asked,
@@ -9054,13 +9054,13 @@ node-returns-10 : (t : ℕ) → node-lts.Need-returns-10 (
   passthrough.Post,
 ) (node-at t) node.Post
 unfolding armsOf
-node-returns-10 t c = node-by the-variants.SettingsClause (c .before .before .before .before .before .before .before .before .before .head-at .ensures) (scanned-as (c .before .before .before .before .before .before .before .before .is-copied .ensures) (c .before .before .before .before .before .before .before .if1 .left)) (sym (c .before .before .before .before .enum-told9 .given .1) ∙ c .before .before .before .before .before .before .routine-of .ensures) (c .before .before .settings .ensures)
+node-returns-10 t c = node-by the-variants.SettingsClause (c .before .before .before .before .before .before .before .before .before .before .before .before .pre .1 .1) (scanned-as (c .before .before .before .before .before .before .before .before .is-copied .ensures) (c .before .before .before .before .before .before .before .if1 .left)) (sym (c .before .before .before .before .enum-told9 .given .1) ∙ c .before .before .before .before .before .before .routine-of .ensures) (c .before .before .settings .ensures)
 
 node-same-length-11 : (t : ℕ) → node-lts.Need-same-length-11 (
-  head-at-reads.Asked,
-  head-at-reads.Learnt,
   is-copied-reads.Asked,
   is-copied-reads.Learnt,
+  head-at-reads.Asked,
+  head-at-reads.Learnt,
   skip-reads.Asked,
   skip-reads.Learnt,
   format-error-verbatim-reads.Asked,
@@ -9125,10 +9125,10 @@ node-same-length-11 : (t : ℕ) → node-lts.Need-same-length-11 (
 node-same-length-11 t c = c .before .before .with-clause .kept .1 .1 .1 .1 .0
 
 node-returns-11 : (t : ℕ) → node-lts.Need-returns-11 (
-  head-at-reads.Asked,
-  head-at-reads.Learnt,
   is-copied-reads.Asked,
   is-copied-reads.Learnt,
+  head-at-reads.Asked,
+  head-at-reads.Learnt,
   skip-reads.Asked,
   skip-reads.Learnt,
   format-error-verbatim-reads.Asked,
@@ -9191,13 +9191,13 @@ node-returns-11 : (t : ℕ) → node-lts.Need-returns-11 (
   passthrough.Post,
 ) (node-at t) node.Post
 unfolding armsOf
-node-returns-11 t c = node-by the-variants.WithClause (c .before .before .before .before .before .before .before .before .before .head-at .ensures) (scanned-as (c .before .before .before .before .before .before .before .before .is-copied .ensures) (c .before .before .before .before .before .before .before .if1 .left)) (sym (c .before .before .before .before .enum-told10 .given .1) ∙ c .before .before .before .before .before .before .routine-of .ensures) (c .before .before .with-clause .ensures)
+node-returns-11 t c = node-by the-variants.WithClause (c .before .before .before .before .before .before .before .before .before .before .before .before .pre .1 .1) (scanned-as (c .before .before .before .before .before .before .before .before .is-copied .ensures) (c .before .before .before .before .before .before .before .if1 .left)) (sym (c .before .before .before .before .enum-told10 .given .1) ∙ c .before .before .before .before .before .before .routine-of .ensures) (c .before .before .with-clause .ensures)
 
 node-same-length-12 : (t : ℕ) → node-lts.Need-same-length-12 (
-  head-at-reads.Asked,
-  head-at-reads.Learnt,
   is-copied-reads.Asked,
   is-copied-reads.Learnt,
+  head-at-reads.Asked,
+  head-at-reads.Learnt,
   skip-reads.Asked,
   skip-reads.Learnt,
   format-error-verbatim-reads.Asked,
@@ -9262,10 +9262,10 @@ node-same-length-12 : (t : ℕ) → node-lts.Need-same-length-12 (
 node-same-length-12 t c = c .before .before .join2 .kept .1 .1 .1 .1 .0
 
 node-returns-12 : (t : ℕ) → node-lts.Need-returns-12 (
-  head-at-reads.Asked,
-  head-at-reads.Learnt,
   is-copied-reads.Asked,
   is-copied-reads.Learnt,
+  head-at-reads.Asked,
+  head-at-reads.Learnt,
   skip-reads.Asked,
   skip-reads.Learnt,
   format-error-verbatim-reads.Asked,
@@ -9328,13 +9328,13 @@ node-returns-12 : (t : ℕ) → node-lts.Need-returns-12 (
   passthrough.Post,
 ) (node-at t) node.Post
 unfolding armsOf
-node-returns-12 t c = node-by the-variants.JoinClause (c .before .before .before .before .before .before .before .before .before .head-at .ensures) (scanned-as (c .before .before .before .before .before .before .before .before .is-copied .ensures) (c .before .before .before .before .before .before .before .if1 .left)) (sym (c .before .before .before .before .enum-told11 .given .1) ∙ c .before .before .before .before .before .before .routine-of .ensures) (c .before .before .join2 .ensures)
+node-returns-12 t c = node-by the-variants.JoinClause (c .before .before .before .before .before .before .before .before .before .before .before .before .pre .1 .1) (scanned-as (c .before .before .before .before .before .before .before .before .is-copied .ensures) (c .before .before .before .before .before .before .before .if1 .left)) (sym (c .before .before .before .before .enum-told11 .given .1) ∙ c .before .before .before .before .before .before .routine-of .ensures) (c .before .before .join2 .ensures)
 
 node-same-length-13 : (t : ℕ) → node-lts.Need-same-length-13 (
-  head-at-reads.Asked,
-  head-at-reads.Learnt,
   is-copied-reads.Asked,
   is-copied-reads.Learnt,
+  head-at-reads.Asked,
+  head-at-reads.Learnt,
   skip-reads.Asked,
   skip-reads.Learnt,
   format-error-verbatim-reads.Asked,
@@ -9399,10 +9399,10 @@ node-same-length-13 : (t : ℕ) → node-lts.Need-same-length-13 (
 node-same-length-13 t c = c .before .before .inline .kept .1 .1 .1 .1 .0
 
 node-returns-13 : (t : ℕ) → node-lts.Need-returns-13 (
-  head-at-reads.Asked,
-  head-at-reads.Learnt,
   is-copied-reads.Asked,
   is-copied-reads.Learnt,
+  head-at-reads.Asked,
+  head-at-reads.Learnt,
   skip-reads.Asked,
   skip-reads.Learnt,
   format-error-verbatim-reads.Asked,
@@ -9465,13 +9465,13 @@ node-returns-13 : (t : ℕ) → node-lts.Need-returns-13 (
   passthrough.Post,
 ) (node-at t) node.Post
 unfolding armsOf
-node-returns-13 t c = node-by the-variants.Inline (c .before .before .before .before .before .before .before .before .before .head-at .ensures) (scanned-as (c .before .before .before .before .before .before .before .before .is-copied .ensures) (c .before .before .before .before .before .before .before .if1 .left)) (sym (c .before .before .before .before .enum-told12 .given .1) ∙ c .before .before .before .before .before .before .routine-of .ensures) (c .before .before .inline .ensures)
+node-returns-13 t c = node-by the-variants.Inline (c .before .before .before .before .before .before .before .before .before .before .before .before .pre .1 .1) (scanned-as (c .before .before .before .before .before .before .before .before .is-copied .ensures) (c .before .before .before .before .before .before .before .if1 .left)) (sym (c .before .before .before .before .enum-told12 .given .1) ∙ c .before .before .before .before .before .before .routine-of .ensures) (c .before .before .inline .ensures)
 
 node-same-length-14 : (t : ℕ) → node-lts.Need-same-length-14 (
-  head-at-reads.Asked,
-  head-at-reads.Learnt,
   is-copied-reads.Asked,
   is-copied-reads.Learnt,
+  head-at-reads.Asked,
+  head-at-reads.Learnt,
   skip-reads.Asked,
   skip-reads.Learnt,
   format-error-verbatim-reads.Asked,
@@ -9536,10 +9536,10 @@ node-same-length-14 : (t : ℕ) → node-lts.Need-same-length-14 (
 node-same-length-14 t c = c .before .before .commas .kept .1 .1 .1 .1 .0
 
 node-returns-14 : (t : ℕ) → node-lts.Need-returns-14 (
-  head-at-reads.Asked,
-  head-at-reads.Learnt,
   is-copied-reads.Asked,
   is-copied-reads.Learnt,
+  head-at-reads.Asked,
+  head-at-reads.Learnt,
   skip-reads.Asked,
   skip-reads.Learnt,
   format-error-verbatim-reads.Asked,
@@ -9602,13 +9602,13 @@ node-returns-14 : (t : ℕ) → node-lts.Need-returns-14 (
   passthrough.Post,
 ) (node-at t) node.Post
 unfolding armsOf
-node-returns-14 t c = node-by the-variants.CommaList (c .before .before .before .before .before .before .before .before .before .head-at .ensures) (scanned-as (c .before .before .before .before .before .before .before .before .is-copied .ensures) (c .before .before .before .before .before .before .before .if1 .left)) (sym (c .before .before .before .before .enum-told13 .given .1) ∙ c .before .before .before .before .before .before .routine-of .ensures) (c .before .before .commas .ensures)
+node-returns-14 t c = node-by the-variants.CommaList (c .before .before .before .before .before .before .before .before .before .before .before .before .pre .1 .1) (scanned-as (c .before .before .before .before .before .before .before .before .is-copied .ensures) (c .before .before .before .before .before .before .before .if1 .left)) (sym (c .before .before .before .before .enum-told13 .given .1) ∙ c .before .before .before .before .before .before .routine-of .ensures) (c .before .before .commas .ensures)
 
 node-same-length-15 : (t : ℕ) → node-lts.Need-same-length-15 (
-  head-at-reads.Asked,
-  head-at-reads.Learnt,
   is-copied-reads.Asked,
   is-copied-reads.Learnt,
+  head-at-reads.Asked,
+  head-at-reads.Learnt,
   skip-reads.Asked,
   skip-reads.Learnt,
   format-error-verbatim-reads.Asked,
@@ -9673,10 +9673,10 @@ node-same-length-15 : (t : ℕ) → node-lts.Need-same-length-15 (
 node-same-length-15 t c = c .before .before .inline-commas .kept .1 .1 .1 .1 .0
 
 node-returns-15 : (t : ℕ) → node-lts.Need-returns-15 (
-  head-at-reads.Asked,
-  head-at-reads.Learnt,
   is-copied-reads.Asked,
   is-copied-reads.Learnt,
+  head-at-reads.Asked,
+  head-at-reads.Learnt,
   skip-reads.Asked,
   skip-reads.Learnt,
   format-error-verbatim-reads.Asked,
@@ -9739,13 +9739,13 @@ node-returns-15 : (t : ℕ) → node-lts.Need-returns-15 (
   passthrough.Post,
 ) (node-at t) node.Post
 unfolding armsOf
-node-returns-15 t c = node-by the-variants.InlineCommaList (c .before .before .before .before .before .before .before .before .before .head-at .ensures) (scanned-as (c .before .before .before .before .before .before .before .before .is-copied .ensures) (c .before .before .before .before .before .before .before .if1 .left)) (sym (c .before .before .before .before .enum-told14 .given .1) ∙ c .before .before .before .before .before .before .routine-of .ensures) (c .before .before .inline-commas .ensures)
+node-returns-15 t c = node-by the-variants.InlineCommaList (c .before .before .before .before .before .before .before .before .before .before .before .before .pre .1 .1) (scanned-as (c .before .before .before .before .before .before .before .before .is-copied .ensures) (c .before .before .before .before .before .before .before .if1 .left)) (sym (c .before .before .before .before .enum-told14 .given .1) ∙ c .before .before .before .before .before .before .routine-of .ensures) (c .before .before .inline-commas .ensures)
 
 node-same-length-16 : (t : ℕ) → node-lts.Need-same-length-16 (
-  head-at-reads.Asked,
-  head-at-reads.Learnt,
   is-copied-reads.Asked,
   is-copied-reads.Learnt,
+  head-at-reads.Asked,
+  head-at-reads.Learnt,
   skip-reads.Asked,
   skip-reads.Learnt,
   format-error-verbatim-reads.Asked,
@@ -9810,10 +9810,10 @@ node-same-length-16 : (t : ℕ) → node-lts.Need-same-length-16 (
 node-same-length-16 t c = c .before .before .binary .kept .1 .1 .1 .1 .0
 
 node-returns-16 : (t : ℕ) → node-lts.Need-returns-16 (
-  head-at-reads.Asked,
-  head-at-reads.Learnt,
   is-copied-reads.Asked,
   is-copied-reads.Learnt,
+  head-at-reads.Asked,
+  head-at-reads.Learnt,
   skip-reads.Asked,
   skip-reads.Learnt,
   format-error-verbatim-reads.Asked,
@@ -9876,13 +9876,13 @@ node-returns-16 : (t : ℕ) → node-lts.Need-returns-16 (
   passthrough.Post,
 ) (node-at t) node.Post
 unfolding armsOf
-node-returns-16 t c = node-by the-variants.BinaryExpression (c .before .before .before .before .before .before .before .before .before .head-at .ensures) (scanned-as (c .before .before .before .before .before .before .before .before .is-copied .ensures) (c .before .before .before .before .before .before .before .if1 .left)) (sym (c .before .before .before .before .enum-told15 .given .1) ∙ c .before .before .before .before .before .before .routine-of .ensures) (c .before .before .binary .ensures)
+node-returns-16 t c = node-by the-variants.BinaryExpression (c .before .before .before .before .before .before .before .before .before .before .before .before .pre .1 .1) (scanned-as (c .before .before .before .before .before .before .before .before .is-copied .ensures) (c .before .before .before .before .before .before .before .if1 .left)) (sym (c .before .before .before .before .enum-told15 .given .1) ∙ c .before .before .before .before .before .before .routine-of .ensures) (c .before .before .binary .ensures)
 
 node-same-length-17 : (t : ℕ) → node-lts.Need-same-length-17 (
-  head-at-reads.Asked,
-  head-at-reads.Learnt,
   is-copied-reads.Asked,
   is-copied-reads.Learnt,
+  head-at-reads.Asked,
+  head-at-reads.Learnt,
   skip-reads.Asked,
   skip-reads.Learnt,
   format-error-verbatim-reads.Asked,
@@ -9947,10 +9947,10 @@ node-same-length-17 : (t : ℕ) → node-lts.Need-same-length-17 (
 node-same-length-17 t c = c .before .before .unary .kept .1 .1 .1 .1 .0
 
 node-returns-17 : (t : ℕ) → node-lts.Need-returns-17 (
-  head-at-reads.Asked,
-  head-at-reads.Learnt,
   is-copied-reads.Asked,
   is-copied-reads.Learnt,
+  head-at-reads.Asked,
+  head-at-reads.Learnt,
   skip-reads.Asked,
   skip-reads.Learnt,
   format-error-verbatim-reads.Asked,
@@ -10013,13 +10013,13 @@ node-returns-17 : (t : ℕ) → node-lts.Need-returns-17 (
   passthrough.Post,
 ) (node-at t) node.Post
 unfolding armsOf
-node-returns-17 t c = node-by the-variants.UnaryExpression (c .before .before .before .before .before .before .before .before .before .head-at .ensures) (scanned-as (c .before .before .before .before .before .before .before .before .is-copied .ensures) (c .before .before .before .before .before .before .before .if1 .left)) (sym (c .before .before .before .before .enum-told16 .given .1) ∙ c .before .before .before .before .before .before .routine-of .ensures) (c .before .before .unary .ensures)
+node-returns-17 t c = node-by the-variants.UnaryExpression (c .before .before .before .before .before .before .before .before .before .before .before .before .pre .1 .1) (scanned-as (c .before .before .before .before .before .before .before .before .is-copied .ensures) (c .before .before .before .before .before .before .before .if1 .left)) (sym (c .before .before .before .before .enum-told16 .given .1) ∙ c .before .before .before .before .before .before .routine-of .ensures) (c .before .before .unary .ensures)
 
 node-same-length-18 : (t : ℕ) → node-lts.Need-same-length-18 (
-  head-at-reads.Asked,
-  head-at-reads.Learnt,
   is-copied-reads.Asked,
   is-copied-reads.Learnt,
+  head-at-reads.Asked,
+  head-at-reads.Learnt,
   skip-reads.Asked,
   skip-reads.Learnt,
   format-error-verbatim-reads.Asked,
@@ -10084,10 +10084,10 @@ node-same-length-18 : (t : ℕ) → node-lts.Need-same-length-18 (
 node-same-length-18 t c = c .before .before .call .kept .1 .1 .1 .1 .0
 
 node-returns-18 : (t : ℕ) → node-lts.Need-returns-18 (
-  head-at-reads.Asked,
-  head-at-reads.Learnt,
   is-copied-reads.Asked,
   is-copied-reads.Learnt,
+  head-at-reads.Asked,
+  head-at-reads.Learnt,
   skip-reads.Asked,
   skip-reads.Learnt,
   format-error-verbatim-reads.Asked,
@@ -10150,13 +10150,13 @@ node-returns-18 : (t : ℕ) → node-lts.Need-returns-18 (
   passthrough.Post,
 ) (node-at t) node.Post
 unfolding armsOf
-node-returns-18 t c = node-by the-variants.FunctionCall (c .before .before .before .before .before .before .before .before .before .head-at .ensures) (scanned-as (c .before .before .before .before .before .before .before .before .is-copied .ensures) (c .before .before .before .before .before .before .before .if1 .left)) (sym (c .before .before .before .before .enum-told17 .given .1) ∙ c .before .before .before .before .before .before .routine-of .ensures) (c .before .before .call .ensures)
+node-returns-18 t c = node-by the-variants.FunctionCall (c .before .before .before .before .before .before .before .before .before .before .before .before .pre .1 .1) (scanned-as (c .before .before .before .before .before .before .before .before .is-copied .ensures) (c .before .before .before .before .before .before .before .if1 .left)) (sym (c .before .before .before .before .enum-told17 .given .1) ∙ c .before .before .before .before .before .before .routine-of .ensures) (c .before .before .call .ensures)
 
 node-same-length-19 : (t : ℕ) → node-lts.Need-same-length-19 (
-  head-at-reads.Asked,
-  head-at-reads.Learnt,
   is-copied-reads.Asked,
   is-copied-reads.Learnt,
+  head-at-reads.Asked,
+  head-at-reads.Learnt,
   skip-reads.Asked,
   skip-reads.Learnt,
   format-error-verbatim-reads.Asked,
@@ -10221,10 +10221,10 @@ node-same-length-19 : (t : ℕ) → node-lts.Need-same-length-19 (
 node-same-length-19 t c = c .before .before .case-of .kept .1 .1 .1 .1 .0
 
 node-returns-19 : (t : ℕ) → node-lts.Need-returns-19 (
-  head-at-reads.Asked,
-  head-at-reads.Learnt,
   is-copied-reads.Asked,
   is-copied-reads.Learnt,
+  head-at-reads.Asked,
+  head-at-reads.Learnt,
   skip-reads.Asked,
   skip-reads.Learnt,
   format-error-verbatim-reads.Asked,
@@ -10287,13 +10287,13 @@ node-returns-19 : (t : ℕ) → node-lts.Need-returns-19 (
   passthrough.Post,
 ) (node-at t) node.Post
 unfolding armsOf
-node-returns-19 t c = node-by the-variants.CaseExpression (c .before .before .before .before .before .before .before .before .before .head-at .ensures) (scanned-as (c .before .before .before .before .before .before .before .before .is-copied .ensures) (c .before .before .before .before .before .before .before .if1 .left)) (sym (c .before .before .before .before .enum-told18 .given .1) ∙ c .before .before .before .before .before .before .routine-of .ensures) (c .before .before .case-of .ensures)
+node-returns-19 t c = node-by the-variants.CaseExpression (c .before .before .before .before .before .before .before .before .before .before .before .before .pre .1 .1) (scanned-as (c .before .before .before .before .before .before .before .before .is-copied .ensures) (c .before .before .before .before .before .before .before .if1 .left)) (sym (c .before .before .before .before .enum-told18 .given .1) ∙ c .before .before .before .before .before .before .routine-of .ensures) (c .before .before .case-of .ensures)
 
 node-same-length-20 : (t : ℕ) → node-lts.Need-same-length-20 (
-  head-at-reads.Asked,
-  head-at-reads.Learnt,
   is-copied-reads.Asked,
   is-copied-reads.Learnt,
+  head-at-reads.Asked,
+  head-at-reads.Learnt,
   skip-reads.Asked,
   skip-reads.Learnt,
   format-error-verbatim-reads.Asked,
@@ -10358,10 +10358,10 @@ node-same-length-20 : (t : ℕ) → node-lts.Need-same-length-20 (
 node-same-length-20 t c = c .before .before .when-then .kept .1 .1 .1 .1 .0
 
 node-returns-20 : (t : ℕ) → node-lts.Need-returns-20 (
-  head-at-reads.Asked,
-  head-at-reads.Learnt,
   is-copied-reads.Asked,
   is-copied-reads.Learnt,
+  head-at-reads.Asked,
+  head-at-reads.Learnt,
   skip-reads.Asked,
   skip-reads.Learnt,
   format-error-verbatim-reads.Asked,
@@ -10424,13 +10424,13 @@ node-returns-20 : (t : ℕ) → node-lts.Need-returns-20 (
   passthrough.Post,
 ) (node-at t) node.Post
 unfolding armsOf
-node-returns-20 t c = node-by the-variants.WhenClause (c .before .before .before .before .before .before .before .before .before .head-at .ensures) (scanned-as (c .before .before .before .before .before .before .before .before .is-copied .ensures) (c .before .before .before .before .before .before .before .if1 .left)) (sym (c .before .before .before .before .enum-told19 .given .1) ∙ c .before .before .before .before .before .before .routine-of .ensures) (c .before .before .when-then .ensures)
+node-returns-20 t c = node-by the-variants.WhenClause (c .before .before .before .before .before .before .before .before .before .before .before .before .pre .1 .1) (scanned-as (c .before .before .before .before .before .before .before .before .is-copied .ensures) (c .before .before .before .before .before .before .before .if1 .left)) (sym (c .before .before .before .before .enum-told19 .given .1) ∙ c .before .before .before .before .before .before .routine-of .ensures) (c .before .before .when-then .ensures)
 
 node-same-length-21 : (t : ℕ) → node-lts.Need-same-length-21 (
-  head-at-reads.Asked,
-  head-at-reads.Learnt,
   is-copied-reads.Asked,
   is-copied-reads.Learnt,
+  head-at-reads.Asked,
+  head-at-reads.Learnt,
   skip-reads.Asked,
   skip-reads.Learnt,
   format-error-verbatim-reads.Asked,
@@ -10495,10 +10495,10 @@ node-same-length-21 : (t : ℕ) → node-lts.Need-same-length-21 (
 node-same-length-21 t c = c .before .before .subquery .kept .1 .1 .1 .1 .0
 
 node-returns-21 : (t : ℕ) → node-lts.Need-returns-21 (
-  head-at-reads.Asked,
-  head-at-reads.Learnt,
   is-copied-reads.Asked,
   is-copied-reads.Learnt,
+  head-at-reads.Asked,
+  head-at-reads.Learnt,
   skip-reads.Asked,
   skip-reads.Learnt,
   format-error-verbatim-reads.Asked,
@@ -10561,13 +10561,13 @@ node-returns-21 : (t : ℕ) → node-lts.Need-returns-21 (
   passthrough.Post,
 ) (node-at t) node.Post
 unfolding armsOf
-node-returns-21 t c = node-by the-variants.Subquery (c .before .before .before .before .before .before .before .before .before .head-at .ensures) (scanned-as (c .before .before .before .before .before .before .before .before .is-copied .ensures) (c .before .before .before .before .before .before .before .if1 .left)) (sym (c .before .before .before .before .enum-told20 .given .1) ∙ c .before .before .before .before .before .before .routine-of .ensures) (c .before .before .subquery .ensures)
+node-returns-21 t c = node-by the-variants.Subquery (c .before .before .before .before .before .before .before .before .before .before .before .before .pre .1 .1) (scanned-as (c .before .before .before .before .before .before .before .before .is-copied .ensures) (c .before .before .before .before .before .before .before .if1 .left)) (sym (c .before .before .before .before .enum-told20 .given .1) ∙ c .before .before .before .before .before .before .routine-of .ensures) (c .before .before .subquery .ensures)
 
 node-same-length-22 : (t : ℕ) → node-lts.Need-same-length-22 (
-  head-at-reads.Asked,
-  head-at-reads.Learnt,
   is-copied-reads.Asked,
   is-copied-reads.Learnt,
+  head-at-reads.Asked,
+  head-at-reads.Learnt,
   skip-reads.Asked,
   skip-reads.Learnt,
   format-error-verbatim-reads.Asked,
@@ -10632,10 +10632,10 @@ node-same-length-22 : (t : ℕ) → node-lts.Need-same-length-22 (
 node-same-length-22 t c = c .before .before .parens .kept .1 .1 .1 .1 .0
 
 node-returns-22 : (t : ℕ) → node-lts.Need-returns-22 (
-  head-at-reads.Asked,
-  head-at-reads.Learnt,
   is-copied-reads.Asked,
   is-copied-reads.Learnt,
+  head-at-reads.Asked,
+  head-at-reads.Learnt,
   skip-reads.Asked,
   skip-reads.Learnt,
   format-error-verbatim-reads.Asked,
@@ -10698,13 +10698,13 @@ node-returns-22 : (t : ℕ) → node-lts.Need-returns-22 (
   passthrough.Post,
 ) (node-at t) node.Post
 unfolding armsOf
-node-returns-22 t c = node-by the-variants.ParenList (c .before .before .before .before .before .before .before .before .before .head-at .ensures) (scanned-as (c .before .before .before .before .before .before .before .before .is-copied .ensures) (c .before .before .before .before .before .before .before .if1 .left)) (sym (c .before .before .before .before .enum-told21 .given .1) ∙ c .before .before .before .before .before .before .routine-of .ensures) (c .before .before .parens .ensures)
+node-returns-22 t c = node-by the-variants.ParenList (c .before .before .before .before .before .before .before .before .before .before .before .before .pre .1 .1) (scanned-as (c .before .before .before .before .before .before .before .before .is-copied .ensures) (c .before .before .before .before .before .before .before .if1 .left)) (sym (c .before .before .before .before .enum-told21 .given .1) ∙ c .before .before .before .before .before .before .routine-of .ensures) (c .before .before .parens .ensures)
 
 node-same-length-23 : (t : ℕ) → node-lts.Need-same-length-23 (
-  head-at-reads.Asked,
-  head-at-reads.Learnt,
   is-copied-reads.Asked,
   is-copied-reads.Learnt,
+  head-at-reads.Asked,
+  head-at-reads.Learnt,
   skip-reads.Asked,
   skip-reads.Learnt,
   format-error-verbatim-reads.Asked,
@@ -10769,10 +10769,10 @@ node-same-length-23 : (t : ℕ) → node-lts.Need-same-length-23 (
 node-same-length-23 t c = c .before .before .brackets .kept .1 .1 .1 .1 .0
 
 node-returns-23 : (t : ℕ) → node-lts.Need-returns-23 (
-  head-at-reads.Asked,
-  head-at-reads.Learnt,
   is-copied-reads.Asked,
   is-copied-reads.Learnt,
+  head-at-reads.Asked,
+  head-at-reads.Learnt,
   skip-reads.Asked,
   skip-reads.Learnt,
   format-error-verbatim-reads.Asked,
@@ -10835,13 +10835,13 @@ node-returns-23 : (t : ℕ) → node-lts.Need-returns-23 (
   passthrough.Post,
 ) (node-at t) node.Post
 unfolding armsOf
-node-returns-23 t c = node-by the-variants.BracketList (c .before .before .before .before .before .before .before .before .before .head-at .ensures) (scanned-as (c .before .before .before .before .before .before .before .before .is-copied .ensures) (c .before .before .before .before .before .before .before .if1 .left)) (sym (c .before .before .before .before .enum-told22 .given .1) ∙ c .before .before .before .before .before .before .routine-of .ensures) (c .before .before .brackets .ensures)
+node-returns-23 t c = node-by the-variants.BracketList (c .before .before .before .before .before .before .before .before .before .before .before .before .pre .1 .1) (scanned-as (c .before .before .before .before .before .before .before .before .is-copied .ensures) (c .before .before .before .before .before .before .before .if1 .left)) (sym (c .before .before .before .before .enum-told22 .given .1) ∙ c .before .before .before .before .before .before .routine-of .ensures) (c .before .before .brackets .ensures)
 
 node-same-length-24 : (t : ℕ) → node-lts.Need-same-length-24 (
-  head-at-reads.Asked,
-  head-at-reads.Learnt,
   is-copied-reads.Asked,
   is-copied-reads.Learnt,
+  head-at-reads.Asked,
+  head-at-reads.Learnt,
   skip-reads.Asked,
   skip-reads.Learnt,
   format-error-verbatim-reads.Asked,
@@ -10906,10 +10906,10 @@ node-same-length-24 : (t : ℕ) → node-lts.Need-same-length-24 (
 node-same-length-24 t c = c .before .before .no-spaces .kept .1 .1 .1 .1 .0
 
 node-returns-24 : (t : ℕ) → node-lts.Need-returns-24 (
-  head-at-reads.Asked,
-  head-at-reads.Learnt,
   is-copied-reads.Asked,
   is-copied-reads.Learnt,
+  head-at-reads.Asked,
+  head-at-reads.Learnt,
   skip-reads.Asked,
   skip-reads.Learnt,
   format-error-verbatim-reads.Asked,
@@ -10972,13 +10972,13 @@ node-returns-24 : (t : ℕ) → node-lts.Need-returns-24 (
   passthrough.Post,
 ) (node-at t) node.Post
 unfolding armsOf
-node-returns-24 t c = node-by the-variants.InlineNoSpaces (c .before .before .before .before .before .before .before .before .before .head-at .ensures) (scanned-as (c .before .before .before .before .before .before .before .before .is-copied .ensures) (c .before .before .before .before .before .before .before .if1 .left)) (sym (c .before .before .before .before .enum-told23 .given .1) ∙ c .before .before .before .before .before .before .routine-of .ensures) (c .before .before .no-spaces .ensures)
+node-returns-24 t c = node-by the-variants.InlineNoSpaces (c .before .before .before .before .before .before .before .before .before .before .before .before .pre .1 .1) (scanned-as (c .before .before .before .before .before .before .before .before .is-copied .ensures) (c .before .before .before .before .before .before .before .if1 .left)) (sym (c .before .before .before .before .enum-told23 .given .1) ∙ c .before .before .before .before .before .before .routine-of .ensures) (c .before .before .no-spaces .ensures)
 
 node-same-length-25 : (t : ℕ) → node-lts.Need-same-length-25 (
-  head-at-reads.Asked,
-  head-at-reads.Learnt,
   is-copied-reads.Asked,
   is-copied-reads.Learnt,
+  head-at-reads.Asked,
+  head-at-reads.Learnt,
   skip-reads.Asked,
   skip-reads.Learnt,
   format-error-verbatim-reads.Asked,
@@ -11043,10 +11043,10 @@ node-same-length-25 : (t : ℕ) → node-lts.Need-same-length-25 (
 node-same-length-25 t c = c .before .before .braces .kept .1 .1 .1 .1 .0
 
 node-returns-25 : (t : ℕ) → node-lts.Need-returns-25 (
-  head-at-reads.Asked,
-  head-at-reads.Learnt,
   is-copied-reads.Asked,
   is-copied-reads.Learnt,
+  head-at-reads.Asked,
+  head-at-reads.Learnt,
   skip-reads.Asked,
   skip-reads.Learnt,
   format-error-verbatim-reads.Asked,
@@ -11109,13 +11109,13 @@ node-returns-25 : (t : ℕ) → node-lts.Need-returns-25 (
   passthrough.Post,
 ) (node-at t) node.Post
 unfolding armsOf
-node-returns-25 t c = node-by the-variants.BraceList (c .before .before .before .before .before .before .before .before .before .head-at .ensures) (scanned-as (c .before .before .before .before .before .before .before .before .is-copied .ensures) (c .before .before .before .before .before .before .before .if1 .left)) (sym (c .before .before .before .before .enum-told24 .given .1) ∙ c .before .before .before .before .before .before .routine-of .ensures) (c .before .before .braces .ensures)
+node-returns-25 t c = node-by the-variants.BraceList (c .before .before .before .before .before .before .before .before .before .before .before .before .pre .1 .1) (scanned-as (c .before .before .before .before .before .before .before .before .is-copied .ensures) (c .before .before .before .before .before .before .before .if1 .left)) (sym (c .before .before .before .before .enum-told24 .given .1) ∙ c .before .before .before .before .before .before .routine-of .ensures) (c .before .before .braces .ensures)
 
 node-same-length-26 : (t : ℕ) → node-lts.Need-same-length-26 (
-  head-at-reads.Asked,
-  head-at-reads.Learnt,
   is-copied-reads.Asked,
   is-copied-reads.Learnt,
+  head-at-reads.Asked,
+  head-at-reads.Learnt,
   skip-reads.Asked,
   skip-reads.Learnt,
   format-error-verbatim-reads.Asked,
@@ -11180,10 +11180,10 @@ node-same-length-26 : (t : ℕ) → node-lts.Need-same-length-26 (
 node-same-length-26 t c = c .before .before .data-type .kept .1 .1 .1 .1 .0
 
 node-returns-26 : (t : ℕ) → node-lts.Need-returns-26 (
-  head-at-reads.Asked,
-  head-at-reads.Learnt,
   is-copied-reads.Asked,
   is-copied-reads.Learnt,
+  head-at-reads.Asked,
+  head-at-reads.Learnt,
   skip-reads.Asked,
   skip-reads.Learnt,
   format-error-verbatim-reads.Asked,
@@ -11246,13 +11246,13 @@ node-returns-26 : (t : ℕ) → node-lts.Need-returns-26 (
   passthrough.Post,
 ) (node-at t) node.Post
 unfolding armsOf
-node-returns-26 t c = node-by the-variants.DataType (c .before .before .before .before .before .before .before .before .before .head-at .ensures) (scanned-as (c .before .before .before .before .before .before .before .before .is-copied .ensures) (c .before .before .before .before .before .before .before .if1 .left)) (sym (c .before .before .before .before .enum-told25 .given .1) ∙ c .before .before .before .before .before .before .routine-of .ensures) (c .before .before .data-type .ensures)
+node-returns-26 t c = node-by the-variants.DataType (c .before .before .before .before .before .before .before .before .before .before .before .before .pre .1 .1) (scanned-as (c .before .before .before .before .before .before .before .before .is-copied .ensures) (c .before .before .before .before .before .before .before .if1 .left)) (sym (c .before .before .before .before .enum-told25 .given .1) ∙ c .before .before .before .before .before .before .routine-of .ensures) (c .before .before .data-type .ensures)
 
 node-same-length-27 : (t : ℕ) → node-lts.Need-same-length-27 (
-  head-at-reads.Asked,
-  head-at-reads.Learnt,
   is-copied-reads.Asked,
   is-copied-reads.Learnt,
+  head-at-reads.Asked,
+  head-at-reads.Learnt,
   skip-reads.Asked,
   skip-reads.Learnt,
   format-error-verbatim-reads.Asked,
@@ -11317,10 +11317,10 @@ node-same-length-27 : (t : ℕ) → node-lts.Need-same-length-27 (
 node-same-length-27 t c = c .before .before .tight .kept .1 .1 .1 .1 .0
 
 node-returns-27 : (t : ℕ) → node-lts.Need-returns-27 (
-  head-at-reads.Asked,
-  head-at-reads.Learnt,
   is-copied-reads.Asked,
   is-copied-reads.Learnt,
+  head-at-reads.Asked,
+  head-at-reads.Learnt,
   skip-reads.Asked,
   skip-reads.Learnt,
   format-error-verbatim-reads.Asked,
@@ -11383,13 +11383,13 @@ node-returns-27 : (t : ℕ) → node-lts.Need-returns-27 (
   passthrough.Post,
 ) (node-at t) node.Post
 unfolding armsOf
-node-returns-27 t c = node-by the-variants.InlineTightParens (c .before .before .before .before .before .before .before .before .before .head-at .ensures) (scanned-as (c .before .before .before .before .before .before .before .before .is-copied .ensures) (c .before .before .before .before .before .before .before .if1 .left)) (sym (c .before .before .before .before .enum-told26 .given .1) ∙ c .before .before .before .before .before .before .routine-of .ensures) (c .before .before .tight .ensures)
+node-returns-27 t c = node-by the-variants.InlineTightParens (c .before .before .before .before .before .before .before .before .before .before .before .before .pre .1 .1) (scanned-as (c .before .before .before .before .before .before .before .before .is-copied .ensures) (c .before .before .before .before .before .before .before .if1 .left)) (sym (c .before .before .before .before .enum-told26 .given .1) ∙ c .before .before .before .before .before .before .routine-of .ensures) (c .before .before .tight .ensures)
 
 node-same-length-28 : (t : ℕ) → node-lts.Need-same-length-28 (
-  head-at-reads.Asked,
-  head-at-reads.Learnt,
   is-copied-reads.Asked,
   is-copied-reads.Learnt,
+  head-at-reads.Asked,
+  head-at-reads.Learnt,
   skip-reads.Asked,
   skip-reads.Learnt,
   format-error-verbatim-reads.Asked,
@@ -11454,10 +11454,10 @@ node-same-length-28 : (t : ℕ) → node-lts.Need-same-length-28 (
 node-same-length-28 t c = c .before .before .alter .kept .1 .1 .1 .1 .0
 
 node-returns-28 : (t : ℕ) → node-lts.Need-returns-28 (
-  head-at-reads.Asked,
-  head-at-reads.Learnt,
   is-copied-reads.Asked,
   is-copied-reads.Learnt,
+  head-at-reads.Asked,
+  head-at-reads.Learnt,
   skip-reads.Asked,
   skip-reads.Learnt,
   format-error-verbatim-reads.Asked,
@@ -11520,13 +11520,13 @@ node-returns-28 : (t : ℕ) → node-lts.Need-returns-28 (
   passthrough.Post,
 ) (node-at t) node.Post
 unfolding armsOf
-node-returns-28 t c = node-by the-variants.AlterCommandList (c .before .before .before .before .before .before .before .before .before .head-at .ensures) (scanned-as (c .before .before .before .before .before .before .before .before .is-copied .ensures) (c .before .before .before .before .before .before .before .if1 .left)) (sym (c .before .before .before .before .enum-told27 .given .1) ∙ c .before .before .before .before .before .before .routine-of .ensures) (c .before .before .alter .ensures)
+node-returns-28 t c = node-by the-variants.AlterCommandList (c .before .before .before .before .before .before .before .before .before .before .before .before .pre .1 .1) (scanned-as (c .before .before .before .before .before .before .before .before .is-copied .ensures) (c .before .before .before .before .before .before .before .if1 .left)) (sym (c .before .before .before .before .enum-told27 .given .1) ∙ c .before .before .before .before .before .before .routine-of .ensures) (c .before .before .alter .ensures)
 
 node-same-length-29 : (t : ℕ) → node-lts.Need-same-length-29 (
-  head-at-reads.Asked,
-  head-at-reads.Learnt,
   is-copied-reads.Asked,
   is-copied-reads.Learnt,
+  head-at-reads.Asked,
+  head-at-reads.Learnt,
   skip-reads.Asked,
   skip-reads.Learnt,
   format-error-verbatim-reads.Asked,
@@ -11591,10 +11591,10 @@ node-same-length-29 : (t : ℕ) → node-lts.Need-same-length-29 (
 node-same-length-29 t c = c .before .before .union-of .kept .1 .1 .1 .1 .0
 
 node-returns-29 : (t : ℕ) → node-lts.Need-returns-29 (
-  head-at-reads.Asked,
-  head-at-reads.Learnt,
   is-copied-reads.Asked,
   is-copied-reads.Learnt,
+  head-at-reads.Asked,
+  head-at-reads.Learnt,
   skip-reads.Asked,
   skip-reads.Learnt,
   format-error-verbatim-reads.Asked,
@@ -11657,13 +11657,13 @@ node-returns-29 : (t : ℕ) → node-lts.Need-returns-29 (
   passthrough.Post,
 ) (node-at t) node.Post
 unfolding armsOf
-node-returns-29 t c = node-by the-variants.UnionClause (c .before .before .before .before .before .before .before .before .before .head-at .ensures) (scanned-as (c .before .before .before .before .before .before .before .before .is-copied .ensures) (c .before .before .before .before .before .before .before .if1 .left)) (sym (c .before .before .before .before .enum-told28 .given .1) ∙ c .before .before .before .before .before .before .routine-of .ensures) (c .before .before .union-of .ensures)
+node-returns-29 t c = node-by the-variants.UnionClause (c .before .before .before .before .before .before .before .before .before .before .before .before .pre .1 .1) (scanned-as (c .before .before .before .before .before .before .before .before .is-copied .ensures) (c .before .before .before .before .before .before .before .if1 .left)) (sym (c .before .before .before .before .enum-told28 .given .1) ∙ c .before .before .before .before .before .before .routine-of .ensures) (c .before .before .union-of .ensures)
 
 node-same-length-30 : (t : ℕ) → node-lts.Need-same-length-30 (
-  head-at-reads.Asked,
-  head-at-reads.Learnt,
   is-copied-reads.Asked,
   is-copied-reads.Learnt,
+  head-at-reads.Asked,
+  head-at-reads.Learnt,
   skip-reads.Asked,
   skip-reads.Learnt,
   format-error-verbatim-reads.Asked,
@@ -11728,10 +11728,10 @@ node-same-length-30 : (t : ℕ) → node-lts.Need-same-length-30 (
 node-same-length-30 t c = c .before .before .passthrough .kept .1 .1 .1 .1 .0
 
 node-returns-30 : (t : ℕ) → node-lts.Need-returns-30 (
-  head-at-reads.Asked,
-  head-at-reads.Learnt,
   is-copied-reads.Asked,
   is-copied-reads.Learnt,
+  head-at-reads.Asked,
+  head-at-reads.Learnt,
   skip-reads.Asked,
   skip-reads.Learnt,
   format-error-verbatim-reads.Asked,
@@ -11794,7 +11794,7 @@ node-returns-30 : (t : ℕ) → node-lts.Need-returns-30 (
   passthrough.Post,
 ) (node-at t) node.Post
 unfolding armsOf
-node-returns-30 t c = node-by the-variants.Passthrough (c .before .before .before .before .before .before .before .before .before .head-at .ensures) (scanned-as (c .before .before .before .before .before .before .before .before .is-copied .ensures) (c .before .before .before .before .before .before .before .if1 .left)) (sym (c .before .before .before .before .enum-told29 .given .1) ∙ c .before .before .before .before .before .before .routine-of .ensures) (c .before .before .passthrough .ensures)
+node-returns-30 t c = node-by the-variants.Passthrough (c .before .before .before .before .before .before .before .before .before .before .before .before .pre .1 .1) (scanned-as (c .before .before .before .before .before .before .before .before .is-copied .ensures) (c .before .before .before .before .before .before .before .if1 .left)) (sym (c .before .before .before .before .enum-told29 .given .1) ∙ c .before .before .before .before .before .before .routine-of .ensures) (c .before .before .passthrough .ensures)
 
 abbrev parens-Inv-loop : parens-lts.InvT-loop
 parens-Inv-loop source tape config errors out₀ left at i₀ ctx₀ out i ctx = Loop source tape config errors left at (always formatParenList) formatParenList ctx₀ out₀ out i ctx (flagged false)
@@ -11912,7 +11912,7 @@ parens-node-requires : (t : ℕ) → parens-lts.Need-node-requires (
   node-below t,
   node.Post,
 ) (parens-at t) parens.Post parens-Inv-loop parens-μ-loop
-parens-node-requires t c κs = (omega (arith, c .before .before .before .before .before .before .before .before .before .before .pre .0, left-pos (c .before .before .before .before .before .before .before .before .before .before .pre .1) (c .before .before .before .before .before .before .loop .inv) (c .before .before .before .before .if1 .taken) (c .before .if2 .left)), node-ready (c .before .before .before .before .before .before .before .before .before .before .pre .1) (c .before .before .before .before .before .before .loop .inv) (c .before .before .before .before .if1 .taken) (c .before .if2 .left) (no-spacing {xs = c .before .before .before .before .before .before .loop .out}) (omega arith))
+parens-node-requires t c κs = (omega (arith, c .before .before .before .before .before .before .before .before .before .before .pre .0, left-pos (c .before .before .before .before .before .before .before .before .before .before .pre .1) (c .before .before .before .before .before .before .loop .inv) (c .before .before .before .before .if1 .taken) (c .before .if2 .left)), node-ready (c .before .before .before .before .before .before .before .before .before .before .pre .1) (c .before .before .before .before .before .before .loop .inv) (c .before .before .before .before .if1 .taken) (c .before .if2 .left) (c .before .before .before .head-at .ensures) (no-spacing {xs = c .before .before .before .before .before .before .loop .out}) (omega arith))
 
 parens-loop-less-2 : (t : ℕ) → parens-lts.Need-loop-less-2 (
   head-at-reads.Asked,
@@ -12082,7 +12082,7 @@ passthrough-node-requires : (t : ℕ) → passthrough-lts.Need-node-requires (
   node-below t,
   node.Post,
 ) (passthrough-at t) passthrough.Post passthrough-Inv-loop passthrough-μ-loop
-passthrough-node-requires t c κs = (omega (arith, c .before .before .before .before .before .before .before .before .before .before .pre .0, left-pos (c .before .before .before .before .before .before .before .before .before .before .pre .1) (c .before .before .before .before .before .before .loop .inv) (c .before .before .before .before .if1 .taken) (c .before .if2 .left)), node-ready (c .before .before .before .before .before .before .before .before .before .before .pre .1) (c .before .before .before .before .before .before .loop .inv) (c .before .before .before .before .if1 .taken) (c .before .if2 .left) (no-spacing {xs = c .before .before .before .before .before .before .loop .out}) (omega arith))
+passthrough-node-requires t c κs = (omega (arith, c .before .before .before .before .before .before .before .before .before .before .pre .0, left-pos (c .before .before .before .before .before .before .before .before .before .before .pre .1) (c .before .before .before .before .before .before .loop .inv) (c .before .before .before .before .if1 .taken) (c .before .if2 .left)), node-ready (c .before .before .before .before .before .before .before .before .before .before .pre .1) (c .before .before .before .before .before .before .loop .inv) (c .before .before .before .before .if1 .taken) (c .before .if2 .left) (c .before .before .before .head-at .ensures) (no-spacing {xs = c .before .before .before .before .before .before .loop .out}) (omega arith))
 
 passthrough-loop-less-2 : (t : ℕ) → passthrough-lts.Need-loop-less-2 (
   head-at-reads.Asked,
@@ -12286,7 +12286,7 @@ query-list-node-requires : (t : ℕ) → query-list-lts.Need-node-requires (
   node-below t,
   node.Post,
 ) (query-list-at t) query-list.Post query-list-Inv-loop query-list-μ-loop
-query-list-node-requires t c κs = (omega (arith, c .before .before .before .before .before .before .before .before .before .before .before .before .before .before .pre .0, left-pos (c .before .before .before .before .before .before .before .before .before .before .before .before .before .before .pre .1) (c .before .before .before .before .before .before .before .before .before .before .loop .inv) (c .before .before .before .before .before .before .before .before .if1 .taken) (c .before .before .before .before .before .if2 .left)), node-ready (c .before .before .before .before .before .before .before .before .before .before .before .before .before .before .pre .1) (c .before .before .before .before .before .before .before .before .before .before .loop .inv) (c .before .before .before .before .before .before .before .before .if1 .taken) (c .before .before .before .before .before .if2 .left) (c .before .before .before .query-list-before .ensures) (omega arith))
+query-list-node-requires t c κs = (omega (arith, c .before .before .before .before .before .before .before .before .before .before .before .before .before .before .pre .0, left-pos (c .before .before .before .before .before .before .before .before .before .before .before .before .before .before .pre .1) (c .before .before .before .before .before .before .before .before .before .before .loop .inv) (c .before .before .before .before .before .before .before .before .if1 .taken) (c .before .before .before .before .before .if2 .left)), node-ready (c .before .before .before .before .before .before .before .before .before .before .before .before .before .before .pre .1) (c .before .before .before .before .before .before .before .before .before .before .loop .inv) (c .before .before .before .before .before .before .before .before .if1 .taken) (c .before .before .before .before .before .if2 .left) (c .before .before .before .before .before .before .before .head-at .ensures) (c .before .before .before .query-list-before .ensures) (omega arith))
 
 query-list-loop-less-2 : (t : ℕ) → query-list-lts.Need-loop-less-2 (
   head-at-reads.Asked,
@@ -12524,7 +12524,7 @@ select-node-requires : (t : ℕ) → select-lts.Need-node-requires (
   select-clause-after-reads.Asked,
   select-clause-after-reads.Learnt,
 ) (select-at t) select.Post select-Inv-loop select-μ-loop
-select-node-requires t c κs = (omega (arith, c .before .before .before .before .before .before .before .before .before .before .before .before .before .before .pre .0, left-pos (c .before .before .before .before .before .before .before .before .before .before .before .before .before .before .pre .1) (c .before .before .before .before .before .before .before .before .before .before .loop .inv) (c .before .before .before .before .before .before .before .before .if1 .taken) (c .before .before .before .before .before .if2 .left)), node-ready (c .before .before .before .before .before .before .before .before .before .before .before .before .before .before .pre .1) (c .before .before .before .before .before .before .before .before .before .before .loop .inv) (c .before .before .before .before .before .before .before .before .if1 .taken) (c .before .before .before .before .before .if2 .left) (c .before .before .before .select-clause-before .ensures) (omega arith))
+select-node-requires t c κs = (omega (arith, c .before .before .before .before .before .before .before .before .before .before .before .before .before .before .pre .0, left-pos (c .before .before .before .before .before .before .before .before .before .before .before .before .before .before .pre .1) (c .before .before .before .before .before .before .before .before .before .before .loop .inv) (c .before .before .before .before .before .before .before .before .if1 .taken) (c .before .before .before .before .before .if2 .left)), node-ready (c .before .before .before .before .before .before .before .before .before .before .before .before .before .before .pre .1) (c .before .before .before .before .before .before .before .before .before .before .loop .inv) (c .before .before .before .before .before .before .before .before .if1 .taken) (c .before .before .before .before .before .if2 .left) (c .before .before .before .before .before .before .before .head-at .ensures) (c .before .before .before .select-clause-before .ensures) (omega arith))
 
 select-select-clause-after-requires : (t : ℕ) → select-lts.Need-select-clause-after-requires (
   head-at-reads.Asked,
@@ -12787,7 +12787,7 @@ settings-node-requires : (t : ℕ) → settings-lts.Need-node-requires (
   settings-clause-after-reads.Asked,
   settings-clause-after-reads.Learnt,
 ) (settings-at t) settings.Post settings-Inv-loop settings-μ-loop
-settings-node-requires t c κs = (omega (arith, c .before .before .before .before .before .before .before .before .before .before .before .before .before .before .pre .0, left-pos (c .before .before .before .before .before .before .before .before .before .before .before .before .before .before .pre .1) (c .before .before .before .before .before .before .before .before .before .before .loop .inv) (c .before .before .before .before .before .before .before .before .if1 .taken) (c .before .before .before .before .before .if2 .left)), node-ready (c .before .before .before .before .before .before .before .before .before .before .before .before .before .before .pre .1) (c .before .before .before .before .before .before .before .before .before .before .loop .inv) (c .before .before .before .before .before .before .before .before .if1 .taken) (c .before .before .before .before .before .if2 .left) (c .before .before .before .settings-clause-before .ensures) (omega arith))
+settings-node-requires t c κs = (omega (arith, c .before .before .before .before .before .before .before .before .before .before .before .before .before .before .pre .0, left-pos (c .before .before .before .before .before .before .before .before .before .before .before .before .before .before .pre .1) (c .before .before .before .before .before .before .before .before .before .before .loop .inv) (c .before .before .before .before .before .before .before .before .if1 .taken) (c .before .before .before .before .before .if2 .left)), node-ready (c .before .before .before .before .before .before .before .before .before .before .before .before .before .before .pre .1) (c .before .before .before .before .before .before .before .before .before .before .loop .inv) (c .before .before .before .before .before .before .before .before .if1 .taken) (c .before .before .before .before .before .if2 .left) (c .before .before .before .before .before .before .before .head-at .ensures) (c .before .before .before .settings-clause-before .ensures) (omega arith))
 
 settings-settings-clause-after-requires :
     (t : ℕ) → settings-lts.Need-settings-clause-after-requires (
@@ -13026,7 +13026,7 @@ simple-node-requires : (t : ℕ) → simple-lts.Need-node-requires (
   node-below t,
   node.Post,
 ) (simple-at t) simple.Post simple-Inv-loop simple-μ-loop
-simple-node-requires t c κs = (omega (arith, c .before .before .before .before .before .before .before .before .before .before .before .pre .0, left-pos (c .before .before .before .before .before .before .before .before .before .before .before .pre .1) (c .before .before .before .before .before .before .before .loop .inv) (c .before .before .before .before .before .if1 .taken) (c .before .before .if2 .left)), node-ready (c .before .before .before .before .before .before .before .before .before .before .before .pre .1) (c .before .before .before .before .before .before .before .loop .inv) (c .before .before .before .before .before .if1 .taken) (c .before .before .if2 .left) (as-spaced (c .before .space-if .ensures)) (omega arith))
+simple-node-requires t c κs = (omega (arith, c .before .before .before .before .before .before .before .before .before .before .before .pre .0, left-pos (c .before .before .before .before .before .before .before .before .before .before .before .pre .1) (c .before .before .before .before .before .before .before .loop .inv) (c .before .before .before .before .before .if1 .taken) (c .before .before .if2 .left)), node-ready (c .before .before .before .before .before .before .before .before .before .before .before .pre .1) (c .before .before .before .before .before .before .before .loop .inv) (c .before .before .before .before .before .if1 .taken) (c .before .before .if2 .left) (c .before .before .before .before .head-at .ensures) (as-spaced (c .before .space-if .ensures)) (omega arith))
 
 simple-loop-less-2 : (t : ℕ) → simple-lts.Need-loop-less-2 (
   head-at-reads.Asked,
@@ -13242,7 +13242,7 @@ statement-node-requires : (t : ℕ) → statement-lts.Need-node-requires (
   node-below t,
   node.Post,
 ) (statement-at t) statement′.Post statement-Inv-loop statement-μ-loop
-statement-node-requires t c κs = (omega (arith, c .before .before .before .before .before .before .before .before .before .before .before .before .before .before .pre .0, left-pos (c .before .before .before .before .before .before .before .before .before .before .before .before .before .before .pre .1) (c .before .before .before .before .before .before .before .before .before .before .loop .inv) (c .before .before .before .before .before .before .before .before .if1 .taken) (c .before .before .before .before .before .if2 .left)), node-ready (c .before .before .before .before .before .before .before .before .before .before .before .before .before .before .pre .1) (c .before .before .before .before .before .before .before .before .before .before .loop .inv) (c .before .before .before .before .before .before .before .before .if1 .taken) (c .before .before .before .before .before .if2 .left) (c .before .before .before .select-statement-before .ensures) (omega arith))
+statement-node-requires t c κs = (omega (arith, c .before .before .before .before .before .before .before .before .before .before .before .before .before .before .pre .0, left-pos (c .before .before .before .before .before .before .before .before .before .before .before .before .before .before .pre .1) (c .before .before .before .before .before .before .before .before .before .before .loop .inv) (c .before .before .before .before .before .before .before .before .if1 .taken) (c .before .before .before .before .before .if2 .left)), node-ready (c .before .before .before .before .before .before .before .before .before .before .before .before .before .before .pre .1) (c .before .before .before .before .before .before .before .before .before .before .loop .inv) (c .before .before .before .before .before .before .before .before .if1 .taken) (c .before .before .before .before .before .if2 .left) (c .before .before .before .before .before .before .before .head-at .ensures) (c .before .before .before .select-statement-before .ensures) (omega arith))
 
 statement-loop-less-2 : (t : ℕ) → statement-lts.Need-loop-less-2 (
   head-at-reads.Asked,
@@ -13422,7 +13422,7 @@ subquery-node-requires : (t : ℕ) → subquery-lts.Need-node-requires (
   node-below t,
   node.Post,
 ) (subquery-at t) subquery.Post subquery-Inv-loop subquery-μ-loop
-subquery-node-requires t c κs = (omega (arith, c .before .before .before .before .before .before .before .before .before .before .pre .0, left-pos (c .before .before .before .before .before .before .before .before .before .before .pre .1) (c .before .before .before .before .before .before .loop .inv) (c .before .before .before .before .if1 .taken) (c .before .if2 .left)), node-ready (c .before .before .before .before .before .before .before .before .before .before .pre .1) (c .before .before .before .before .before .before .loop .inv) (c .before .before .before .before .if1 .taken) (c .before .if2 .left) (no-spacing {xs = c .before .before .before .before .before .before .loop .out}) (omega arith))
+subquery-node-requires t c κs = (omega (arith, c .before .before .before .before .before .before .before .before .before .before .pre .0, left-pos (c .before .before .before .before .before .before .before .before .before .before .pre .1) (c .before .before .before .before .before .before .loop .inv) (c .before .before .before .before .if1 .taken) (c .before .if2 .left)), node-ready (c .before .before .before .before .before .before .before .before .before .before .pre .1) (c .before .before .before .before .before .before .loop .inv) (c .before .before .before .before .if1 .taken) (c .before .if2 .left) (c .before .before .before .head-at .ensures) (no-spacing {xs = c .before .before .before .before .before .before .loop .out}) (omega arith))
 
 subquery-loop-less-2 : (t : ℕ) → subquery-lts.Need-loop-less-2 (
   head-at-reads.Asked,
@@ -13665,7 +13665,7 @@ tight-node-requires : (t : ℕ) → tight-lts.Need-node-requires (
   node-below t,
   node.Post,
 ) (tight-at t) tight.Post tight-Inv-loop tight-μ-loop
-tight-node-requires t c κs = (omega (arith, c .before .before .before .before .before .before .before .before .before .before .before .before .pre .0, left-pos (c .before .before .before .before .before .before .before .before .before .before .before .before .pre .1) (c .before .before .before .before .before .before .before .before .loop .inv) (c .before .before .before .before .before .before .if1 .taken) (c .before .before .before .if2 .left)), node-ready (c .before .before .before .before .before .before .before .before .before .before .before .before .pre .1) (c .before .before .before .before .before .before .before .before .loop .inv) (c .before .before .before .before .before .before .if1 .taken) (c .before .before .before .if2 .left) (spaced 0 (spaceIf (spaceAfter ((c .before .before .before .before .before .before .before .before .loop .local) .prev))) (omega arith) (ap spaceIf (sym (c .before .before .space-after .ensures))) (as-spaced (c .before .space-if .ensures))) (omega arith))
+tight-node-requires t c κs = (omega (arith, c .before .before .before .before .before .before .before .before .before .before .before .before .pre .0, left-pos (c .before .before .before .before .before .before .before .before .before .before .before .before .pre .1) (c .before .before .before .before .before .before .before .before .loop .inv) (c .before .before .before .before .before .before .if1 .taken) (c .before .before .before .if2 .left)), node-ready (c .before .before .before .before .before .before .before .before .before .before .before .before .pre .1) (c .before .before .before .before .before .before .before .before .loop .inv) (c .before .before .before .before .before .before .if1 .taken) (c .before .before .before .if2 .left) (c .before .before .before .before .before .head-at .ensures) (spaced 0 (spaceIf (spaceAfter ((c .before .before .before .before .before .before .before .before .loop .local) .prev))) (omega arith) (ap spaceIf (sym (c .before .before .space-after .ensures))) (as-spaced (c .before .space-if .ensures))) (omega arith))
 
 tight-loop-less-2 : (t : ℕ) → tight-lts.Need-loop-less-2 (
   head-at-reads.Asked,
@@ -13855,7 +13855,7 @@ unary-node-requires : (t : ℕ) → unary-lts.Need-node-requires (
   node-below t,
   node.Post,
 ) (unary-at t) unary.Post unary-Inv-loop unary-μ-loop
-unary-node-requires t c κs = (omega (arith, c .before .before .before .before .before .before .before .before .before .before .pre .0, left-pos (c .before .before .before .before .before .before .before .before .before .before .pre .1) (c .before .before .before .before .before .before .loop .inv) (c .before .before .before .before .if1 .taken) (c .before .if2 .left)), node-ready (c .before .before .before .before .before .before .before .before .before .before .pre .1) (c .before .before .before .before .before .before .loop .inv) (c .before .before .before .before .if1 .taken) (c .before .if2 .left) (no-spacing {xs = c .before .before .before .before .before .before .loop .out}) (omega arith))
+unary-node-requires t c κs = (omega (arith, c .before .before .before .before .before .before .before .before .before .before .pre .0, left-pos (c .before .before .before .before .before .before .before .before .before .before .pre .1) (c .before .before .before .before .before .before .loop .inv) (c .before .before .before .before .if1 .taken) (c .before .if2 .left)), node-ready (c .before .before .before .before .before .before .before .before .before .before .pre .1) (c .before .before .before .before .before .before .loop .inv) (c .before .before .before .before .if1 .taken) (c .before .if2 .left) (c .before .before .before .head-at .ensures) (no-spacing {xs = c .before .before .before .before .before .before .loop .out}) (omega arith))
 
 unary-loop-less-2 : (t : ℕ) → unary-lts.Need-loop-less-2 (
   head-at-reads.Asked,
@@ -14083,7 +14083,7 @@ union-of-node-requires : (t : ℕ) → union-of-lts.Need-node-requires (
   union-clause-local-reads.Asked,
   union-clause-local-reads.Learnt,
 ) (union-of-at t) union-of.Post union-of-Inv-loop union-of-μ-loop
-union-of-node-requires t c κs = (omega (arith, c .before .before .before .before .before .before .before .before .before .before .before .before .before .before .pre .0, left-pos (c .before .before .before .before .before .before .before .before .before .before .before .before .before .before .pre .1) (c .before .before .before .before .before .before .before .before .before .before .loop .inv) (c .before .before .before .before .before .before .before .before .if1 .taken) (c .before .before .before .before .before .if2 .left)), node-ready (c .before .before .before .before .before .before .before .before .before .before .before .before .before .before .pre .1) (c .before .before .before .before .before .before .before .before .before .before .loop .inv) (c .before .before .before .before .before .before .before .before .if1 .taken) (c .before .before .before .before .before .if2 .left) (c .before .before .before .union-clause-before .ensures) (omega arith))
+union-of-node-requires t c κs = (omega (arith, c .before .before .before .before .before .before .before .before .before .before .before .before .before .before .pre .0, left-pos (c .before .before .before .before .before .before .before .before .before .before .before .before .before .before .pre .1) (c .before .before .before .before .before .before .before .before .before .before .loop .inv) (c .before .before .before .before .before .before .before .before .if1 .taken) (c .before .before .before .before .before .if2 .left)), node-ready (c .before .before .before .before .before .before .before .before .before .before .before .before .before .before .pre .1) (c .before .before .before .before .before .before .before .before .before .before .loop .inv) (c .before .before .before .before .before .before .before .before .if1 .taken) (c .before .before .before .before .before .if2 .left) (c .before .before .before .before .before .before .before .head-at .ensures) (c .before .before .before .union-clause-before .ensures) (omega arith))
 
 union-of-union-clause-local-requires : (t : ℕ) → union-of-lts.Need-union-clause-local-requires (
   head-at-reads.Asked,
@@ -14287,7 +14287,7 @@ when-then-node-requires : (t : ℕ) → when-then-lts.Need-node-requires (
   node-below t,
   node.Post,
 ) (when-then-at t) when-then.Post when-then-Inv-loop when-then-μ-loop
-when-then-node-requires t c κs = (omega (arith, c .before .before .before .before .before .before .before .before .before .before .pre .0, left-pos (c .before .before .before .before .before .before .before .before .before .before .pre .1) (c .before .before .before .before .before .before .loop .inv) (c .before .before .before .before .if1 .taken) (c .before .if2 .left)), node-ready (c .before .before .before .before .before .before .before .before .before .before .pre .1) (c .before .before .before .before .before .before .loop .inv) (c .before .before .before .before .if1 .taken) (c .before .if2 .left) (no-spacing {xs = c .before .before .before .before .before .before .loop .out}) (omega arith))
+when-then-node-requires t c κs = (omega (arith, c .before .before .before .before .before .before .before .before .before .before .pre .0, left-pos (c .before .before .before .before .before .before .before .before .before .before .pre .1) (c .before .before .before .before .before .before .loop .inv) (c .before .before .before .before .if1 .taken) (c .before .if2 .left)), node-ready (c .before .before .before .before .before .before .before .before .before .before .pre .1) (c .before .before .before .before .before .before .loop .inv) (c .before .before .before .before .if1 .taken) (c .before .if2 .left) (c .before .before .before .head-at .ensures) (no-spacing {xs = c .before .before .before .before .before .before .loop .out}) (omega arith))
 
 when-then-loop-less-2 : (t : ℕ) → when-then-lts.Need-loop-less-2 (
   head-at-reads.Asked,
@@ -14517,7 +14517,7 @@ with-clause-node-requires : (t : ℕ) → with-clause-lts.Need-node-requires (
   with-clause-after-reads.Asked,
   with-clause-after-reads.Learnt,
 ) (with-clause-at t) with-clause.Post with-clause-Inv-loop with-clause-μ-loop
-with-clause-node-requires t c κs = (omega (arith, c .before .before .before .before .before .before .before .before .before .before .before .before .before .before .pre .0, left-pos (c .before .before .before .before .before .before .before .before .before .before .before .before .before .before .pre .1) (c .before .before .before .before .before .before .before .before .before .before .loop .inv) (c .before .before .before .before .before .before .before .before .if1 .taken) (c .before .before .before .before .before .if2 .left)), node-ready (c .before .before .before .before .before .before .before .before .before .before .before .before .before .before .pre .1) (c .before .before .before .before .before .before .before .before .before .before .loop .inv) (c .before .before .before .before .before .before .before .before .if1 .taken) (c .before .before .before .before .before .if2 .left) (c .before .before .before .with-clause-before .ensures) (omega arith))
+with-clause-node-requires t c κs = (omega (arith, c .before .before .before .before .before .before .before .before .before .before .before .before .before .before .pre .0, left-pos (c .before .before .before .before .before .before .before .before .before .before .before .before .before .before .pre .1) (c .before .before .before .before .before .before .before .before .before .before .loop .inv) (c .before .before .before .before .before .before .before .before .if1 .taken) (c .before .before .before .before .before .if2 .left)), node-ready (c .before .before .before .before .before .before .before .before .before .before .before .before .before .before .pre .1) (c .before .before .before .before .before .before .before .before .before .before .loop .inv) (c .before .before .before .before .before .before .before .before .if1 .taken) (c .before .before .before .before .before .if2 .left) (c .before .before .before .before .before .before .before .head-at .ensures) (c .before .before .before .with-clause-before .ensures) (omega arith))
 
 with-clause-with-clause-after-requires : (t : ℕ) → with-clause-lts.Need-with-clause-after-requires (
   head-at-reads.Asked,
@@ -15066,10 +15066,10 @@ pub +alter+binary+braces+brackets+call+case-of+commas+data-type+file+inline+inli
     (no-spaces-same-length t)
     (no-spaces-returns t))
     (λ t. node-lts.spec (
-      head-at-reads.Asked,
-      head-at-reads.Learnt,
       is-copied-reads.Asked,
       is-copied-reads.Learnt,
+      head-at-reads.Asked,
+      head-at-reads.Learnt,
       skip-reads.Asked,
       skip-reads.Learnt,
       format-error-verbatim-reads.Asked,
@@ -15133,8 +15133,8 @@ pub +alter+binary+braces+brackets+call+case-of+commas+data-type+file+inline+inli
     )
     (node-at t)
     node.Post
-    (node-head-at-requires t)
     (node-is-copied-requires t)
+    (node-head-at-requires t)
     (node-skip-requires t)
     (node-format-error-verbatim-requires t)
     (node-same-length t)
