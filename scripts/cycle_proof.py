@@ -32,6 +32,7 @@ use borrow.Author.Needs.{needs}
 use Prim.Native.Nat.{_*_, _+_, _-_}
 use native.Mathlib.Omega.{arith}
 use mathlib.Core.Bool.{false}
+use mathlib.Core.Logic.{⊎-elim}
 use mathlib.Core.Path.{_∙_, ap, refl, sym}
 use lib.ListN.{length}
 use Rattle.arms.proofs.Choices.{as-spaced}
@@ -92,19 +93,19 @@ UNFOLDED = ("loop-holds", "loop-again", "loop-again-2", "returns")
 
 # The needs of the dispatch: those of a copied node by name, then those of each routine that it calls.
 NODE_ANSWERS = {
-    "is-copied-requires": "(opened-at (@pre .1 .0), clean-node (@pre .1 .0) (@pre .1 .1))",
+    "is-copied-requires": "opened-at (@pre .1 .0)",
     "head-at-requires": "@pre .1 .0 .inside",
     "skip-requires": "opened-at (@pre .1 .0)",
     "format-error-verbatim-requires": "copy-ready (@pre .1 .0) (@head-at .ensures)",
     "same-length": "@format-error-verbatim .kept .1 .1 .0",
-    "returns": "node-copied (@pre .1 .0) (@pre .1 .1) (@head-at .ensures) (scanned-as (@is-copied .ensures) (@if1 .taken)) (@skip .ensures) "
+    "returns": "node-copied (@pre .1 .0) (@pre .1 .1) (@head-at .ensures) (scanned-as (@is-copied .ensures) (@if2 .taken)) (@skip .ensures) "
     "(@format-error-verbatim .ensures)",
     "routine-of-requires": "search needs",
     "enum-told": "search needs",
     "CALL-requires": "(omega (arith, @pre .0), @pre .1 .0)",
     "CALL-same-length": "@{called} .kept .1 .1 .1 .1 .0",
-    "CALL-returns": "node-by the-variants.{variant} (@pre .1 .1) (scanned-as (@is-copied .ensures) (@if1 .left)) "
-    "(sym (@{told} .given .1) ∙ @routine-of .ensures) (@{called} .ensures)",
+    "CALL-returns": "node-by the-variants.{variant} (@pre .1 .1) (⊎-elim (λ w. scanned-as (w .1 .ensures) (w .2 .left)) "
+    "(λ w. clean-node (@pre .1 .0) (@pre .1 .1) (w .left)) (@if1 .came)) (sym (@{told} .given .1) ∙ @routine-of .ensures) (@{called} .ensures)",
 }
 
 # Pieces of rows, by a law of RoutineLaws: the local after a node is the one before it; nothing is written after a node.

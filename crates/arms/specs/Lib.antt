@@ -1,1 +1,2 @@
+-- What the arms ask and promise.
 pub mod Promise

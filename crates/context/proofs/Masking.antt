@@ -97,19 +97,11 @@ module _ (a b : Text) where
     pub bodies : Like a b (x .1 .body) (y .1 .body)
 
   module _ (cs ds : List Cell) (alike : Like a b cs ds) where
-    pub token-like : (config : FormatConfig) (s : State) → StepLike (writeToken config cs s) (writeToken config ds s)
-    unfolding writeToken
-    token-like config s = record { next = refl; leads = refl; bodies = alike }
-
     pub keyword-like : (config : FormatConfig) (s : State) → StepLike (writeKeyword config cs s) (writeKeyword config ds s)
     unfolding writeKeyword writeToken
     keyword-like config s = record { next = refl; leads = refl; bodies = like-in-case (config .«uppercase_keywords») cs ds alike }
 
     module _ (last : lastByte (bytesOf cs) ≡ lastByte (bytesOf ds)) where
-      pub raw-like : (s : State) → StepLike (writeRaw cs s) (writeRaw ds s)
-      unfolding writeRaw
-      raw-like s = record { next = ap (λ (n : ℕ). afterWrite (eqb n 10) s) last; leads = refl; bodies = alike }
-
       -- a last byte that is no white space stays
       pub trimmed-like : isWhiteSpace (lastByte (bytesOf cs)) ≡ false → trimmedLength cellIsWhiteSpace cs ≡ trimmedLength cellIsWhiteSpace ds
       trimmed-like w =

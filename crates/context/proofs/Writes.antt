@@ -21,12 +21,6 @@ use Rattle.context.proofs.Bytes.{bytes-append, bytes-fixed, bytes-in-ca
 
 -- ── room as credit
 
-pub room-new : (n : ℕ) → n ≤ 2 ^ 20 → Room n new
-room-new n h = record { level = omega arith; length = omega arith }
-
-pub room-left : {m n : ℕ} {c r : FormatterContext} → Room (m + n) c → Spent m c r → Room n r
-room-left k s = record { level = omega arith; length = omega arith }
-
 pub spent-none : {c : FormatterContext} → Spent 0 c c
 spent-none = record { level = omega arith; length = omega arith }
 

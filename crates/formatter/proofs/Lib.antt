@@ -1,3 +1,4 @@
+-- The laws that the proofs of the routines, the dispatch and the calls cite.
 pub mod Walks
 pub mod RoutineLaws
 pub mod KindMatch

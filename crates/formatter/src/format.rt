@@ -59,7 +59,6 @@ use tape::scan::has_error_child;
 use tape::scan::skip;
 use tape::syntax_kind;
 ghost use mathlib.Core.Path.{_≡_};
-ghost use mathlib.Core.Bool.{false};
 ghost use Rattle.tape.specs.Lies.{NodeAt, Scanned};
 ghost use Rattle.tape.specs.Tape.{headAt};
 ghost use Rattle.tape.specs.Tree.{copied};
@@ -1077,24 +1076,22 @@ fn union_of(
     }
 }
 
-// Whether a node is copied as typed. Where the check found no Error node, no node is, and none is looked for.
-fn is_copied(tape: &[u8], errors: bool, at: usize, kind: u16) -> bool
-    requires { ⌜ NodeAt (now tape) at × (errors ≡ false → Scanned (copied kind) (now tape) at false) ⌝ }
+// Whether a node is copied as typed.
+fn is_copied(tape: &[u8], at: usize, kind: u16) -> bool
+    requires { ⌜ NodeAt (now tape) at ⌝ }
     ensures { λ r. ⌜ Scanned (copied kind) (now (tape .entry)) at r ⌝ }
 {
-    if errors {
-        if kind == syntax_kind::ERROR {
-            return true;
-        }
-        if kind == syntax_kind::QUERY_LIST {
-            return false;
-        }
-        return has_error_child(tape, at);
+    if kind == syntax_kind::ERROR {
+        return true;
     }
-    false
+    if kind == syntax_kind::QUERY_LIST {
+        return false;
+    }
+    has_error_child(tape, at)
 }
 
-// format_node. The caller has read the node's kind, and waiting for the tape again would be a fifth of the time.
+// format_node. The caller has read the node's kind. Where the check found no Error node, none is looked for; the two tests stand apart,
+// so that the compiler takes a call of a routine for likely enough to put each routine's loop in here.
 pub(crate) fn node(
     source: &[u8],
     tape: &[u8],
@@ -1109,14 +1106,16 @@ pub(crate) fn node(
     requires { ⌜ NodeReady (now source) (now tape) config errors left at c × (kind ≡ headAt (now tape) at .kind) ⌝ }
     ensures { λ r. ⌜ NodeDone (now (source .entry)) (now (tape .entry)) config at c (now (out .entry)) r (now (out .exit)) ⌝ }
 {
-    if is_copied(tape, errors, at, kind) {
-        let h = head_at(tape, at);
-        let end = skip(tape, at);
-        let ctx = format_error_verbatim(source, config, out, c, h);
-        return Walk {
-            at: end,
-            context: ctx,
-        };
+    if errors {
+        if is_copied(tape, at, kind) {
+            let h = head_at(tape, at);
+            let end = skip(tape, at);
+            let ctx = format_error_verbatim(source, config, out, c, h);
+            return Walk {
+                at: end,
+                context: ctx,
+            };
+        }
     }
     let r = routine_of(kind);
     match r {

@@ -101,7 +101,3 @@ pub same-reading : (width case : ℕ) (a b tape : List ℕ) → length a ≡ len
     → readCall width case a tape ≡ readCall width case b tape
 unfolding readCall readInput
 same-reading width case a b tape e u v = rw (e, u, v)
-
--- the root of an accepted tape
-pub root-at : (len : ℕ) (tape : List ℕ) → AcceptedTape len tape → NodeAt tape 0
-root-at len tape a = record { len = len; kids = a .tree .kids; inside = a .root .inside; lies = a .kids }

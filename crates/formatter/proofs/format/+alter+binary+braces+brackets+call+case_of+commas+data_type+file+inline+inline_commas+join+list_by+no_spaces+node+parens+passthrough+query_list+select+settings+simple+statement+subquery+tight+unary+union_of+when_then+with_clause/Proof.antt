@@ -4,6 +4,7 @@ use borrow.Author.Needs.{needs}
 use Prim.Native.Nat.{_*_, _+_, _-_}
 use native.Mathlib.Omega.{arith}
 use mathlib.Core.Bool.{false}
+use mathlib.Core.Logic.{⊎-elim}
 use mathlib.Core.Path.{_∙_, ap, refl, sym}
 use lib.ListN.{length}
 use Rattle.arms.proofs.Choices.{as-spaced}
@@ -3469,7 +3470,7 @@ node-is-copied-requires : (t : ℕ) → node-lts.Need-is-copied-requires (
   passthrough-below t,
   passthrough.Post,
 ) (node-at t) node.Post
-node-is-copied-requires t c κs = (opened-at (c .before .before .before .pre .1 .0), clean-node (c .before .before .before .pre .1 .0) (c .before .before .before .pre .1 .1))
+node-is-copied-requires t c κs = opened-at (c .before .before .before .before .pre .1 .0)
 
 node-head-at-requires : (t : ℕ) → node-lts.Need-head-at-requires (
   is-copied-reads.Asked,
@@ -3537,7 +3538,7 @@ node-head-at-requires : (t : ℕ) → node-lts.Need-head-at-requires (
   passthrough-below t,
   passthrough.Post,
 ) (node-at t) node.Post
-node-head-at-requires t c κs = c .before .before .before .before .before .pre .1 .0 .inside
+node-head-at-requires t c κs = c .before .before .before .before .before .before .pre .1 .0 .inside
 
 node-skip-requires : (t : ℕ) → node-lts.Need-skip-requires (
   is-copied-reads.Asked,
@@ -3605,7 +3606,7 @@ node-skip-requires : (t : ℕ) → node-lts.Need-skip-requires (
   passthrough-below t,
   passthrough.Post,
 ) (node-at t) node.Post
-node-skip-requires t c κs = opened-at (c .before .before .before .before .before .before .pre .1 .0)
+node-skip-requires t c κs = opened-at (c .before .before .before .before .before .before .before .pre .1 .0)
 
 node-format-error-verbatim-requires : (t : ℕ) → node-lts.Need-format-error-verbatim-requires (
   is-copied-reads.Asked,
@@ -3673,7 +3674,7 @@ node-format-error-verbatim-requires : (t : ℕ) → node-lts.Need-format-error-v
   passthrough-below t,
   passthrough.Post,
 ) (node-at t) node.Post
-node-format-error-verbatim-requires t c κs = copy-ready (c .before .before .before .before .before .before .before .before .pre .1 .0) (c .before .before .head-at .ensures)
+node-format-error-verbatim-requires t c κs = copy-ready (c .before .before .before .before .before .before .before .before .before .pre .1 .0) (c .before .before .head-at .ensures)
 
 node-same-length : (t : ℕ) → node-lts.Need-same-length (
   is-copied-reads.Asked,
@@ -3809,7 +3810,7 @@ node-returns : (t : ℕ) → node-lts.Need-returns (
   passthrough-below t,
   passthrough.Post,
 ) (node-at t) node.Post
-node-returns t c = node-copied (c .before .before .before .before .before .before .before .before .before .before .before .pre .1 .0) (c .before .before .before .before .before .before .before .before .before .before .before .pre .1 .1) (c .before .before .before .before .before .head-at .ensures) (scanned-as (c .before .before .before .before .before .before .before .is-copied .ensures) (c .before .before .before .before .before .before .if1 .taken)) (c .before .before .before .before .skip .ensures) (c .before .before .format-error-verbatim .ensures)
+node-returns t c = node-copied (c .before .before .before .before .before .before .before .before .before .before .before .before .pre .1 .0) (c .before .before .before .before .before .before .before .before .before .before .before .before .pre .1 .1) (c .before .before .before .before .before .head-at .ensures) (scanned-as (c .before .before .before .before .before .before .before .is-copied .ensures) (c .before .before .before .before .before .before .if2 .taken)) (c .before .before .before .before .skip .ensures) (c .before .before .format-error-verbatim .ensures)
 
 node-routine-of-requires : (t : ℕ) → node-lts.Need-routine-of-requires (
   is-copied-reads.Asked,
@@ -4013,7 +4014,7 @@ node-file-requires : (t : ℕ) → node-lts.Need-file-requires (
   passthrough-below t,
   passthrough.Post,
 ) (node-at t) node.Post
-node-file-requires t c κs = (omega (arith, c .before .before .before .before .before .before .before .before .before .pre .0), c .before .before .before .before .before .before .before .before .before .pre .1 .0)
+node-file-requires t c κs = (omega (arith, c .before .before .before .before .before .before .before .before .pre .0), c .before .before .before .before .before .before .before .before .pre .1 .0)
 
 node-enum-told-2 : (t : ℕ) → node-lts.Need-enum-told-2 (
   is-copied-reads.Asked,
@@ -4149,7 +4150,7 @@ node-query-list-requires : (t : ℕ) → node-lts.Need-query-list-requires (
   passthrough-below t,
   passthrough.Post,
 ) (node-at t) node.Post
-node-query-list-requires t c κs = (omega (arith, c .before .before .before .before .before .before .before .before .before .pre .0), c .before .before .before .before .before .before .before .before .before .pre .1 .0)
+node-query-list-requires t c κs = (omega (arith, c .before .before .before .before .before .before .before .before .pre .0), c .before .before .before .before .before .before .before .before .pre .1 .0)
 
 node-enum-told-3 : (t : ℕ) → node-lts.Need-enum-told-3 (
   is-copied-reads.Asked,
@@ -4285,7 +4286,7 @@ node-statement-requires : (t : ℕ) → node-lts.Need-statement-requires (
   passthrough-below t,
   passthrough.Post,
 ) (node-at t) node.Post
-node-statement-requires t c κs = (omega (arith, c .before .before .before .before .before .before .before .before .before .pre .0), c .before .before .before .before .before .before .before .before .before .pre .1 .0)
+node-statement-requires t c κs = (omega (arith, c .before .before .before .before .before .before .before .before .pre .0), c .before .before .before .before .before .before .before .before .pre .1 .0)
 
 node-enum-told-4 : (t : ℕ) → node-lts.Need-enum-told-4 (
   is-copied-reads.Asked,
@@ -4421,7 +4422,7 @@ node-select-requires : (t : ℕ) → node-lts.Need-select-requires (
   passthrough-below t,
   passthrough.Post,
 ) (node-at t) node.Post
-node-select-requires t c κs = (omega (arith, c .before .before .before .before .before .before .before .before .before .pre .0), c .before .before .before .before .before .before .before .before .before .pre .1 .0)
+node-select-requires t c κs = (omega (arith, c .before .before .before .before .before .before .before .before .pre .0), c .before .before .before .before .before .before .before .before .pre .1 .0)
 
 node-enum-told-5 : (t : ℕ) → node-lts.Need-enum-told-5 (
   is-copied-reads.Asked,
@@ -4557,7 +4558,7 @@ node-simple-requires : (t : ℕ) → node-lts.Need-simple-requires (
   passthrough-below t,
   passthrough.Post,
 ) (node-at t) node.Post
-node-simple-requires t c κs = (omega (arith, c .before .before .before .before .before .before .before .before .before .pre .0), c .before .before .before .before .before .before .before .before .before .pre .1 .0)
+node-simple-requires t c κs = (omega (arith, c .before .before .before .before .before .before .before .before .pre .0), c .before .before .before .before .before .before .before .before .pre .1 .0)
 
 node-enum-told-6 : (t : ℕ) → node-lts.Need-enum-told-6 (
   is-copied-reads.Asked,
@@ -4693,7 +4694,7 @@ node-list-by-requires : (t : ℕ) → node-lts.Need-list-by-requires (
   passthrough-below t,
   passthrough.Post,
 ) (node-at t) node.Post
-node-list-by-requires t c κs = (omega (arith, c .before .before .before .before .before .before .before .before .before .pre .0), c .before .before .before .before .before .before .before .before .before .pre .1 .0)
+node-list-by-requires t c κs = (omega (arith, c .before .before .before .before .before .before .before .before .pre .0), c .before .before .before .before .before .before .before .before .pre .1 .0)
 
 node-enum-told-7 : (t : ℕ) → node-lts.Need-enum-told-7 (
   is-copied-reads.Asked,
@@ -4829,7 +4830,7 @@ node-list-by-requires-2 : (t : ℕ) → node-lts.Need-list-by-requires-2 (
   passthrough-below t,
   passthrough.Post,
 ) (node-at t) node.Post
-node-list-by-requires-2 t c κs = (omega (arith, c .before .before .before .before .before .before .before .before .before .pre .0), c .before .before .before .before .before .before .before .before .before .pre .1 .0)
+node-list-by-requires-2 t c κs = (omega (arith, c .before .before .before .before .before .before .before .before .pre .0), c .before .before .before .before .before .before .before .before .pre .1 .0)
 
 node-enum-told-8 : (t : ℕ) → node-lts.Need-enum-told-8 (
   is-copied-reads.Asked,
@@ -4965,7 +4966,7 @@ node-join-requires : (t : ℕ) → node-lts.Need-join-requires (
   passthrough-below t,
   passthrough.Post,
 ) (node-at t) node.Post
-node-join-requires t c κs = (omega (arith, c .before .before .before .before .before .before .before .before .before .pre .0), c .before .before .before .before .before .before .before .before .before .pre .1 .0)
+node-join-requires t c κs = (omega (arith, c .before .before .before .before .before .before .before .before .pre .0), c .before .before .before .before .before .before .before .before .pre .1 .0)
 
 node-enum-told-9 : (t : ℕ) → node-lts.Need-enum-told-9 (
   is-copied-reads.Asked,
@@ -5101,7 +5102,7 @@ node-settings-requires : (t : ℕ) → node-lts.Need-settings-requires (
   passthrough-below t,
   passthrough.Post,
 ) (node-at t) node.Post
-node-settings-requires t c κs = (omega (arith, c .before .before .before .before .before .before .before .before .before .pre .0), c .before .before .before .before .before .before .before .before .before .pre .1 .0)
+node-settings-requires t c κs = (omega (arith, c .before .before .before .before .before .before .before .before .pre .0), c .before .before .before .before .before .before .before .before .pre .1 .0)
 
 node-enum-told-10 : (t : ℕ) → node-lts.Need-enum-told-10 (
   is-copied-reads.Asked,
@@ -5237,7 +5238,7 @@ node-with-clause-requires : (t : ℕ) → node-lts.Need-with-clause-requires (
   passthrough-below t,
   passthrough.Post,
 ) (node-at t) node.Post
-node-with-clause-requires t c κs = (omega (arith, c .before .before .before .before .before .before .before .before .before .pre .0), c .before .before .before .before .before .before .before .before .before .pre .1 .0)
+node-with-clause-requires t c κs = (omega (arith, c .before .before .before .before .before .before .before .before .pre .0), c .before .before .before .before .before .before .before .before .pre .1 .0)
 
 node-enum-told-11 : (t : ℕ) → node-lts.Need-enum-told-11 (
   is-copied-reads.Asked,
@@ -5373,7 +5374,7 @@ node-join-requires-2 : (t : ℕ) → node-lts.Need-join-requires-2 (
   passthrough-below t,
   passthrough.Post,
 ) (node-at t) node.Post
-node-join-requires-2 t c κs = (omega (arith, c .before .before .before .before .before .before .before .before .before .pre .0), c .before .before .before .before .before .before .before .before .before .pre .1 .0)
+node-join-requires-2 t c κs = (omega (arith, c .before .before .before .before .before .before .before .before .pre .0), c .before .before .before .before .before .before .before .before .pre .1 .0)
 
 node-enum-told-12 : (t : ℕ) → node-lts.Need-enum-told-12 (
   is-copied-reads.Asked,
@@ -5509,7 +5510,7 @@ node-inline-requires : (t : ℕ) → node-lts.Need-inline-requires (
   passthrough-below t,
   passthrough.Post,
 ) (node-at t) node.Post
-node-inline-requires t c κs = (omega (arith, c .before .before .before .before .before .before .before .before .before .pre .0), c .before .before .before .before .before .before .before .before .before .pre .1 .0)
+node-inline-requires t c κs = (omega (arith, c .before .before .before .before .before .before .before .before .pre .0), c .before .before .before .before .before .before .before .before .pre .1 .0)
 
 node-enum-told-13 : (t : ℕ) → node-lts.Need-enum-told-13 (
   is-copied-reads.Asked,
@@ -5645,7 +5646,7 @@ node-commas-requires : (t : ℕ) → node-lts.Need-commas-requires (
   passthrough-below t,
   passthrough.Post,
 ) (node-at t) node.Post
-node-commas-requires t c κs = (omega (arith, c .before .before .before .before .before .before .before .before .before .pre .0), c .before .before .before .before .before .before .before .before .before .pre .1 .0)
+node-commas-requires t c κs = (omega (arith, c .before .before .before .before .before .before .before .before .pre .0), c .before .before .before .before .before .before .before .before .pre .1 .0)
 
 node-enum-told-14 : (t : ℕ) → node-lts.Need-enum-told-14 (
   is-copied-reads.Asked,
@@ -5781,7 +5782,7 @@ node-inline-commas-requires : (t : ℕ) → node-lts.Need-inline-commas-requires
   passthrough-below t,
   passthrough.Post,
 ) (node-at t) node.Post
-node-inline-commas-requires t c κs = (omega (arith, c .before .before .before .before .before .before .before .before .before .pre .0), c .before .before .before .before .before .before .before .before .before .pre .1 .0)
+node-inline-commas-requires t c κs = (omega (arith, c .before .before .before .before .before .before .before .before .pre .0), c .before .before .before .before .before .before .before .before .pre .1 .0)
 
 node-enum-told-15 : (t : ℕ) → node-lts.Need-enum-told-15 (
   is-copied-reads.Asked,
@@ -5917,7 +5918,7 @@ node-binary-requires : (t : ℕ) → node-lts.Need-binary-requires (
   passthrough-below t,
   passthrough.Post,
 ) (node-at t) node.Post
-node-binary-requires t c κs = (omega (arith, c .before .before .before .before .before .before .before .before .before .pre .0), c .before .before .before .before .before .before .before .before .before .pre .1 .0)
+node-binary-requires t c κs = (omega (arith, c .before .before .before .before .before .before .before .before .pre .0), c .before .before .before .before .before .before .before .before .pre .1 .0)
 
 node-enum-told-16 : (t : ℕ) → node-lts.Need-enum-told-16 (
   is-copied-reads.Asked,
@@ -6053,7 +6054,7 @@ node-unary-requires : (t : ℕ) → node-lts.Need-unary-requires (
   passthrough-below t,
   passthrough.Post,
 ) (node-at t) node.Post
-node-unary-requires t c κs = (omega (arith, c .before .before .before .before .before .before .before .before .before .pre .0), c .before .before .before .before .before .before .before .before .before .pre .1 .0)
+node-unary-requires t c κs = (omega (arith, c .before .before .before .before .before .before .before .before .pre .0), c .before .before .before .before .before .before .before .before .pre .1 .0)
 
 node-enum-told-17 : (t : ℕ) → node-lts.Need-enum-told-17 (
   is-copied-reads.Asked,
@@ -6189,7 +6190,7 @@ node-call-requires : (t : ℕ) → node-lts.Need-call-requires (
   passthrough-below t,
   passthrough.Post,
 ) (node-at t) node.Post
-node-call-requires t c κs = (omega (arith, c .before .before .before .before .before .before .before .before .before .pre .0), c .before .before .before .before .before .before .before .before .before .pre .1 .0)
+node-call-requires t c κs = (omega (arith, c .before .before .before .before .before .before .before .before .pre .0), c .before .before .before .before .before .before .before .before .pre .1 .0)
 
 node-enum-told-18 : (t : ℕ) → node-lts.Need-enum-told-18 (
   is-copied-reads.Asked,
@@ -6325,7 +6326,7 @@ node-case-of-requires : (t : ℕ) → node-lts.Need-case-of-requires (
   passthrough-below t,
   passthrough.Post,
 ) (node-at t) node.Post
-node-case-of-requires t c κs = (omega (arith, c .before .before .before .before .before .before .before .before .before .pre .0), c .before .before .before .before .before .before .before .before .before .pre .1 .0)
+node-case-of-requires t c κs = (omega (arith, c .before .before .before .before .before .before .before .before .pre .0), c .before .before .before .before .before .before .before .before .pre .1 .0)
 
 node-enum-told-19 : (t : ℕ) → node-lts.Need-enum-told-19 (
   is-copied-reads.Asked,
@@ -6461,7 +6462,7 @@ node-when-then-requires : (t : ℕ) → node-lts.Need-when-then-requires (
   passthrough-below t,
   passthrough.Post,
 ) (node-at t) node.Post
-node-when-then-requires t c κs = (omega (arith, c .before .before .before .before .before .before .before .before .before .pre .0), c .before .before .before .before .before .before .before .before .before .pre .1 .0)
+node-when-then-requires t c κs = (omega (arith, c .before .before .before .before .before .before .before .before .pre .0), c .before .before .before .before .before .before .before .before .pre .1 .0)
 
 node-enum-told-20 : (t : ℕ) → node-lts.Need-enum-told-20 (
   is-copied-reads.Asked,
@@ -6597,7 +6598,7 @@ node-subquery-requires : (t : ℕ) → node-lts.Need-subquery-requires (
   passthrough-below t,
   passthrough.Post,
 ) (node-at t) node.Post
-node-subquery-requires t c κs = (omega (arith, c .before .before .before .before .before .before .before .before .before .pre .0), c .before .before .before .before .before .before .before .before .before .pre .1 .0)
+node-subquery-requires t c κs = (omega (arith, c .before .before .before .before .before .before .before .before .pre .0), c .before .before .before .before .before .before .before .before .pre .1 .0)
 
 node-enum-told-21 : (t : ℕ) → node-lts.Need-enum-told-21 (
   is-copied-reads.Asked,
@@ -6733,7 +6734,7 @@ node-parens-requires : (t : ℕ) → node-lts.Need-parens-requires (
   passthrough-below t,
   passthrough.Post,
 ) (node-at t) node.Post
-node-parens-requires t c κs = (omega (arith, c .before .before .before .before .before .before .before .before .before .pre .0), c .before .before .before .before .before .before .before .before .before .pre .1 .0)
+node-parens-requires t c κs = (omega (arith, c .before .before .before .before .before .before .before .before .pre .0), c .before .before .before .before .before .before .before .before .pre .1 .0)
 
 node-enum-told-22 : (t : ℕ) → node-lts.Need-enum-told-22 (
   is-copied-reads.Asked,
@@ -6869,7 +6870,7 @@ node-brackets-requires : (t : ℕ) → node-lts.Need-brackets-requires (
   passthrough-below t,
   passthrough.Post,
 ) (node-at t) node.Post
-node-brackets-requires t c κs = (omega (arith, c .before .before .before .before .before .before .before .before .before .pre .0), c .before .before .before .before .before .before .before .before .before .pre .1 .0)
+node-brackets-requires t c κs = (omega (arith, c .before .before .before .before .before .before .before .before .pre .0), c .before .before .before .before .before .before .before .before .pre .1 .0)
 
 node-enum-told-23 : (t : ℕ) → node-lts.Need-enum-told-23 (
   is-copied-reads.Asked,
@@ -7005,7 +7006,7 @@ node-no-spaces-requires : (t : ℕ) → node-lts.Need-no-spaces-requires (
   passthrough-below t,
   passthrough.Post,
 ) (node-at t) node.Post
-node-no-spaces-requires t c κs = (omega (arith, c .before .before .before .before .before .before .before .before .before .pre .0), c .before .before .before .before .before .before .before .before .before .pre .1 .0)
+node-no-spaces-requires t c κs = (omega (arith, c .before .before .before .before .before .before .before .before .pre .0), c .before .before .before .before .before .before .before .before .pre .1 .0)
 
 node-enum-told-24 : (t : ℕ) → node-lts.Need-enum-told-24 (
   is-copied-reads.Asked,
@@ -7141,7 +7142,7 @@ node-braces-requires : (t : ℕ) → node-lts.Need-braces-requires (
   passthrough-below t,
   passthrough.Post,
 ) (node-at t) node.Post
-node-braces-requires t c κs = (omega (arith, c .before .before .before .before .before .before .before .before .before .pre .0), c .before .before .before .before .before .before .before .before .before .pre .1 .0)
+node-braces-requires t c κs = (omega (arith, c .before .before .before .before .before .before .before .before .pre .0), c .before .before .before .before .before .before .before .before .pre .1 .0)
 
 node-enum-told-25 : (t : ℕ) → node-lts.Need-enum-told-25 (
   is-copied-reads.Asked,
@@ -7277,7 +7278,7 @@ node-data-type-requires : (t : ℕ) → node-lts.Need-data-type-requires (
   passthrough-below t,
   passthrough.Post,
 ) (node-at t) node.Post
-node-data-type-requires t c κs = (omega (arith, c .before .before .before .before .before .before .before .before .before .pre .0), c .before .before .before .before .before .before .before .before .before .pre .1 .0)
+node-data-type-requires t c κs = (omega (arith, c .before .before .before .before .before .before .before .before .pre .0), c .before .before .before .before .before .before .before .before .pre .1 .0)
 
 node-enum-told-26 : (t : ℕ) → node-lts.Need-enum-told-26 (
   is-copied-reads.Asked,
@@ -7413,7 +7414,7 @@ node-tight-requires : (t : ℕ) → node-lts.Need-tight-requires (
   passthrough-below t,
   passthrough.Post,
 ) (node-at t) node.Post
-node-tight-requires t c κs = (omega (arith, c .before .before .before .before .before .before .before .before .before .pre .0), c .before .before .before .before .before .before .before .before .before .pre .1 .0)
+node-tight-requires t c κs = (omega (arith, c .before .before .before .before .before .before .before .before .pre .0), c .before .before .before .before .before .before .before .before .pre .1 .0)
 
 node-enum-told-27 : (t : ℕ) → node-lts.Need-enum-told-27 (
   is-copied-reads.Asked,
@@ -7549,7 +7550,7 @@ node-alter-requires : (t : ℕ) → node-lts.Need-alter-requires (
   passthrough-below t,
   passthrough.Post,
 ) (node-at t) node.Post
-node-alter-requires t c κs = (omega (arith, c .before .before .before .before .before .before .before .before .before .pre .0), c .before .before .before .before .before .before .before .before .before .pre .1 .0)
+node-alter-requires t c κs = (omega (arith, c .before .before .before .before .before .before .before .before .pre .0), c .before .before .before .before .before .before .before .before .pre .1 .0)
 
 node-enum-told-28 : (t : ℕ) → node-lts.Need-enum-told-28 (
   is-copied-reads.Asked,
@@ -7685,7 +7686,7 @@ node-union-of-requires : (t : ℕ) → node-lts.Need-union-of-requires (
   passthrough-below t,
   passthrough.Post,
 ) (node-at t) node.Post
-node-union-of-requires t c κs = (omega (arith, c .before .before .before .before .before .before .before .before .before .pre .0), c .before .before .before .before .before .before .before .before .before .pre .1 .0)
+node-union-of-requires t c κs = (omega (arith, c .before .before .before .before .before .before .before .before .pre .0), c .before .before .before .before .before .before .before .before .pre .1 .0)
 
 node-enum-told-29 : (t : ℕ) → node-lts.Need-enum-told-29 (
   is-copied-reads.Asked,
@@ -7821,7 +7822,7 @@ node-passthrough-requires : (t : ℕ) → node-lts.Need-passthrough-requires (
   passthrough-below t,
   passthrough.Post,
 ) (node-at t) node.Post
-node-passthrough-requires t c κs = (omega (arith, c .before .before .before .before .before .before .before .before .before .pre .0), c .before .before .before .before .before .before .before .before .before .pre .1 .0)
+node-passthrough-requires t c κs = (omega (arith, c .before .before .before .before .before .before .before .before .pre .0), c .before .before .before .before .before .before .before .before .pre .1 .0)
 
 node-same-length-2 : (t : ℕ) → node-lts.Need-same-length-2 (
   is-copied-reads.Asked,
@@ -7958,7 +7959,7 @@ node-returns-2 : (t : ℕ) → node-lts.Need-returns-2 (
   passthrough.Post,
 ) (node-at t) node.Post
 unfolding armsOf
-node-returns-2 t c = node-by the-variants.File (c .before .before .before .before .before .before .before .before .before .before .before .before .pre .1 .1) (scanned-as (c .before .before .before .before .before .before .before .before .is-copied .ensures) (c .before .before .before .before .before .before .before .if1 .left)) (sym (c .before .before .before .before .enum-told .given .1) ∙ c .before .before .before .before .before .before .routine-of .ensures) (c .before .before .file .ensures)
+node-returns-2 t c = node-by the-variants.File (c .before .before .before .before .before .before .before .before .before .before .before .pre .1 .1) (⊎-elim (λ w. scanned-as (w .1 .ensures) (w .2 .left)) (λ w. clean-node (c .before .before .before .before .before .before .before .before .before .before .before .pre .1 .0) (c .before .before .before .before .before .before .before .before .before .before .before .pre .1 .1) (w .left)) (c .before .before .before .before .before .before .before .if1 .came)) (sym (c .before .before .before .before .enum-told .given .1) ∙ c .before .before .before .before .before .before .routine-of .ensures) (c .before .before .file .ensures)
 
 node-same-length-3 : (t : ℕ) → node-lts.Need-same-length-3 (
   is-copied-reads.Asked,
@@ -8095,7 +8096,7 @@ node-returns-3 : (t : ℕ) → node-lts.Need-returns-3 (
   passthrough.Post,
 ) (node-at t) node.Post
 unfolding armsOf
-node-returns-3 t c = node-by the-variants.QueryList (c .before .before .before .before .before .before .before .before .before .before .before .before .pre .1 .1) (scanned-as (c .before .before .before .before .before .before .before .before .is-copied .ensures) (c .before .before .before .before .before .before .before .if1 .left)) (sym (c .before .before .before .before .enum-told2 .given .1) ∙ c .before .before .before .before .before .before .routine-of .ensures) (c .before .before .query-list .ensures)
+node-returns-3 t c = node-by the-variants.QueryList (c .before .before .before .before .before .before .before .before .before .before .before .pre .1 .1) (⊎-elim (λ w. scanned-as (w .1 .ensures) (w .2 .left)) (λ w. clean-node (c .before .before .before .before .before .before .before .before .before .before .before .pre .1 .0) (c .before .before .before .before .before .before .before .before .before .before .before .pre .1 .1) (w .left)) (c .before .before .before .before .before .before .before .if1 .came)) (sym (c .before .before .before .before .enum-told2 .given .1) ∙ c .before .before .before .before .before .before .routine-of .ensures) (c .before .before .query-list .ensures)
 
 node-same-length-4 : (t : ℕ) → node-lts.Need-same-length-4 (
   is-copied-reads.Asked,
@@ -8232,7 +8233,7 @@ node-returns-4 : (t : ℕ) → node-lts.Need-returns-4 (
   passthrough.Post,
 ) (node-at t) node.Post
 unfolding armsOf
-node-returns-4 t c = node-by the-variants.SelectStatement (c .before .before .before .before .before .before .before .before .before .before .before .before .pre .1 .1) (scanned-as (c .before .before .before .before .before .before .before .before .is-copied .ensures) (c .before .before .before .before .before .before .before .if1 .left)) (sym (c .before .before .before .before .enum-told3 .given .1) ∙ c .before .before .before .before .before .before .routine-of .ensures) (c .before .before .statement .ensures)
+node-returns-4 t c = node-by the-variants.SelectStatement (c .before .before .before .before .before .before .before .before .before .before .before .pre .1 .1) (⊎-elim (λ w. scanned-as (w .1 .ensures) (w .2 .left)) (λ w. clean-node (c .before .before .before .before .before .before .before .before .before .before .before .pre .1 .0) (c .before .before .before .before .before .before .before .before .before .before .before .pre .1 .1) (w .left)) (c .before .before .before .before .before .before .before .if1 .came)) (sym (c .before .before .before .before .enum-told3 .given .1) ∙ c .before .before .before .before .before .before .routine-of .ensures) (c .before .before .statement .ensures)
 
 node-same-length-5 : (t : ℕ) → node-lts.Need-same-length-5 (
   is-copied-reads.Asked,
@@ -8369,7 +8370,7 @@ node-returns-5 : (t : ℕ) → node-lts.Need-returns-5 (
   passthrough.Post,
 ) (node-at t) node.Post
 unfolding armsOf
-node-returns-5 t c = node-by the-variants.SelectClause (c .before .before .before .before .before .before .before .before .before .before .before .before .pre .1 .1) (scanned-as (c .before .before .before .before .before .before .before .before .is-copied .ensures) (c .before .before .before .before .before .before .before .if1 .left)) (sym (c .before .before .before .before .enum-told4 .given .1) ∙ c .before .before .before .before .before .before .routine-of .ensures) (c .before .before .select .ensures)
+node-returns-5 t c = node-by the-variants.SelectClause (c .before .before .before .before .before .before .before .before .before .before .before .pre .1 .1) (⊎-elim (λ w. scanned-as (w .1 .ensures) (w .2 .left)) (λ w. clean-node (c .before .before .before .before .before .before .before .before .before .before .before .pre .1 .0) (c .before .before .before .before .before .before .before .before .before .before .before .pre .1 .1) (w .left)) (c .before .before .before .before .before .before .before .if1 .came)) (sym (c .before .before .before .before .enum-told4 .given .1) ∙ c .before .before .before .before .before .before .routine-of .ensures) (c .before .before .select .ensures)
 
 node-same-length-6 : (t : ℕ) → node-lts.Need-same-length-6 (
   is-copied-reads.Asked,
@@ -8506,7 +8507,7 @@ node-returns-6 : (t : ℕ) → node-lts.Need-returns-6 (
   passthrough.Post,
 ) (node-at t) node.Post
 unfolding armsOf
-node-returns-6 t c = node-by the-variants.SimpleClause (c .before .before .before .before .before .before .before .before .before .before .before .before .pre .1 .1) (scanned-as (c .before .before .before .before .before .before .before .before .is-copied .ensures) (c .before .before .before .before .before .before .before .if1 .left)) (sym (c .before .before .before .before .enum-told5 .given .1) ∙ c .before .before .before .before .before .before .routine-of .ensures) (c .before .before .simple .ensures)
+node-returns-6 t c = node-by the-variants.SimpleClause (c .before .before .before .before .before .before .before .before .before .before .before .pre .1 .1) (⊎-elim (λ w. scanned-as (w .1 .ensures) (w .2 .left)) (λ w. clean-node (c .before .before .before .before .before .before .before .before .before .before .before .pre .1 .0) (c .before .before .before .before .before .before .before .before .before .before .before .pre .1 .1) (w .left)) (c .before .before .before .before .before .before .before .if1 .came)) (sym (c .before .before .before .before .enum-told5 .given .1) ∙ c .before .before .before .before .before .before .routine-of .ensures) (c .before .before .simple .ensures)
 
 node-same-length-7 : (t : ℕ) → node-lts.Need-same-length-7 (
   is-copied-reads.Asked,
@@ -8643,7 +8644,7 @@ node-returns-7 : (t : ℕ) → node-lts.Need-returns-7 (
   passthrough.Post,
 ) (node-at t) node.Post
 unfolding armsOf
-node-returns-7 t c = node-by the-variants.GroupByClause (c .before .before .before .before .before .before .before .before .before .before .before .before .pre .1 .1) (scanned-as (c .before .before .before .before .before .before .before .before .is-copied .ensures) (c .before .before .before .before .before .before .before .if1 .left)) (sym (c .before .before .before .before .enum-told6 .given .1) ∙ c .before .before .before .before .before .before .routine-of .ensures) (c .before .before .list-by .ensures)
+node-returns-7 t c = node-by the-variants.GroupByClause (c .before .before .before .before .before .before .before .before .before .before .before .pre .1 .1) (⊎-elim (λ w. scanned-as (w .1 .ensures) (w .2 .left)) (λ w. clean-node (c .before .before .before .before .before .before .before .before .before .before .before .pre .1 .0) (c .before .before .before .before .before .before .before .before .before .before .before .pre .1 .1) (w .left)) (c .before .before .before .before .before .before .before .if1 .came)) (sym (c .before .before .before .before .enum-told6 .given .1) ∙ c .before .before .before .before .before .before .routine-of .ensures) (c .before .before .list-by .ensures)
 
 node-same-length-8 : (t : ℕ) → node-lts.Need-same-length-8 (
   is-copied-reads.Asked,
@@ -8780,7 +8781,7 @@ node-returns-8 : (t : ℕ) → node-lts.Need-returns-8 (
   passthrough.Post,
 ) (node-at t) node.Post
 unfolding armsOf
-node-returns-8 t c = node-by the-variants.OrderByClause (c .before .before .before .before .before .before .before .before .before .before .before .before .pre .1 .1) (scanned-as (c .before .before .before .before .before .before .before .before .is-copied .ensures) (c .before .before .before .before .before .before .before .if1 .left)) (sym (c .before .before .before .before .enum-told7 .given .1) ∙ c .before .before .before .before .before .before .routine-of .ensures) (c .before .before .list-by2 .ensures)
+node-returns-8 t c = node-by the-variants.OrderByClause (c .before .before .before .before .before .before .before .before .before .before .before .pre .1 .1) (⊎-elim (λ w. scanned-as (w .1 .ensures) (w .2 .left)) (λ w. clean-node (c .before .before .before .before .before .before .before .before .before .before .before .pre .1 .0) (c .before .before .before .before .before .before .before .before .before .before .before .pre .1 .1) (w .left)) (c .before .before .before .before .before .before .before .if1 .came)) (sym (c .before .before .before .before .enum-told7 .given .1) ∙ c .before .before .before .before .before .before .routine-of .ensures) (c .before .before .list-by2 .ensures)
 
 node-same-length-9 : (t : ℕ) → node-lts.Need-same-length-9 (
   is-copied-reads.Asked,
@@ -8917,7 +8918,7 @@ node-returns-9 : (t : ℕ) → node-lts.Need-returns-9 (
   passthrough.Post,
 ) (node-at t) node.Post
 unfolding armsOf
-node-returns-9 t c = node-by the-variants.LimitByClause (c .before .before .before .before .before .before .before .before .before .before .before .before .pre .1 .1) (scanned-as (c .before .before .before .before .before .before .before .before .is-copied .ensures) (c .before .before .before .before .before .before .before .if1 .left)) (sym (c .before .before .before .before .enum-told8 .given .1) ∙ c .before .before .before .before .before .before .routine-of .ensures) (c .before .before .join .ensures)
+node-returns-9 t c = node-by the-variants.LimitByClause (c .before .before .before .before .before .before .before .before .before .before .before .pre .1 .1) (⊎-elim (λ w. scanned-as (w .1 .ensures) (w .2 .left)) (λ w. clean-node (c .before .before .before .before .before .before .before .before .before .before .before .pre .1 .0) (c .before .before .before .before .before .before .before .before .before .before .before .pre .1 .1) (w .left)) (c .before .before .before .before .before .before .before .if1 .came)) (sym (c .before .before .before .before .enum-told8 .given .1) ∙ c .before .before .before .before .before .before .routine-of .ensures) (c .before .before .join .ensures)
 
 node-same-length-10 : (t : ℕ) → node-lts.Need-same-length-10 (
   is-copied-reads.Asked,
@@ -9054,7 +9055,7 @@ node-returns-10 : (t : ℕ) → node-lts.Need-returns-10 (
   passthrough.Post,
 ) (node-at t) node.Post
 unfolding armsOf
-node-returns-10 t c = node-by the-variants.SettingsClause (c .before .before .before .before .before .before .before .before .before .before .before .before .pre .1 .1) (scanned-as (c .before .before .before .before .before .before .before .before .is-copied .ensures) (c .before .before .before .before .before .before .before .if1 .left)) (sym (c .before .before .before .before .enum-told9 .given .1) ∙ c .before .before .before .before .before .before .routine-of .ensures) (c .before .before .settings .ensures)
+node-returns-10 t c = node-by the-variants.SettingsClause (c .before .before .before .before .before .before .before .before .before .before .before .pre .1 .1) (⊎-elim (λ w. scanned-as (w .1 .ensures) (w .2 .left)) (λ w. clean-node (c .before .before .before .before .before .before .before .before .before .before .before .pre .1 .0) (c .before .before .before .before .before .before .before .before .before .before .before .pre .1 .1) (w .left)) (c .before .before .before .before .before .before .before .if1 .came)) (sym (c .before .before .before .before .enum-told9 .given .1) ∙ c .before .before .before .before .before .before .routine-of .ensures) (c .before .before .settings .ensures)
 
 node-same-length-11 : (t : ℕ) → node-lts.Need-same-length-11 (
   is-copied-reads.Asked,
@@ -9191,7 +9192,7 @@ node-returns-11 : (t : ℕ) → node-lts.Need-returns-11 (
   passthrough.Post,
 ) (node-at t) node.Post
 unfolding armsOf
-node-returns-11 t c = node-by the-variants.WithClause (c .before .before .before .before .before .before .before .before .before .before .before .before .pre .1 .1) (scanned-as (c .before .before .before .before .before .before .before .before .is-copied .ensures) (c .before .before .before .before .before .before .before .if1 .left)) (sym (c .before .before .before .before .enum-told10 .given .1) ∙ c .before .before .before .before .before .before .routine-of .ensures) (c .before .before .with-clause .ensures)
+node-returns-11 t c = node-by the-variants.WithClause (c .before .before .before .before .before .before .before .before .before .before .before .pre .1 .1) (⊎-elim (λ w. scanned-as (w .1 .ensures) (w .2 .left)) (λ w. clean-node (c .before .before .before .before .before .before .before .before .before .before .before .pre .1 .0) (c .before .before .before .before .before .before .before .before .before .before .before .pre .1 .1) (w .left)) (c .before .before .before .before .before .before .before .if1 .came)) (sym (c .before .before .before .before .enum-told10 .given .1) ∙ c .before .before .before .before .before .before .routine-of .ensures) (c .before .before .with-clause .ensures)
 
 node-same-length-12 : (t : ℕ) → node-lts.Need-same-length-12 (
   is-copied-reads.Asked,
@@ -9328,7 +9329,7 @@ node-returns-12 : (t : ℕ) → node-lts.Need-returns-12 (
   passthrough.Post,
 ) (node-at t) node.Post
 unfolding armsOf
-node-returns-12 t c = node-by the-variants.JoinClause (c .before .before .before .before .before .before .before .before .before .before .before .before .pre .1 .1) (scanned-as (c .before .before .before .before .before .before .before .before .is-copied .ensures) (c .before .before .before .before .before .before .before .if1 .left)) (sym (c .before .before .before .before .enum-told11 .given .1) ∙ c .before .before .before .before .before .before .routine-of .ensures) (c .before .before .join2 .ensures)
+node-returns-12 t c = node-by the-variants.JoinClause (c .before .before .before .before .before .before .before .before .before .before .before .pre .1 .1) (⊎-elim (λ w. scanned-as (w .1 .ensures) (w .2 .left)) (λ w. clean-node (c .before .before .before .before .before .before .before .before .before .before .before .pre .1 .0) (c .before .before .before .before .before .before .before .before .before .before .before .pre .1 .1) (w .left)) (c .before .before .before .before .before .before .before .if1 .came)) (sym (c .before .before .before .before .enum-told11 .given .1) ∙ c .before .before .before .before .before .before .routine-of .ensures) (c .before .before .join2 .ensures)
 
 node-same-length-13 : (t : ℕ) → node-lts.Need-same-length-13 (
   is-copied-reads.Asked,
@@ -9465,7 +9466,7 @@ node-returns-13 : (t : ℕ) → node-lts.Need-returns-13 (
   passthrough.Post,
 ) (node-at t) node.Post
 unfolding armsOf
-node-returns-13 t c = node-by the-variants.Inline (c .before .before .before .before .before .before .before .before .before .before .before .before .pre .1 .1) (scanned-as (c .before .before .before .before .before .before .before .before .is-copied .ensures) (c .before .before .before .before .before .before .before .if1 .left)) (sym (c .before .before .before .before .enum-told12 .given .1) ∙ c .before .before .before .before .before .before .routine-of .ensures) (c .before .before .inline .ensures)
+node-returns-13 t c = node-by the-variants.Inline (c .before .before .before .before .before .before .before .before .before .before .before .pre .1 .1) (⊎-elim (λ w. scanned-as (w .1 .ensures) (w .2 .left)) (λ w. clean-node (c .before .before .before .before .before .before .before .before .before .before .before .pre .1 .0) (c .before .before .before .before .before .before .before .before .before .before .before .pre .1 .1) (w .left)) (c .before .before .before .before .before .before .before .if1 .came)) (sym (c .before .before .before .before .enum-told12 .given .1) ∙ c .before .before .before .before .before .before .routine-of .ensures) (c .before .before .inline .ensures)
 
 node-same-length-14 : (t : ℕ) → node-lts.Need-same-length-14 (
   is-copied-reads.Asked,
@@ -9602,7 +9603,7 @@ node-returns-14 : (t : ℕ) → node-lts.Need-returns-14 (
   passthrough.Post,
 ) (node-at t) node.Post
 unfolding armsOf
-node-returns-14 t c = node-by the-variants.CommaList (c .before .before .before .before .before .before .before .before .before .before .before .before .pre .1 .1) (scanned-as (c .before .before .before .before .before .before .before .before .is-copied .ensures) (c .before .before .before .before .before .before .before .if1 .left)) (sym (c .before .before .before .before .enum-told13 .given .1) ∙ c .before .before .before .before .before .before .routine-of .ensures) (c .before .before .commas .ensures)
+node-returns-14 t c = node-by the-variants.CommaList (c .before .before .before .before .before .before .before .before .before .before .before .pre .1 .1) (⊎-elim (λ w. scanned-as (w .1 .ensures) (w .2 .left)) (λ w. clean-node (c .before .before .before .before .before .before .before .before .before .before .before .pre .1 .0) (c .before .before .before .before .before .before .before .before .before .before .before .pre .1 .1) (w .left)) (c .before .before .before .before .before .before .before .if1 .came)) (sym (c .before .before .before .before .enum-told13 .given .1) ∙ c .before .before .before .before .before .before .routine-of .ensures) (c .before .before .commas .ensures)
 
 node-same-length-15 : (t : ℕ) → node-lts.Need-same-length-15 (
   is-copied-reads.Asked,
@@ -9739,7 +9740,7 @@ node-returns-15 : (t : ℕ) → node-lts.Need-returns-15 (
   passthrough.Post,
 ) (node-at t) node.Post
 unfolding armsOf
-node-returns-15 t c = node-by the-variants.InlineCommaList (c .before .before .before .before .before .before .before .before .before .before .before .before .pre .1 .1) (scanned-as (c .before .before .before .before .before .before .before .before .is-copied .ensures) (c .before .before .before .before .before .before .before .if1 .left)) (sym (c .before .before .before .before .enum-told14 .given .1) ∙ c .before .before .before .before .before .before .routine-of .ensures) (c .before .before .inline-commas .ensures)
+node-returns-15 t c = node-by the-variants.InlineCommaList (c .before .before .before .before .before .before .before .before .before .before .before .pre .1 .1) (⊎-elim (λ w. scanned-as (w .1 .ensures) (w .2 .left)) (λ w. clean-node (c .before .before .before .before .before .before .before .before .before .before .before .pre .1 .0) (c .before .before .before .before .before .before .before .before .before .before .before .pre .1 .1) (w .left)) (c .before .before .before .before .before .before .before .if1 .came)) (sym (c .before .before .before .before .enum-told14 .given .1) ∙ c .before .before .before .before .before .before .routine-of .ensures) (c .before .before .inline-commas .ensures)
 
 node-same-length-16 : (t : ℕ) → node-lts.Need-same-length-16 (
   is-copied-reads.Asked,
@@ -9876,7 +9877,7 @@ node-returns-16 : (t : ℕ) → node-lts.Need-returns-16 (
   passthrough.Post,
 ) (node-at t) node.Post
 unfolding armsOf
-node-returns-16 t c = node-by the-variants.BinaryExpression (c .before .before .before .before .before .before .before .before .before .before .before .before .pre .1 .1) (scanned-as (c .before .before .before .before .before .before .before .before .is-copied .ensures) (c .before .before .before .before .before .before .before .if1 .left)) (sym (c .before .before .before .before .enum-told15 .given .1) ∙ c .before .before .before .before .before .before .routine-of .ensures) (c .before .before .binary .ensures)
+node-returns-16 t c = node-by the-variants.BinaryExpression (c .before .before .before .before .before .before .before .before .before .before .before .pre .1 .1) (⊎-elim (λ w. scanned-as (w .1 .ensures) (w .2 .left)) (λ w. clean-node (c .before .before .before .before .before .before .before .before .before .before .before .pre .1 .0) (c .before .before .before .before .before .before .before .before .before .before .before .pre .1 .1) (w .left)) (c .before .before .before .before .before .before .before .if1 .came)) (sym (c .before .before .before .before .enum-told15 .given .1) ∙ c .before .before .before .before .before .before .routine-of .ensures) (c .before .before .binary .ensures)
 
 node-same-length-17 : (t : ℕ) → node-lts.Need-same-length-17 (
   is-copied-reads.Asked,
@@ -10013,7 +10014,7 @@ node-returns-17 : (t : ℕ) → node-lts.Need-returns-17 (
   passthrough.Post,
 ) (node-at t) node.Post
 unfolding armsOf
-node-returns-17 t c = node-by the-variants.UnaryExpression (c .before .before .before .before .before .before .before .before .before .before .before .before .pre .1 .1) (scanned-as (c .before .before .before .before .before .before .before .before .is-copied .ensures) (c .before .before .before .before .before .before .before .if1 .left)) (sym (c .before .before .before .before .enum-told16 .given .1) ∙ c .before .before .before .before .before .before .routine-of .ensures) (c .before .before .unary .ensures)
+node-returns-17 t c = node-by the-variants.UnaryExpression (c .before .before .before .before .before .before .before .before .before .before .before .pre .1 .1) (⊎-elim (λ w. scanned-as (w .1 .ensures) (w .2 .left)) (λ w. clean-node (c .before .before .before .before .before .before .before .before .before .before .before .pre .1 .0) (c .before .before .before .before .before .before .before .before .before .before .before .pre .1 .1) (w .left)) (c .before .before .before .before .before .before .before .if1 .came)) (sym (c .before .before .before .before .enum-told16 .given .1) ∙ c .before .before .before .before .before .before .routine-of .ensures) (c .before .before .unary .ensures)
 
 node-same-length-18 : (t : ℕ) → node-lts.Need-same-length-18 (
   is-copied-reads.Asked,
@@ -10150,7 +10151,7 @@ node-returns-18 : (t : ℕ) → node-lts.Need-returns-18 (
   passthrough.Post,
 ) (node-at t) node.Post
 unfolding armsOf
-node-returns-18 t c = node-by the-variants.FunctionCall (c .before .before .before .before .before .before .before .before .before .before .before .before .pre .1 .1) (scanned-as (c .before .before .before .before .before .before .before .before .is-copied .ensures) (c .before .before .before .before .before .before .before .if1 .left)) (sym (c .before .before .before .before .enum-told17 .given .1) ∙ c .before .before .before .before .before .before .routine-of .ensures) (c .before .before .call .ensures)
+node-returns-18 t c = node-by the-variants.FunctionCall (c .before .before .before .before .before .before .before .before .before .before .before .pre .1 .1) (⊎-elim (λ w. scanned-as (w .1 .ensures) (w .2 .left)) (λ w. clean-node (c .before .before .before .before .before .before .before .before .before .before .before .pre .1 .0) (c .before .before .before .before .before .before .before .before .before .before .before .pre .1 .1) (w .left)) (c .before .before .before .before .before .before .before .if1 .came)) (sym (c .before .before .before .before .enum-told17 .given .1) ∙ c .before .before .before .before .before .before .routine-of .ensures) (c .before .before .call .ensures)
 
 node-same-length-19 : (t : ℕ) → node-lts.Need-same-length-19 (
   is-copied-reads.Asked,
@@ -10287,7 +10288,7 @@ node-returns-19 : (t : ℕ) → node-lts.Need-returns-19 (
   passthrough.Post,
 ) (node-at t) node.Post
 unfolding armsOf
-node-returns-19 t c = node-by the-variants.CaseExpression (c .before .before .before .before .before .before .before .before .before .before .before .before .pre .1 .1) (scanned-as (c .before .before .before .before .before .before .before .before .is-copied .ensures) (c .before .before .before .before .before .before .before .if1 .left)) (sym (c .before .before .before .before .enum-told18 .given .1) ∙ c .before .before .before .before .before .before .routine-of .ensures) (c .before .before .case-of .ensures)
+node-returns-19 t c = node-by the-variants.CaseExpression (c .before .before .before .before .before .before .before .before .before .before .before .pre .1 .1) (⊎-elim (λ w. scanned-as (w .1 .ensures) (w .2 .left)) (λ w. clean-node (c .before .before .before .before .before .before .before .before .before .before .before .pre .1 .0) (c .before .before .before .before .before .before .before .before .before .before .before .pre .1 .1) (w .left)) (c .before .before .before .before .before .before .before .if1 .came)) (sym (c .before .before .before .before .enum-told18 .given .1) ∙ c .before .before .before .before .before .before .routine-of .ensures) (c .before .before .case-of .ensures)
 
 node-same-length-20 : (t : ℕ) → node-lts.Need-same-length-20 (
   is-copied-reads.Asked,
@@ -10424,7 +10425,7 @@ node-returns-20 : (t : ℕ) → node-lts.Need-returns-20 (
   passthrough.Post,
 ) (node-at t) node.Post
 unfolding armsOf
-node-returns-20 t c = node-by the-variants.WhenClause (c .before .before .before .before .before .before .before .before .before .before .before .before .pre .1 .1) (scanned-as (c .before .before .before .before .before .before .before .before .is-copied .ensures) (c .before .before .before .before .before .before .before .if1 .left)) (sym (c .before .before .before .before .enum-told19 .given .1) ∙ c .before .before .before .before .before .before .routine-of .ensures) (c .before .before .when-then .ensures)
+node-returns-20 t c = node-by the-variants.WhenClause (c .before .before .before .before .before .before .before .before .before .before .before .pre .1 .1) (⊎-elim (λ w. scanned-as (w .1 .ensures) (w .2 .left)) (λ w. clean-node (c .before .before .before .before .before .before .before .before .before .before .before .pre .1 .0) (c .before .before .before .before .before .before .before .before .before .before .before .pre .1 .1) (w .left)) (c .before .before .before .before .before .before .before .if1 .came)) (sym (c .before .before .before .before .enum-told19 .given .1) ∙ c .before .before .before .before .before .before .routine-of .ensures) (c .before .before .when-then .ensures)
 
 node-same-length-21 : (t : ℕ) → node-lts.Need-same-length-21 (
   is-copied-reads.Asked,
@@ -10561,7 +10562,7 @@ node-returns-21 : (t : ℕ) → node-lts.Need-returns-21 (
   passthrough.Post,
 ) (node-at t) node.Post
 unfolding armsOf
-node-returns-21 t c = node-by the-variants.Subquery (c .before .before .before .before .before .before .before .before .before .before .before .before .pre .1 .1) (scanned-as (c .before .before .before .before .before .before .before .before .is-copied .ensures) (c .before .before .before .before .before .before .before .if1 .left)) (sym (c .before .before .before .before .enum-told20 .given .1) ∙ c .before .before .before .before .before .before .routine-of .ensures) (c .before .before .subquery .ensures)
+node-returns-21 t c = node-by the-variants.Subquery (c .before .before .before .before .before .before .before .before .before .before .before .pre .1 .1) (⊎-elim (λ w. scanned-as (w .1 .ensures) (w .2 .left)) (λ w. clean-node (c .before .before .before .before .before .before .before .before .before .before .before .pre .1 .0) (c .before .before .before .before .before .before .before .before .before .before .before .pre .1 .1) (w .left)) (c .before .before .before .before .before .before .before .if1 .came)) (sym (c .before .before .before .before .enum-told20 .given .1) ∙ c .before .before .before .before .before .before .routine-of .ensures) (c .before .before .subquery .ensures)
 
 node-same-length-22 : (t : ℕ) → node-lts.Need-same-length-22 (
   is-copied-reads.Asked,
@@ -10698,7 +10699,7 @@ node-returns-22 : (t : ℕ) → node-lts.Need-returns-22 (
   passthrough.Post,
 ) (node-at t) node.Post
 unfolding armsOf
-node-returns-22 t c = node-by the-variants.ParenList (c .before .before .before .before .before .before .before .before .before .before .before .before .pre .1 .1) (scanned-as (c .before .before .before .before .before .before .before .before .is-copied .ensures) (c .before .before .before .before .before .before .before .if1 .left)) (sym (c .before .before .before .before .enum-told21 .given .1) ∙ c .before .before .before .before .before .before .routine-of .ensures) (c .before .before .parens .ensures)
+node-returns-22 t c = node-by the-variants.ParenList (c .before .before .before .before .before .before .before .before .before .before .before .pre .1 .1) (⊎-elim (λ w. scanned-as (w .1 .ensures) (w .2 .left)) (λ w. clean-node (c .before .before .before .before .before .before .before .before .before .before .before .pre .1 .0) (c .before .before .before .before .before .before .before .before .before .before .before .pre .1 .1) (w .left)) (c .before .before .before .before .before .before .before .if1 .came)) (sym (c .before .before .before .before .enum-told21 .given .1) ∙ c .before .before .before .before .before .before .routine-of .ensures) (c .before .before .parens .ensures)
 
 node-same-length-23 : (t : ℕ) → node-lts.Need-same-length-23 (
   is-copied-reads.Asked,
@@ -10835,7 +10836,7 @@ node-returns-23 : (t : ℕ) → node-lts.Need-returns-23 (
   passthrough.Post,
 ) (node-at t) node.Post
 unfolding armsOf
-node-returns-23 t c = node-by the-variants.BracketList (c .before .before .before .before .before .before .before .before .before .before .before .before .pre .1 .1) (scanned-as (c .before .before .before .before .before .before .before .before .is-copied .ensures) (c .before .before .before .before .before .before .before .if1 .left)) (sym (c .before .before .before .before .enum-told22 .given .1) ∙ c .before .before .before .before .before .before .routine-of .ensures) (c .before .before .brackets .ensures)
+node-returns-23 t c = node-by the-variants.BracketList (c .before .before .before .before .before .before .before .before .before .before .before .pre .1 .1) (⊎-elim (λ w. scanned-as (w .1 .ensures) (w .2 .left)) (λ w. clean-node (c .before .before .before .before .before .before .before .before .before .before .before .pre .1 .0) (c .before .before .before .before .before .before .before .before .before .before .before .pre .1 .1) (w .left)) (c .before .before .before .before .before .before .before .if1 .came)) (sym (c .before .before .before .before .enum-told22 .given .1) ∙ c .before .before .before .before .before .before .routine-of .ensures) (c .before .before .brackets .ensures)
 
 node-same-length-24 : (t : ℕ) → node-lts.Need-same-length-24 (
   is-copied-reads.Asked,
@@ -10972,7 +10973,7 @@ node-returns-24 : (t : ℕ) → node-lts.Need-returns-24 (
   passthrough.Post,
 ) (node-at t) node.Post
 unfolding armsOf
-node-returns-24 t c = node-by the-variants.InlineNoSpaces (c .before .before .before .before .before .before .before .before .before .before .before .before .pre .1 .1) (scanned-as (c .before .before .before .before .before .before .before .before .is-copied .ensures) (c .before .before .before .before .before .before .before .if1 .left)) (sym (c .before .before .before .before .enum-told23 .given .1) ∙ c .before .before .before .before .before .before .routine-of .ensures) (c .before .before .no-spaces .ensures)
+node-returns-24 t c = node-by the-variants.InlineNoSpaces (c .before .before .before .before .before .before .before .before .before .before .before .pre .1 .1) (⊎-elim (λ w. scanned-as (w .1 .ensures) (w .2 .left)) (λ w. clean-node (c .before .before .before .before .before .before .before .before .before .before .before .pre .1 .0) (c .before .before .before .before .before .before .before .before .before .before .before .pre .1 .1) (w .left)) (c .before .before .before .before .before .before .before .if1 .came)) (sym (c .before .before .before .before .enum-told23 .given .1) ∙ c .before .before .before .before .before .before .routine-of .ensures) (c .before .before .no-spaces .ensures)
 
 node-same-length-25 : (t : ℕ) → node-lts.Need-same-length-25 (
   is-copied-reads.Asked,
@@ -11109,7 +11110,7 @@ node-returns-25 : (t : ℕ) → node-lts.Need-returns-25 (
   passthrough.Post,
 ) (node-at t) node.Post
 unfolding armsOf
-node-returns-25 t c = node-by the-variants.BraceList (c .before .before .before .before .before .before .before .before .before .before .before .before .pre .1 .1) (scanned-as (c .before .before .before .before .before .before .before .before .is-copied .ensures) (c .before .before .before .before .before .before .before .if1 .left)) (sym (c .before .before .before .before .enum-told24 .given .1) ∙ c .before .before .before .before .before .before .routine-of .ensures) (c .before .before .braces .ensures)
+node-returns-25 t c = node-by the-variants.BraceList (c .before .before .before .before .before .before .before .before .before .before .before .pre .1 .1) (⊎-elim (λ w. scanned-as (w .1 .ensures) (w .2 .left)) (λ w. clean-node (c .before .before .before .before .before .before .before .before .before .before .before .pre .1 .0) (c .before .before .before .before .before .before .before .before .before .before .before .pre .1 .1) (w .left)) (c .before .before .before .before .before .before .before .if1 .came)) (sym (c .before .before .before .before .enum-told24 .given .1) ∙ c .before .before .before .before .before .before .routine-of .ensures) (c .before .before .braces .ensures)
 
 node-same-length-26 : (t : ℕ) → node-lts.Need-same-length-26 (
   is-copied-reads.Asked,
@@ -11246,7 +11247,7 @@ node-returns-26 : (t : ℕ) → node-lts.Need-returns-26 (
   passthrough.Post,
 ) (node-at t) node.Post
 unfolding armsOf
-node-returns-26 t c = node-by the-variants.DataType (c .before .before .before .before .before .before .before .before .before .before .before .before .pre .1 .1) (scanned-as (c .before .before .before .before .before .before .before .before .is-copied .ensures) (c .before .before .before .before .before .before .before .if1 .left)) (sym (c .before .before .before .before .enum-told25 .given .1) ∙ c .before .before .before .before .before .before .routine-of .ensures) (c .before .before .data-type .ensures)
+node-returns-26 t c = node-by the-variants.DataType (c .before .before .before .before .before .before .before .before .before .before .before .pre .1 .1) (⊎-elim (λ w. scanned-as (w .1 .ensures) (w .2 .left)) (λ w. clean-node (c .before .before .before .before .before .before .before .before .before .before .before .pre .1 .0) (c .before .before .before .before .before .before .before .before .before .before .before .pre .1 .1) (w .left)) (c .before .before .before .before .before .before .before .if1 .came)) (sym (c .before .before .before .before .enum-told25 .given .1) ∙ c .before .before .before .before .before .before .routine-of .ensures) (c .before .before .data-type .ensures)
 
 node-same-length-27 : (t : ℕ) → node-lts.Need-same-length-27 (
   is-copied-reads.Asked,
@@ -11383,7 +11384,7 @@ node-returns-27 : (t : ℕ) → node-lts.Need-returns-27 (
   passthrough.Post,
 ) (node-at t) node.Post
 unfolding armsOf
-node-returns-27 t c = node-by the-variants.InlineTightParens (c .before .before .before .before .before .before .before .before .before .before .before .before .pre .1 .1) (scanned-as (c .before .before .before .before .before .before .before .before .is-copied .ensures) (c .before .before .before .before .before .before .before .if1 .left)) (sym (c .before .before .before .before .enum-told26 .given .1) ∙ c .before .before .before .before .before .before .routine-of .ensures) (c .before .before .tight .ensures)
+node-returns-27 t c = node-by the-variants.InlineTightParens (c .before .before .before .before .before .before .before .before .before .before .before .pre .1 .1) (⊎-elim (λ w. scanned-as (w .1 .ensures) (w .2 .left)) (λ w. clean-node (c .before .before .before .before .before .before .before .before .before .before .before .pre .1 .0) (c .before .before .before .before .before .before .before .before .before .before .before .pre .1 .1) (w .left)) (c .before .before .before .before .before .before .before .if1 .came)) (sym (c .before .before .before .before .enum-told26 .given .1) ∙ c .before .before .before .before .before .before .routine-of .ensures) (c .before .before .tight .ensures)
 
 node-same-length-28 : (t : ℕ) → node-lts.Need-same-length-28 (
   is-copied-reads.Asked,
@@ -11520,7 +11521,7 @@ node-returns-28 : (t : ℕ) → node-lts.Need-returns-28 (
   passthrough.Post,
 ) (node-at t) node.Post
 unfolding armsOf
-node-returns-28 t c = node-by the-variants.AlterCommandList (c .before .before .before .before .before .before .before .before .before .before .before .before .pre .1 .1) (scanned-as (c .before .before .before .before .before .before .before .before .is-copied .ensures) (c .before .before .before .before .before .before .before .if1 .left)) (sym (c .before .before .before .before .enum-told27 .given .1) ∙ c .before .before .before .before .before .before .routine-of .ensures) (c .before .before .alter .ensures)
+node-returns-28 t c = node-by the-variants.AlterCommandList (c .before .before .before .before .before .before .before .before .before .before .before .pre .1 .1) (⊎-elim (λ w. scanned-as (w .1 .ensures) (w .2 .left)) (λ w. clean-node (c .before .before .before .before .before .before .before .before .before .before .before .pre .1 .0) (c .before .before .before .before .before .before .before .before .before .before .before .pre .1 .1) (w .left)) (c .before .before .before .before .before .before .before .if1 .came)) (sym (c .before .before .before .before .enum-told27 .given .1) ∙ c .before .before .before .before .before .before .routine-of .ensures) (c .before .before .alter .ensures)
 
 node-same-length-29 : (t : ℕ) → node-lts.Need-same-length-29 (
   is-copied-reads.Asked,
@@ -11657,7 +11658,7 @@ node-returns-29 : (t : ℕ) → node-lts.Need-returns-29 (
   passthrough.Post,
 ) (node-at t) node.Post
 unfolding armsOf
-node-returns-29 t c = node-by the-variants.UnionClause (c .before .before .before .before .before .before .before .before .before .before .before .before .pre .1 .1) (scanned-as (c .before .before .before .before .before .before .before .before .is-copied .ensures) (c .before .before .before .before .before .before .before .if1 .left)) (sym (c .before .before .before .before .enum-told28 .given .1) ∙ c .before .before .before .before .before .before .routine-of .ensures) (c .before .before .union-of .ensures)
+node-returns-29 t c = node-by the-variants.UnionClause (c .before .before .before .before .before .before .before .before .before .before .before .pre .1 .1) (⊎-elim (λ w. scanned-as (w .1 .ensures) (w .2 .left)) (λ w. clean-node (c .before .before .before .before .before .before .before .before .before .before .before .pre .1 .0) (c .before .before .before .before .before .before .before .before .before .before .before .pre .1 .1) (w .left)) (c .before .before .before .before .before .before .before .if1 .came)) (sym (c .before .before .before .before .enum-told28 .given .1) ∙ c .before .before .before .before .before .before .routine-of .ensures) (c .before .before .union-of .ensures)
 
 node-same-length-30 : (t : ℕ) → node-lts.Need-same-length-30 (
   is-copied-reads.Asked,
@@ -11794,7 +11795,7 @@ node-returns-30 : (t : ℕ) → node-lts.Need-returns-30 (
   passthrough.Post,
 ) (node-at t) node.Post
 unfolding armsOf
-node-returns-30 t c = node-by the-variants.Passthrough (c .before .before .before .before .before .before .before .before .before .before .before .before .pre .1 .1) (scanned-as (c .before .before .before .before .before .before .before .before .is-copied .ensures) (c .before .before .before .before .before .before .before .if1 .left)) (sym (c .before .before .before .before .enum-told29 .given .1) ∙ c .before .before .before .before .before .before .routine-of .ensures) (c .before .before .passthrough .ensures)
+node-returns-30 t c = node-by the-variants.Passthrough (c .before .before .before .before .before .before .before .before .before .before .before .pre .1 .1) (⊎-elim (λ w. scanned-as (w .1 .ensures) (w .2 .left)) (λ w. clean-node (c .before .before .before .before .before .before .before .before .before .before .before .pre .1 .0) (c .before .before .before .before .before .before .before .before .before .before .before .pre .1 .1) (w .left)) (c .before .before .before .before .before .before .before .if1 .came)) (sym (c .before .before .before .before .enum-told29 .given .1) ∙ c .before .before .before .before .before .before .routine-of .ensures) (c .before .before .passthrough .ensures)
 
 abbrev parens-Inv-loop : parens-lts.InvT-loop
 parens-Inv-loop source tape config errors out₀ left at i₀ ctx₀ out i ctx = Loop source tape config errors left at (always formatParenList) formatParenList ctx₀ out₀ out i ctx (flagged false)
