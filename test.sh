@@ -4,10 +4,12 @@
 # Its last line is rt's 'N passed, 0 failed'. Needs rt, cargo, rustc, cc and c++; nothing is fetched.
 set -eu
 cd "$(dirname "$0")"
+rt check clauses expressions
+sh scripts/static_libraries.sh >target/static_libraries.log 2>&1 &
+libraries=$!
 rt check desk
+wait "$libraries" || { cat target/static_libraries.log; exit 1; }
 sh scripts/desk_runs.sh
-rt staticlib keywords
-rt staticlib formatter
 cargo test --offline --quiet --manifest-path rust/Cargo.toml --workspace
 sh scripts/examples.sh
 sh scripts/readme_commands.sh

@@ -35,8 +35,8 @@ use mathlib.Core.Bool.{false}
 use mathlib.Core.Logic.{⊎-elim}
 use mathlib.Core.Path.{_∙_, ap, refl, sym}
 use lib.ListN.{length}
-use Rattle.arms.proofs.Choices.{as-spaced}
-use Rattle.arms.proofs.Runs.{no-spacing, spaced}
+use Rattle.tokens.proofs.Choices.{as-spaced}
+use Rattle.tokens.proofs.Runs.{no-spacing, spaced}
 use Rattle.formatter.proofs.RoutineLaws.{USED}
 use Rattle.formatter.proofs.Walks.{USED}
 use Rattle.formatter.specs.Promise.{always}
@@ -118,7 +118,7 @@ LIST_NODE = f"{LIST} {MULTI} (@loop .local) {KIND}"
 # What a routine has of its own: pieces that replace those of `pieces`, and whole answers; `unfolding`, a name that is unfolded beside the
 # definition for all of UNFOLDED, or for the one need that is named with it.
 ROWS = {
-    "case-of": {"next-local": KEPT.format("case-kept"), "after": NOTHING.format("case-after")},
+    "cases": {"next-local": KEPT.format("case-kept"), "after": NOTHING.format("case-after")},
     "inline": {"unfolding": "inlineNode"},
     "list-by": {
         "arms": f"(listClauseArms {LIST} {MULTI})",
@@ -132,7 +132,7 @@ ROWS = {
     "select": {"next-local": KEPT.format("select-kept")},
     "settings": {"next-local": KEPT.format("settings-kept")},
     "tight": {"unfolding": "inlineNode"},
-    "union-of": {"after": NOTHING.format("union-after"), "unfolding loop-again": "unionToken"},
+    "unions": {"after": NOTHING.format("union-after"), "unfolding loop-again": "unionToken"},
 }
 
 

@@ -24,7 +24,7 @@ use Rattle.layout.specs.FormatNode.{armsOf, routineOf, formatNode}
 use Rattle.layout.specs.Calls.{Call, apart, on, formatErrorVerbatim, walk, calls}
 use Rattle.layout.specs.Run.{runSpacing, run}
 use Rattle.layout.proofs.Running.{run-append, run-apart}
-use Rattle.arms.specs.Promise.{Ran, Spaced, TokenReady, Acted}
+use Rattle.tokens.specs.Promise.{Ran, Spaced, TokenReady, Acted}
 use Rattle.formatter.specs.declared.Walk.{Walk}
 use Rattle.formatter.specs.Promise.{Grew, NodeReady, RoutineDone, NodeDone}
 

@@ -3,54 +3,50 @@
 // cycle is named after all of its members.
 use crate::Walk;
 use crate::dispatch::routine_of;
-use arms::routines::alter_command_list_token;
-use arms::routines::binary_expression_token;
-use arms::routines::brace_list_token;
-use arms::routines::bracket_list_token;
-use arms::routines::case_expression_before;
-use arms::routines::case_expression_token;
-use arms::routines::comma_list_token;
-use arms::routines::data_type_token;
-use arms::routines::file_before;
-use arms::routines::file_token;
-use arms::routines::function_call_token;
-use arms::routines::inline_comma_list_token;
-use arms::routines::inline_tight_parens_token;
-use arms::routines::inline_token;
-use arms::routines::join_clause_token;
-use arms::routines::list_clause_after;
-use arms::routines::list_clause_before;
-use arms::routines::list_clause_end;
-use arms::routines::list_clause_local;
-use arms::routines::list_clause_token;
-use arms::routines::multi_item;
-use arms::routines::paren_list_token;
-use arms::routines::passthrough_token;
-use arms::routines::query_list_before;
-use arms::routines::query_list_token;
-use arms::routines::select_clause_after;
-use arms::routines::select_clause_before;
-use arms::routines::select_clause_token;
-use arms::routines::select_statement_before;
-use arms::routines::select_statement_token;
-use arms::routines::settings_clause_after;
-use arms::routines::settings_clause_before;
-use arms::routines::several_items;
-use arms::routines::simple_clause_token;
-use arms::routines::subquery_token;
-use arms::routines::unary_expression_token;
-use arms::routines::union_clause_before;
-use arms::routines::union_clause_local;
-use arms::routines::union_clause_token;
-use arms::routines::when_clause_token;
-use arms::routines::with_clause_after;
-use arms::routines::with_clause_before;
-use arms::tokens::emit_other;
-use arms::tokens::format_error_verbatim;
-use arms::tokens::space_after;
-use arms::tokens::space_if;
+use clauses::file_before;
+use clauses::file_token;
+use clauses::join_clause_token;
+use clauses::list_clause_after;
+use clauses::list_clause_before;
+use clauses::list_clause_end;
+use clauses::list_clause_local;
+use clauses::list_clause_token;
+use clauses::multi_item;
+use clauses::query_list_before;
+use clauses::query_list_token;
+use clauses::select_clause_after;
+use clauses::select_clause_before;
+use clauses::select_clause_token;
+use clauses::select_statement_before;
+use clauses::select_statement_token;
+use clauses::settings_clause_after;
+use clauses::settings_clause_before;
+use clauses::several_items;
+use clauses::simple_clause_token;
+use clauses::union_clause_before;
+use clauses::union_clause_local;
+use clauses::union_clause_token;
+use clauses::with_clause_after;
+use clauses::with_clause_before;
 use context::FormatConfig;
 use context::FormatterContext;
+use expressions::alter_command_list_token;
+use expressions::binary_expression_token;
+use expressions::brace_list_token;
+use expressions::bracket_list_token;
+use expressions::case_expression_before;
+use expressions::case_expression_token;
+use expressions::comma_list_token;
+use expressions::data_type_token;
+use expressions::function_call_token;
+use expressions::inline_comma_list_token;
+use expressions::inline_tight_parens_token;
+use expressions::inline_token;
+use expressions::paren_list_token;
+use expressions::passthrough_token;
+use expressions::subquery_token;
+use expressions::unary_expression_token;
+use expressions::when_clause_token;
 use layout::Local;
 use layout::PrevKind;
 use layout::Routine;
@@ -58,6 +54,10 @@ use tape::commands::head_at;
 use tape::scan::has_error_child;
 use tape::scan::skip;
 use tape::syntax_kind;
+use tokens::emit_other;
+use tokens::format_error_verbatim;
+use tokens::space_after;
+use tokens::space_if;
 ghost use mathlib.Core.Path.{_≡_};
 ghost use Rattle.tape.specs.Lies.{NodeAt, Scanned};
 ghost use Rattle.tape.specs.Tape.{headAt};
@@ -108,7 +108,7 @@ fn file(
 }
 
 // format_query_list
-fn query_list(
+fn queries(
     source: &[u8],
     tape: &[u8],
     config: FormatConfig,
@@ -150,7 +150,7 @@ fn query_list(
 }
 
 // format_select_statement
-fn statement(
+fn query(
     source: &[u8],
     tape: &[u8],
     config: FormatConfig,
@@ -402,7 +402,7 @@ fn settings(
 }
 
 // format_with_clause
-fn with_clause(
+fn with_of(
     source: &[u8],
     tape: &[u8],
     config: FormatConfig,
@@ -481,7 +481,7 @@ fn commas(
 }
 
 // format_inline_comma_list
-fn inline_commas(
+fn row(
     source: &[u8],
     tape: &[u8],
     config: FormatConfig,
@@ -613,7 +613,7 @@ fn call(
 }
 
 // format_case_expression
-fn case_of(
+fn cases(
     source: &[u8],
     tape: &[u8],
     config: FormatConfig,
@@ -651,7 +651,7 @@ fn case_of(
 }
 
 // format_when_clause
-fn when_then(
+fn when_of(
     source: &[u8],
     tape: &[u8],
     config: FormatConfig,
@@ -816,7 +816,7 @@ fn braces(
 }
 
 // format_data_type
-fn data_type(
+fn types(
     source: &[u8],
     tape: &[u8],
     config: FormatConfig,
@@ -939,7 +939,7 @@ fn inline(
 }
 
 // format_inline_no_spaces
-fn no_spaces(
+fn solid(
     source: &[u8],
     tape: &[u8],
     config: FormatConfig,
@@ -972,7 +972,7 @@ fn no_spaces(
 }
 
 // format_passthrough
-fn passthrough(
+fn pass(
     source: &[u8],
     tape: &[u8],
     config: FormatConfig,
@@ -1038,7 +1038,7 @@ fn alter(
 }
 
 // format_union_clause
-fn union_of(
+fn unions(
     source: &[u8],
     tape: &[u8],
     config: FormatConfig,
@@ -1120,8 +1120,8 @@ pub(crate) fn node(
     let r = routine_of(kind);
     match r {
         Routine::File => file(source, tape, config, errors, out, left, at, c),
-        Routine::QueryList => query_list(source, tape, config, errors, out, left, at, c),
-        Routine::SelectStatement => statement(source, tape, config, errors, out, left, at, c),
+        Routine::QueryList => queries(source, tape, config, errors, out, left, at, c),
+        Routine::SelectStatement => query(source, tape, config, errors, out, left, at, c),
         Routine::SelectClause => select(source, tape, config, errors, out, left, at, c),
         Routine::SimpleClause => simple(source, tape, config, errors, out, left, at, c),
         Routine::GroupByClause => list_by(
@@ -1148,25 +1148,25 @@ pub(crate) fn node(
         ),
         Routine::LimitByClause => join(source, tape, config, errors, out, left, at, c),
         Routine::SettingsClause => settings(source, tape, config, errors, out, left, at, c),
-        Routine::WithClause => with_clause(source, tape, config, errors, out, left, at, c),
+        Routine::WithClause => with_of(source, tape, config, errors, out, left, at, c),
         Routine::JoinClause => join(source, tape, config, errors, out, left, at, c),
         Routine::Inline => inline(source, tape, config, errors, out, left, at, c),
         Routine::CommaList => commas(source, tape, config, errors, out, left, at, c),
-        Routine::InlineCommaList => inline_commas(source, tape, config, errors, out, left, at, c),
+        Routine::InlineCommaList => row(source, tape, config, errors, out, left, at, c),
         Routine::BinaryExpression => binary(source, tape, config, errors, out, left, at, c),
         Routine::UnaryExpression => unary(source, tape, config, errors, out, left, at, c),
         Routine::FunctionCall => call(source, tape, config, errors, out, left, at, c),
-        Routine::CaseExpression => case_of(source, tape, config, errors, out, left, at, c),
-        Routine::WhenClause => when_then(source, tape, config, errors, out, left, at, c),
+        Routine::CaseExpression => cases(source, tape, config, errors, out, left, at, c),
+        Routine::WhenClause => when_of(source, tape, config, errors, out, left, at, c),
         Routine::Subquery => subquery(source, tape, config, errors, out, left, at, c),
         Routine::ParenList => parens(source, tape, config, errors, out, left, at, c),
         Routine::BracketList => brackets(source, tape, config, errors, out, left, at, c),
-        Routine::InlineNoSpaces => no_spaces(source, tape, config, errors, out, left, at, c),
+        Routine::InlineNoSpaces => solid(source, tape, config, errors, out, left, at, c),
         Routine::BraceList => braces(source, tape, config, errors, out, left, at, c),
-        Routine::DataType => data_type(source, tape, config, errors, out, left, at, c),
+        Routine::DataType => types(source, tape, config, errors, out, left, at, c),
         Routine::InlineTightParens => tight(source, tape, config, errors, out, left, at, c),
         Routine::AlterCommandList => alter(source, tape, config, errors, out, left, at, c),
-        Routine::UnionClause => union_of(source, tape, config, errors, out, left, at, c),
-        Routine::Passthrough => passthrough(source, tape, config, errors, out, left, at, c),
+        Routine::UnionClause => unions(source, tape, config, errors, out, left, at, c),
+        Routine::Passthrough => pass(source, tape, config, errors, out, left, at, c),
     }
 }

@@ -1,0 +1,35 @@
+-- `query_list_token` meets its contract. Assumes nothing.
+use borrow.Author.Needs.{needs}
+use native.Mathlib.Omega.{arith}
+use borrow.Author.Tests.{ne-eqb}
+use Rattle.tokens.proofs.Runs.{acted, signed}
+use Rattle.layout.specs.Arms.{seen}
+use Rattle.layout.specs.Routines.{queryListToken}
+use Rattle.layout.specs.Tokens.{emitOther}
+use Rattle.clauses.proofs.query_list_token.Statement.{statement}
+use Rattle.clauses.proofs.query_list_token.Tie as tie
+
+write-sign-requires : tie.Need-write-sign-requires
+write-sign-requires c κs = search needs
+
+same-length : tie.Need-same-length
+same-length c = search needs
+
+returns : tie.Need-returns
+unfolding queryListToken seen
+returns c = acted 4 _ (omega arith) (rw (c .before .before .before .before .if1 .taken)) (signed 59 (c .before .before .write-sign .ensures))
+
+emit-other-requires : tie.Need-emit-other-requires
+emit-other-requires c κs = search needs
+
+same-length-2 : tie.Need-same-length-2
+same-length-2 c = search needs
+
+returns-2 : tie.Need-returns-2
+unfolding queryListToken emitOther seen
+returns-2 c = acted 4 _ (omega arith) (rw (ne-eqb _ _ (c .before .before .before .before .if1 .left))) (c .before .before .emit-other .ensures)
+
+pub query-list-token-spec : {M : Type 1} → statement M
+query-list-token-spec =
+    tie.close
+    (tie.spec write-sign-requires same-length returns emit-other-requires same-length-2 returns-2)

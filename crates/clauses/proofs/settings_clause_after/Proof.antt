@@ -1,0 +1,25 @@
+-- `settings_clause_after` meets its contract. Assumes nothing.
+use borrow.Author.Needs.{needs}
+use mathlib.Core.Path.{refl}
+use borrow.Author.Tests.{eq-eqb, ne-eqb}
+use Rattle.tokens.proofs.Choices.{no-silent, silently}
+use Rattle.tokens.proofs.Runs.{did-silent}
+use Rattle.layout.specs.Arms.{dedent}
+use Rattle.layout.specs.Layout.{doSpacing}
+use Rattle.layout.specs.Routines.{formatSettingsClause}
+use Rattle.clauses.proofs.settings_clause_after.Statement.{statement}
+use Rattle.clauses.proofs.settings_clause_after.Tie as tie
+
+dedent-requires : tie.Need-dedent-requires
+dedent-requires c κs = search needs
+
+returns : tie.Need-returns
+unfolding formatSettingsClause doSpacing
+returns c = silently _ (rw (eq-eqb _ _ (c .before .if1 .taken))) (did-silent dedent refl (c .dedent .ensures))
+
+returns-2 : tie.Need-returns-2
+unfolding formatSettingsClause
+returns-2 c = silently _ (rw (ne-eqb _ _ (c .if1 .left))) no-silent
+
+pub settings-clause-after-spec : {M : Type 1} → statement M
+settings-clause-after-spec = tie.close (tie.spec dedent-requires returns returns-2)

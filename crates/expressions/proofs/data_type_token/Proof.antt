@@ -1,0 +1,96 @@
+-- `data_type_token` meets its contract. Assumes nothing.
+use borrow.Author.Needs.{needs}
+use native.Mathlib.Omega.{arith}
+use borrow.Author.Tests.{ne-eqb}
+use Rattle.tokens.proofs.Runs.{acted, as-acts, did-space, signed, then}
+use Rattle.layout.specs.Arms.{seen}
+use Rattle.layout.specs.Routines.{dataTypeToken}
+use Rattle.expressions.proofs.data_type_token.Statement.{statement}
+use Rattle.expressions.proofs.data_type_token.Tie as tie
+
+note-requires : tie.Need-note-requires
+note-requires c κs = search needs
+
+same-length : tie.Need-same-length
+same-length c = search needs
+
+returns : tie.Need-returns
+unfolding dataTypeToken seen
+returns c = acted 4 _ (omega arith) (rw (c .before .before .before .before .if1 .taken)) (c .before .before .note .ensures)
+
+write-sign-requires : tie.Need-write-sign-requires
+write-sign-requires c κs = search needs
+
+write-space-requires : tie.Need-write-space-requires
+write-space-requires c κs = search needs
+
+same-length-2 : tie.Need-same-length-2
+same-length-2 c = search needs
+
+returns-2 : tie.Need-returns-2
+unfolding dataTypeToken seen
+returns-2 c = acted 4 _ (omega arith) (rw (c .before .before .before .before .before .if2 .taken)) (then (signed 44 (c .before .before .before .write-sign .ensures)) (as-acts (did-space (c .write-space .ensures))))
+
+write-sign-requires-2 : tie.Need-write-sign-requires-2
+write-sign-requires-2 c κs = search needs
+
+same-length-3 : tie.Need-same-length-3
+same-length-3 c = search needs
+
+returns-3 : tie.Need-returns-3
+unfolding dataTypeToken seen
+returns-3 c = acted 4 _ (omega arith) (rw (c .before .before .before .before .if3 .taken)) (signed 40 (c .before .before .write-sign2 .ensures))
+
+write-sign-requires-3 : tie.Need-write-sign-requires-3
+write-sign-requires-3 c κs = search needs
+
+same-length-4 : tie.Need-same-length-4
+same-length-4 c = search needs
+
+returns-4 : tie.Need-returns-4
+unfolding dataTypeToken seen
+returns-4 c = acted 4 _ (omega arith) (rw (c .before .before .before .before .if4 .taken)) (signed 41 (c .before .before .write-sign3 .ensures))
+
+emit-comment-requires : tie.Need-emit-comment-requires
+emit-comment-requires c κs = search needs
+
+same-length-5 : tie.Need-same-length-5
+same-length-5 c = search needs
+
+returns-5 : tie.Need-returns-5
+unfolding dataTypeToken seen
+returns-5 c = acted 4 _ (omega arith) (rw (c .before .before .before .before .if5 .taken)) (c .before .before .emit-comment .ensures)
+
+write-text-requires : tie.Need-write-text-requires
+write-text-requires c κs = search needs
+
+same-length-6 : tie.Need-same-length-6
+same-length-6 c = search needs
+
+returns-6 : tie.Need-returns-6
+unfolding dataTypeToken seen
+returns-6 c = acted 4 _ (omega arith) (rw (ne-eqb _ _ (c .before .before .before .before .before .before .before .before .before .before .before .before .if1 .left), ne-eqb _ _ (c .before .before .before .before .before .before .before .before .before .before .if2 .left), ne-eqb _ _ (c .before .before .before .before .before .before .before .before .if3 .left), ne-eqb _ _ (c .before .before .before .before .before .before .if4 .left), ne-eqb _ _ (c .before .before .before .before .if5 .left))) (c .before .before .write-text .ensures)
+
+pub data-type-token-spec : {M : Type 1} → statement M
+data-type-token-spec =
+    tie.close
+    (tie.spec
+    note-requires
+    same-length
+    returns
+    write-sign-requires
+    write-space-requires
+    same-length-2
+    returns-2
+    write-sign-requires-2
+    same-length-3
+    returns-3
+    write-sign-requires-3
+    same-length-4
+    returns-4
+    emit-comment-requires
+    same-length-5
+    returns-5
+    write-text-requires
+    same-length-6
+    returns-6)

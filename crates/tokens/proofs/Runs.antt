@@ -1,0 +1,281 @@
+-- Writes as calls: what a method of the context did is what a call does, and calls in a row. Assumes nothing.
+use Prim.Native.Nat.{ℕ, _+_, _^_, _≤_, _<_}
+use native.Mathlib.Omega.{arith}
+use mathlib.Core.Path.{_≡_, refl, sym, ap, _∙_}
+use mathlib.Core.Bool.{Bool, true, false, cond, not, _&&_}
+use mathlib.Core.List.{List, [], _∷_, _++_, map}
+use lib.ListN.{length, getD, length-append, length-map}
+use lib.Dec.{eqb}
+use borrow.Author.Tests.{eqb-true, ne-eqb, le-leb, lt-leb}
+use Rattle.keywords.specs.Words.{isKeyword, isValueKeyword}
+use Rattle.context.specs.Cells.{Text, Cell, fixed, fresh, bytesOf, tokenText, spanCells, cellInCase, isWhiteSpace}
+use Rattle.context.specs.Trim.{trimmedLength, trimmedAfter}
+use Rattle.context.specs.Context.{Step, afterWrite, lead, writeNewline, writeToken, writeKeyword, writeSpace, noteSkippedWhitespace, takePendingNewline, takePendingBlankLine, indent, dedent, writeRaw, cellIsWhiteSpace}
+use Rattle.context.specs.Store.{Store, advanced, appended, stored, withState, Wrote, Changed}
+use Rattle.context.specs.declared.FormatConfig.{FormatConfig}
+use Rattle.context.specs.declared.FormatterContext.{FormatterContext}
+use Rattle.context.specs.declared.State.{State}
+use Rattle.context.proofs.Splicing.{splice-past}
+use Rattle.context.proofs.Trimming.{trimmed-append}
+use Rattle.context.proofs.Bytes.{bytes-span, token-length, trimmed-bytes, trimmed-cells-in-case}
+use Rattle.context.proofs.Writes.{appended-none, spent-none, spent-twice, stored-token, stored-keyword, stored-raw}
+use Rattle.tape.specs.Kinds.{Whitespace, BareWord}
+use Rattle.tape.specs.declared.Head.{Head}
+use Rattle.layout.specs.Arms as arms
+use Rattle.layout.specs.Arms.{Spacing, Act, spacing, text, keyword, sign, isRead, seen}
+use Rattle.layout.specs.Tokens.{isLineComment, emitComment, emitToken}
+use Rattle.layout.specs.Calls.{Call, on, formatErrorVerbatim}
+use Rattle.layout.specs.Layout.{silent, doSpacing, step}
+use Rattle.layout.specs.Run.{runSpacing, run}
+use Rattle.layout.proofs.Running.{run-append}
+use Rattle.tokens.specs.Promise.{Ran, Silent, Spaced, TokenReady, Acted}
+
+-- ── spacing
+
+module _ {c r : FormatterContext} {xs : List ℕ} where
+  -- only the state changed
+  pub changed : {n : ℕ} {s : State} (x : Spacing) → doSpacing x (c .state) ≡ silent s → Changed n s c r → Spaced n (x ∷ []) c xs r xs
+  changed {s = s} x e d =
+      record { did = ap (λ (q : FormatterContext). (q, xs)) (d .did) ∙ appended-none s c xs ∙ ap (λ (q : Step). stored q (c, xs)) (sym e); spent = d .spent }
+
+  pub did-space : Changed 0 (writeSpace (c .state)) c r → Spaced 0 (arms.space ∷ []) c xs r xs
+  unfolding doSpacing
+  did-space = changed arms.space refl
+
+  pub did-indent : Changed 1 (indent (c .state)) c r → Spaced 1 (arms.indent ∷ []) c xs r xs
+  unfolding doSpacing
+  did-indent = changed arms.indent refl
+
+  pub did-dedent : Changed 0 (dedent (c .state)) c r → Spaced 0 (arms.dedent ∷ []) c xs r xs
+  unfolding doSpacing
+  did-dedent = changed arms.dedent refl
+
+  pub did-newline : {ys : List ℕ} → Wrote 1 (stored (writeNewline (c .state)) (c, xs)) c r ys → Spaced 1 (arms.newline ∷ []) c xs r ys
+  unfolding doSpacing
+  did-newline w = record { did = w .did; spent = w .spent }
+
+-- no byte was written
+pub did-silent : {n : ℕ} {s : State} {c r : FormatterContext} (x : Spacing) → doSpacing x (c .state) ≡ silent s → Changed n s c r → Silent n (x ∷ []) c r
+did-silent x e d = record { did = λ xs. changed x e d .did; spent = d .spent }
+
+pub no-spacing : {c : FormatterContext} {xs : List ℕ} → Spaced 0 [] c xs c xs
+no-spacing = record { did = refl; spent = spent-none }
+
+spacing-append : (x y : List Spacing) (w : Store) → runSpacing (x ++ y) w ≡ runSpacing y (runSpacing x w)
+spacing-append [] y w = refl
+spacing-append (c ∷ x) y w = spacing-append x y _
+
+module _ {m n : ℕ} {c r q : FormatterContext} {xs ys zs : List ℕ} where
+  -- one after the other
+  pub both : {x y : List Spacing} → Spaced m x c xs r ys → Spaced n y r ys q zs → Spaced (m + n) (x ++ y) c xs q zs
+  both {x} {y} a b =
+      record {
+        did = b .did ∙ ap (runSpacing y) (a .did) ∙ sym (spacing-append x y (c, xs));
+        spent = spent-twice (a .spent) (b .spent);
+      }
+
+module _ {n : ℕ} {c r : FormatterContext} {xs ys : List ℕ} where
+  -- at most n is at most m; the spacing is another name for the same
+  pub spaced : {x : List Spacing} (m : ℕ) (y : List Spacing) → n ≤ m → y ≡ x → Spaced n x c xs r ys → Spaced m y c xs r ys
+  spaced m y h e d =
+      record { did = d .did ∙ ap (λ (l : List Spacing). runSpacing l (c, xs)) (sym e); spent = record { level = omega arith; length = omega arith } }
+
+-- ── acts at a token
+
+module _ (config : FormatConfig) (source : Text) (token : Head) where
+  on-spacing : (x : List Spacing) (w : Store) → run config source (map (on token) (map spacing x)) w ≡ runSpacing x w
+  unfolding step
+  on-spacing [] w = refl
+  on-spacing (y ∷ x) w = on-spacing x _
+
+  map-append : (x y : List Act) → map (on token) (x ++ y) ≡ map (on token) x ++ map (on token) y
+  map-append [] y = refl
+  map-append (a ∷ x) y = ap {B = List Call} (λ r. on token a ∷ r) (map-append x y)
+
+  run-acts : (x y : List Act) (w : Store) → run config source (map (on token) (x ++ y)) w ≡ run config source (map (on token) y) (run config source (map (on token) x) w)
+  run-acts x y w = ap (λ (l : List Call). run config source l w) (map-append x y) ∙ run-append config source (map (on token) x) (map (on token) y) w
+
+module _ {config : FormatConfig} {source : Text} {token : Head} {c r : FormatterContext} {xs ys : List ℕ} where
+  pub as-acts : {n : ℕ} {x : List Spacing} → Spaced n x c xs r ys → Acted n config source token (map spacing x) c xs r ys
+  as-acts {x = x} d = record { did = d .did ∙ sym (on-spacing config source token x (c, xs)); spent = d .spent }
+
+  pub signed : (b : ℕ) → Wrote 1 (stored (writeToken config (fresh b ∷ []) (c .state)) (c, xs)) c r ys → Acted 1 config source token (sign b ∷ []) c xs r ys
+  unfolding step
+  signed b w = record { did = w .did; spent = w .spent }
+
+  module _ (bs : List ℕ) (e : bs ≡ tokenText source (token .start) (token .end)) where
+    pub texted : Wrote 1 (stored (writeToken config (fixed bs) (c .state)) (c, xs)) c r ys → Acted 1 config source token (text ∷ []) c xs r ys
+    unfolding step
+    texted w = record { did = w .did ∙ stored-token (spanCells source (token .start) (token .end)) bs (bytes-span source (token .start) (token .end) ∙ sym e) (c .state) (c, xs) config; spent = w .spent }
+
+    pub cased : Wrote 1 (stored (writeKeyword config (fixed bs) (c .state)) (c, xs)) c r ys → Acted 1 config source token (keyword ∷ []) c xs r ys
+    unfolding step
+    cased w = record { did = w .did ∙ stored-keyword (spanCells source (token .start) (token .end)) bs (bytes-span source (token .start) (token .end) ∙ sym e) (c .state) (c, xs) config; spent = w .spent }
+
+  -- one after the other
+  pub then : {m n : ℕ} {x y : List Act} {q : FormatterContext} {zs : List ℕ} → Acted m config source token x c xs r ys → Acted n config source token y r ys q zs
+      → Acted (m + n) config source token (x ++ y) c xs q zs
+  then {x = x} {y = y} a b =
+      record {
+        did = b .did ∙ ap (run config source (map (on token) y)) (a .did) ∙ sym (run-acts config source token x y (c, xs));
+        spent = spent-twice (a .spent) (b .spent);
+      }
+
+  -- at most n is at most m; the acts are what the routine does
+  pub acted : {n : ℕ} {x : List Act} (m : ℕ) (y : List Act) → n ≤ m → y ≡ x → Acted n config source token x c xs r ys → Acted m config source token y c xs r ys
+  acted m y h e d =
+      record { did = d .did ∙ ap (λ (l : List Act). run config source (map (on token) l) (c, xs)) (sym e); spent = record { level = omega arith; length = omega arith } }
+
+module _ {config : FormatConfig} {source : Text} {token : Head} {c : FormatterContext} {xs : List ℕ} where
+  pub no-acts : Acted 0 config source token [] c xs c xs
+  no-acts = record { did = refl; spent = spent-none }
+
+  pub noted : {r : FormatterContext} (bs : List ℕ) → Changed 0 (noteSkippedWhitespace bs (c .state)) c r → Acted 0 config source token (spacing (arms.note bs) ∷ []) c xs r xs
+  unfolding doSpacing
+  noted bs d = as-acts (changed (arms.note bs) refl d)
+
+-- a span's text is no longer than the text
+pub text-fits : {n : ℕ} {source bs : List ℕ} {config : FormatConfig} {token : Head} {c : FormatterContext} → TokenReady n source config token c
+    → bs ≡ tokenText source (token .start) (token .end) → length bs ≤ 2 ^ 18
+text-fits {source = source} {token = token} p e =
+    omega (arith, ap length e, token-length source (token .start) (token .end) (p .ordered) (p .within), p .within, p .text-fits)
+
+-- the token's text is noted
+pub as-note : {config : FormatConfig} {source bs : List ℕ} {token : Head} {c r : FormatterContext} {xs : List ℕ} → bs ≡ tokenText source (token .start) (token .end)
+    → Changed 0 (noteSkippedWhitespace bs (c .state)) c r
+    → Acted 0 config source token (spacing (arms.note (tokenText source (token .start) (token .end))) ∷ []) c xs r xs
+as-note {bs = bs} e d = acted 0 _ (omega arith) (ap (λ (l : List ℕ). spacing (arms.note l) ∷ []) (sym e)) (noted bs d)
+
+-- ── spacing that reads the state
+
+module _ {x : Spacing} {t : State} {c next r : FormatterContext} {xs ys : List ℕ} where
+  -- a newline after another change of the state
+  pub newline-after : doSpacing x (c .state) ≡ writeNewline t → Changed 0 t c next → Wrote 1 (stored (writeNewline (next .state)) (next, xs)) next r ys
+      → Spaced 1 (x ∷ []) c xs r ys
+  unfolding appended
+  newline-after e d w =
+      record {
+        did = w .did ∙ ap (λ (q : FormatterContext). stored (writeNewline (q .state)) (q, xs)) (d .did) ∙ ap (λ (q : Step). stored q (c, xs)) (sym e);
+        spent = spent-twice (d .spent) (w .spent);
+      }
+
+-- a change after another
+pub changed-after : {n : ℕ} {t : State} {c next r : FormatterContext} (f : State → State) → Changed 0 t c next → Changed n (f (next .state)) next r → Changed n (f t) c r
+changed-after f d e = record { did = e .did ∙ ap (λ (q : FormatterContext). withState (f (q .state)) q) (d .did); spent = record { level = omega (arith, d .spent .level, e .spent .level); length = omega (arith, d .spent .length, e .spent .length) } }
+
+module _ (s : State) where
+  pub line-held : takePendingNewline s .0 ≡ true → takePendingNewline s .1 .«at_line_start» ≡ true → doSpacing arms.lineOrSpace s ≡ silent (takePendingNewline s .1)
+  unfolding doSpacing
+  line-held e f = rw (e, f)
+
+  pub line-written : takePendingNewline s .0 ≡ true → takePendingNewline s .1 .«at_line_start» ≡ false → doSpacing arms.lineOrSpace s ≡ writeNewline (takePendingNewline s .1)
+  unfolding doSpacing
+  line-written e f = rw (e, f)
+
+  pub line-space : takePendingNewline s .0 ≡ false → doSpacing arms.lineOrSpace s ≡ silent (writeSpace (takePendingNewline s .1))
+  unfolding doSpacing
+  line-space e = rw e
+
+  pub blank-held : takePendingBlankLine s .0 ≡ false → doSpacing arms.blankLine s ≡ silent (takePendingBlankLine s .1)
+  unfolding doSpacing
+  blank-held e = rw e
+
+  pub blank-written : takePendingBlankLine s .0 ≡ true → doSpacing arms.blankLine s ≡ writeNewline (takePendingBlankLine s .1)
+  unfolding doSpacing
+  blank-written e = rw e
+
+  pub comment-start : takePendingBlankLine s .0 ≡ true → takePendingBlankLine s .1 .«at_line_start» ≡ true
+      → doSpacing arms.blankLineBeforeComment s ≡ silent (takePendingBlankLine s .1)
+  unfolding doSpacing
+  comment-start e f = rw (e, f)
+
+  pub comment-written : takePendingBlankLine s .0 ≡ true → takePendingBlankLine s .1 .«at_line_start» ≡ false
+      → doSpacing arms.blankLineBeforeComment s ≡ writeNewline (takePendingBlankLine s .1)
+  unfolding doSpacing
+  comment-written e f = rw (e, f)
+
+  pub comment-held : takePendingBlankLine s .0 ≡ false → doSpacing arms.blankLineBeforeComment s ≡ silent (takePendingBlankLine s .1)
+  unfolding doSpacing
+  comment-held e = rw e
+
+-- line start, as the code reads it after a mark was taken
+pub start-is : {t : State} {c next : FormatterContext} {b : Bool} → Changed 0 t c next → b ≡ next .state .«at_line_start» → t .«at_line_start» ≡ b
+start-is d e = sym (e ∙ ap (λ (q : FormatterContext). q .state .«at_line_start») (d .did))
+
+-- ── emit_comment, emit_token
+
+pub line-short : (b : List ℕ) → length b < 2 → isLineComment b ≡ false
+unfolding isLineComment
+line-short [] h = refl
+line-short (x ∷ []) h = refl
+line-short (x ∷ y ∷ b) h = absurd (omega arith)
+
+pub line-at : (b : List ℕ) → 2 ≤ length b → isLineComment b ≡ (eqb (getD b 0 0) 45 && eqb (getD b 1 0) 45)
+unfolding isLineComment
+line-at [] h = absurd (omega arith)
+line-at (x ∷ []) h = absurd (omega arith)
+line-at (x ∷ y ∷ b) h = refl
+
+pub line-last : (b : List ℕ) → 2 ≤ length b → getD b 0 0 ≡ 45 → eqb (getD b 1 0) 45 ≡ isLineComment b
+line-last b h e = sym (line-at b h ∙ ap (λ (n : ℕ). eqb n 45 && eqb (getD b 1 0) 45) e)
+
+pub comment-acts : (b bs : List ℕ) (t : Bool) → bs ≡ b → isLineComment bs ≡ t → emitComment b ≡ spacing arms.lineOrSpace ∷ text ∷ cond t (spacing arms.newline ∷ []) []
+unfolding emitComment
+comment-acts b bs t e f = rw (← e, f)
+
+-- the case of a bare word is changed
+abbrev pub changesCase : ℕ → List ℕ → Bool
+changesCase k b = eqb k BareWord && (isKeyword b && not (isValueKeyword b))
+
+pub token-acts : (source : Text) (token : Head) → (token .kind ≡ Whitespace → ⊥)
+    → emitToken (seen source token) ≡ cond (changesCase (token .kind) (tokenText source (token .start) (token .end))) (keyword ∷ []) (text ∷ [])
+unfolding emitToken seen
+token-acts source token h =
+    ap (λ (t : Bool). cond t [] (cond (changesCase (token .kind) bytes) (keyword ∷ []) (text ∷ []))) (ne-eqb (token .kind) Whitespace h) ∙ go (eqb (token .kind) BareWord) refl
+  where
+    whole : List ℕ
+    whole = tokenText source (token .start) (token .end)
+
+    bytes : List ℕ
+    bytes = cond (isRead (token .kind)) whole []
+
+    go : (t : Bool) → eqb (token .kind) BareWord ≡ t
+        → cond (t && (isKeyword bytes && not (isValueKeyword bytes))) (keyword ∷ []) (text ∷ []) ≡ cond (t && (isKeyword whole && not (isValueKeyword whole))) (keyword ∷ []) (text ∷ [])
+    go true e = rw (eqb-true (token .kind) BareWord e)
+    go false e = refl
+
+-- where the space is full the case does not matter
+pub full-case : (config : FormatConfig) (cs : List Cell) (s : State) (c : FormatterContext) (xs : List ℕ) → length xs ≤ c .position .length
+    → stored (writeToken config cs s) (c, xs) ≡ stored (writeKeyword config cs s) (c, xs)
+unfolding writeKeyword writeToken appended advanced
+full-case config cs s c xs h =
+    let u = config .«uppercase_keywords» in
+    let l = lead config s in
+    let ds = map (cellInCase u) cs in
+    let n : length (bytesOf (l ++ cs)) ≡ length (bytesOf (l ++ ds)) = rw (length-map, length-map, length-append, length-append, length-map) in
+    let k : trimmedLength isWhiteSpace (bytesOf (l ++ cs)) ≡ trimmedLength isWhiteSpace (bytesOf (l ++ ds)) =
+    rw (trimmed-bytes (l ++ cs), trimmed-bytes (l ++ ds), trimmed-append cellIsWhiteSpace l cs, trimmed-append cellIsWhiteSpace l ds, trimmed-cells-in-case u cs) in
+    let p = splice-past (c .position .length) (bytesOf (l ++ cs)) xs h ∙ sym (splice-past (c .position .length) (bytesOf (l ++ ds)) xs h) in
+    λ i. (record { state = afterWrite false s; position = record { length = c .position .length + n i; trimmed = trimmedAfter (c .position .length) (c .position .trimmed) (k i) } }, p i)
+
+module _ {config : FormatConfig} {source : Text} {token : Head} {c r : FormatterContext} {xs ys : List ℕ} (bs : List ℕ) (e : bs ≡ tokenText source (token .start) (token .end)) where
+  pub full-text : (b : Bool) → length xs ≤ c .position .length → Wrote 1 (stored (writeToken config (fixed bs) (c .state)) (c, xs)) c r ys
+      → Acted 1 config source token (cond b (keyword ∷ []) (text ∷ [])) c xs r ys
+  full-text true h w = cased bs e (record { did = w .did ∙ full-case config (fixed bs) (c .state) c xs h; spent = w .spent })
+  full-text false h w = texted bs e w
+
+-- ── format_error_verbatim
+
+module _ {config : FormatConfig} {source : Text} (node : Head) {c : FormatterContext} {xs : List ℕ} where
+  pub copied-none : node .end < node .start → Ran 1 config source (formatErrorVerbatim node) c xs c xs
+  unfolding formatErrorVerbatim
+  copied-none h = rw (lt-leb (node .start) (node .end) h) record { did = refl; spent = record { level = omega arith; length = omega arith } }
+
+  pub copied-raw : {r : FormatterContext} {ys : List ℕ} (bs : List ℕ) → bs ≡ tokenText source (node .start) (node .end) → node .start ≤ node .end
+      → Wrote 1 (stored (writeRaw (fixed bs) (c .state)) (c, xs)) c r ys → Ran 1 config source (formatErrorVerbatim node) c xs r ys
+  unfolding formatErrorVerbatim step
+  copied-raw bs e h w =
+      rw (le-leb (node .start) (node .end) h) record {
+        did = w .did ∙ stored-raw (spanCells source (node .start) (node .end)) bs (bytes-span source (node .start) (node .end) ∙ sym e) (c .state) (c, xs);
+        spent = w .spent;
+      }

@@ -1,0 +1,41 @@
+-- `emit_other` meets its contract. Assumes nothing.
+use borrow.Author.Needs.{needs}
+use mathlib.Core.Path.{sym, _∙_}
+use native.Mathlib.Omega.{arith}
+use Rattle.tokens.proofs.Runs.{acted}
+use Rattle.tokens.proofs.Choices.{other-trivia, other-token}
+use Rattle.tokens.proofs.emit_other.Statement.{statement}
+use Rattle.tokens.proofs.emit_other.Tie as tie
+
+is-trivia-requires : tie.Need-is-trivia-requires
+is-trivia-requires c κs = search needs
+
+emit-trivia-requires : tie.Need-emit-trivia-requires
+emit-trivia-requires c κs = search needs
+
+same-length : tie.Need-same-length
+same-length c = search needs
+
+returns : tie.Need-returns
+returns c = acted 4 _ (omega arith) (other-trivia _ _ (sym (c .before .before .before .before .before .is-trivia .ensures) ∙ c .before .before .before .before .if1 .taken)) (c .before .before .emit-trivia .ensures)
+
+emit-token-requires : tie.Need-emit-token-requires
+emit-token-requires c κs = search needs
+
+same-length-2 : tie.Need-same-length-2
+same-length-2 c = search needs
+
+returns-2 : tie.Need-returns-2
+returns-2 c = acted 4 _ (omega arith) (other-token _ _ (sym (c .before .before .before .before .before .is-trivia .ensures) ∙ c .before .before .before .before .if1 .left)) (c .before .before .emit-token .ensures)
+
+pub emit-other-spec : {M : Type 1} → statement M
+emit-other-spec =
+    tie.close
+    (tie.spec
+    is-trivia-requires
+    emit-trivia-requires
+    same-length
+    returns
+    emit-token-requires
+    same-length-2
+    returns-2)

@@ -1,0 +1,34 @@
+-- `emit_uncommented` meets its contract. Assumes nothing.
+use borrow.Author.Needs.{needs}
+use native.Mathlib.Omega.{arith}
+use borrow.Author.Tests.{ne-eqb}
+use Rattle.tokens.proofs.Runs.{acted}
+use Rattle.tokens.specs.Promise.{emitUncommented}
+use Rattle.layout.specs.Arms.{seen}
+use Rattle.tokens.proofs.emit_uncommented.Statement.{statement}
+use Rattle.tokens.proofs.emit_uncommented.Tie as tie
+
+emit-trivia-requires : tie.Need-emit-trivia-requires
+emit-trivia-requires c κs = search needs
+
+same-length : tie.Need-same-length
+same-length c = search needs
+
+returns : tie.Need-returns
+unfolding emitUncommented seen
+returns c = acted 4 _ (omega arith) (rw (c .before .before .before .before .if1 .taken)) (c .before .before .emit-trivia .ensures)
+
+emit-token-requires : tie.Need-emit-token-requires
+emit-token-requires c κs = search needs
+
+same-length-2 : tie.Need-same-length-2
+same-length-2 c = search needs
+
+returns-2 : tie.Need-returns-2
+unfolding emitUncommented seen
+returns-2 c = acted 4 _ (omega arith) (rw (ne-eqb _ _ (c .before .before .before .before .if1 .left))) (c .before .before .emit-token .ensures)
+
+pub emit-uncommented-spec : {M : Type 1} → statement M
+emit-uncommented-spec =
+    tie.close
+    (tie.spec emit-trivia-requires same-length returns emit-token-requires same-length-2 returns-2)

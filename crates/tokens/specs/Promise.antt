@@ -1,0 +1,59 @@
+-- What the functions of this crate ask and promise. Assumes nothing: these are definitions.
+use Prim.Native.Nat.{ℕ, _≤_}
+use mathlib.Core.Path.{_≡_}
+use mathlib.Core.Bool.{Bool, cond}
+use mathlib.Core.List.{List, [], _∷_, map}
+use lib.ListN.{length}
+use Rattle.context.specs.Cells.{Text}
+use Rattle.context.specs.Store.{Store, Room, Spent}
+use Rattle.context.specs.declared.FormatConfig.{FormatConfig}
+use Rattle.context.specs.declared.FormatterContext.{FormatterContext}
+use Rattle.tape.specs.Kinds
+use Rattle.tape.specs.declared.Head.{Head}
+use Rattle.layout.specs.declared.Local.{Local}
+use Rattle.layout.specs.Arms.{Spacing, Act, Seen, seen, match}
+use Rattle.layout.specs.Tokens.{noteSkippedWhitespace, emitComment, emitToken}
+use Rattle.layout.specs.Calls.{Call, on}
+use Rattle.layout.specs.Run.{runSpacing, run}
+use Rattle.tokens.specs.declared.Arm.{Arm}
+
+-- r and ys are what the calls make of c and xs; they are at most n writes or indents
+pub record Ran (n : ℕ) (config : FormatConfig) (source : Text) (calls : List Call) (c : FormatterContext) (xs : List ℕ) (r : FormatterContext) (ys : List ℕ) : Type 0 where
+  pub did : _≡_ {A = Store} (r, ys) (run config source calls (c, xs))
+  pub spent : Spent n c r
+
+-- the same of spacing alone
+pub record Spaced (n : ℕ) (spacing : List Spacing) (c : FormatterContext) (xs : List ℕ) (r : FormatterContext) (ys : List ℕ) : Type 0 where
+  pub did : _≡_ {A = Store} (r, ys) (runSpacing spacing (c, xs))
+  pub spent : Spent n c r
+
+-- the same where no byte is written
+pub record Silent (n : ℕ) (spacing : List Spacing) (c r : FormatterContext) : Type 0 where
+  pub did : (xs : List ℕ) → _≡_ {A = Store} (r, xs) (runSpacing spacing (c, xs))
+  pub spent : Spent n c r
+
+-- a token of a checked tape and limits that the entry tests, with room for n writes
+pub record TokenReady (n : ℕ) (source : Text) (config : FormatConfig) (token : Head) (c : FormatterContext) : Type 0 where
+  pub text-fits : length source ≤ 262144
+  pub width-fits : config .«indent_width» ≤ 16
+  pub ordered : token .start ≤ token .end
+  pub within : token .end ≤ length source
+  pub room : Room n c
+
+-- the acts were done at the token
+pub record Acted (n : ℕ) (config : FormatConfig) (source : Text) (token : Head) (acts : List Act) (c : FormatterContext) (xs : List ℕ) (r : FormatterContext) (ys : List ℕ) : Type 0 where
+  pub did : _≡_ {A = Store} (r, ys) (run config source (map (on token) acts) (c, xs))
+  pub spent : Spent n c r
+
+-- what a routine does at the token was done, and its local variables were set
+pub record TokenDone (config : FormatConfig) (source : Text) (atToken : Local → Seen → Local × List Act) (l : Local) (token : Head) (c : FormatterContext) (xs : List ℕ) (a : Arm) (ys : List ℕ) : Type 0 where
+  pub acted : Acted 4 config source token ((atToken l (seen source token)) .1) c xs (a .context) ys
+  pub local : a .local ≡ (atToken l (seen source token)) .0
+
+-- the arms of a routine without a comment arm, but for its own
+unfoldable pub emitUncommented : Seen → List Act
+emitUncommented t = match (t .kind) ((Kinds.Whitespace, noteSkippedWhitespace (t .bytes)) ∷ []) (emitToken t)
+
+-- white space, or a comment
+abbrev pub emitTrivia : Bool → List ℕ → List Act
+emitTrivia white b = cond white (noteSkippedWhitespace b) (emitComment b)

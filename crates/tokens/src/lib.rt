@@ -1,0 +1,366 @@
+// The token helpers of format_node.rs.
+use context::FormatConfig;
+use context::FormatterContext;
+use context::token_text;
+use keywords::is_keyword;
+use keywords::is_value_keyword;
+use layout::Local;
+use layout::PrevKind;
+use tape::Head;
+use tape::syntax_kind;
+ghost use mathlib.Core.Path.{_≡_};
+ghost use mathlib.Core.Bool.{not, _&&_, _||_};
+ghost use mathlib.Core.List.{[], _∷_};
+ghost use Prim.Native.Nat.{_≤_};
+ghost use lib.ListN.{length};
+ghost use Rattle.context.specs.Store.{Room};
+ghost use lib.Dec.{eqb};
+ghost use Rattle.context.specs.Cells.{tokenText};
+ghost use Rattle.keywords.specs.Words.{isKeyword, isValueKeyword};
+ghost use Rattle.tape.specs.Kinds.{BareWord, Comment, Whitespace};
+ghost use Rattle.layout.specs.Arms.{blankLine, blankLineBeforeComment, keyword, lineOrSpace, seen, text};
+ghost use Rattle.layout.specs.Calls.{formatErrorVerbatim};
+ghost use Rattle.layout.specs.Routines.{nameBefore, spaceAfter, spaceIf};
+ghost use Rattle.layout.specs.Tokens.{emitComment, emitOther, emitToken, isLineComment, isOperator, noSpaceAfter, noSpaceBefore, noteSkippedWhitespace};
+ghost use Rattle.tokens.specs.Promise.{Acted, Ran, Silent, Spaced, TokenReady, emitTrivia, emitUncommented};
+
+// After a token: the context, and the routine's local variables.
+pub struct Arm {
+    pub context: FormatterContext,
+    pub local: Local,
+}
+
+// Keys of one arm that are neighbours would become ranges, so they stand in two.
+pub fn no_space_before(kind: u16) -> bool
+    ensures { λ r. ⌜ r ≡ noSpaceBefore kind ⌝ }
+{
+    match kind {
+        syntax_kind::COMMA
+        | syntax_kind::CLOSING_ROUND_BRACKET
+        | syntax_kind::CLOSING_SQUARE_BRACKET
+        | syntax_kind::DOT
+        | syntax_kind::DOUBLE_COLON => true,
+        syntax_kind::SEMICOLON | syntax_kind::CLOSING_CURLY_BRACE => true,
+        _ => false,
+    }
+}
+
+pub fn no_space_after(kind: u16) -> bool
+    ensures { λ r. ⌜ r ≡ noSpaceAfter kind ⌝ }
+{
+    match kind {
+        syntax_kind::OPENING_ROUND_BRACKET
+        | syntax_kind::OPENING_SQUARE_BRACKET
+        | syntax_kind::OPENING_CURLY_BRACE
+        | syntax_kind::DOT
+        | syntax_kind::DOUBLE_COLON
+        | syntax_kind::AT => true,
+        syntax_kind::DOUBLE_AT => true,
+        _ => false,
+    }
+}
+
+pub fn is_operator(kind: u16) -> bool
+    ensures { λ r. ⌜ r ≡ isOperator kind ⌝ }
+{
+    match kind {
+        syntax_kind::PLUS
+        | syntax_kind::STAR
+        | syntax_kind::SLASH
+        | syntax_kind::EQUALS
+        | syntax_kind::LESS
+        | syntax_kind::LESS_OR_EQUALS
+        | syntax_kind::SPACESHIP
+        | syntax_kind::CONCATENATION => true,
+        syntax_kind::MINUS
+        | syntax_kind::PERCENT
+        | syntax_kind::NOT_EQUALS
+        | syntax_kind::GREATER
+        | syntax_kind::GREATER_OR_EQUALS => true,
+        _ => false,
+    }
+}
+
+// Whether something went before that may be followed by a space.
+pub fn space_after(prev: PrevKind) -> bool
+    ensures { λ r. ⌜ r ≡ spaceAfter prev ⌝ }
+{
+    match prev {
+        PrevKind::Nothing => false,
+        PrevKind::Kind(kind) => !no_space_after(kind),
+    }
+}
+
+// Whether a name went before.
+pub fn name_before(prev: PrevKind) -> bool
+    ensures { λ r. ⌜ r ≡ nameBefore prev ⌝ }
+{
+    match prev {
+        PrevKind::Nothing => false,
+        PrevKind::Kind(kind) => {
+            if kind == syntax_kind::BARE_WORD {
+                return true;
+            }
+            kind == syntax_kind::QUOTED_IDENTIFIER
+        }
+    }
+}
+
+// write_space where it is wanted.
+pub fn space_if(ctx: FormatterContext, wanted: bool) -> FormatterContext
+    ensures { λ r. ⌜ Silent 0 (spaceIf wanted) ctx r ⌝ }
+{
+    if wanted {
+        return ctx.write_space();
+    }
+    ctx
+}
+
+// note_skipped_whitespace of the token's text.
+pub fn note(
+    source: &[u8],
+    config: FormatConfig,
+    out: &mut [u8],
+    ctx: FormatterContext,
+    token: Head,
+) -> FormatterContext
+    requires { ⌜ TokenReady 0 (now source) config token ctx ⌝ }
+    ensures { λ r. ⌜ Acted 0 config (now (source .entry)) token (noteSkippedWhitespace (tokenText (now (source .entry)) (token .start) (token .end))) ctx (now (out .entry)) r (now (out .exit)) ⌝ }
+{
+    let start = token.start;
+    let end = token.end;
+    let text = token_text(source, start, end);
+    ctx.note_skipped_whitespace(text)
+}
+
+// write_token of the token's text.
+pub fn write_text(
+    source: &[u8],
+    config: FormatConfig,
+    out: &mut [u8],
+    ctx: FormatterContext,
+    token: Head,
+) -> FormatterContext
+    requires { ⌜ TokenReady 1 (now source) config token ctx ⌝ }
+    ensures { λ r. ⌜ Acted 1 config (now (source .entry)) token (text ∷ []) ctx (now (out .entry)) r (now (out .exit)) ⌝ }
+{
+    let start = token.start;
+    let end = token.end;
+    let text = token_text(source, start, end);
+    ctx.write_token(config, out, text)
+}
+
+// write_keyword of the token's text.
+pub fn write_word(
+    source: &[u8],
+    config: FormatConfig,
+    out: &mut [u8],
+    ctx: FormatterContext,
+    token: Head,
+) -> FormatterContext
+    requires { ⌜ TokenReady 1 (now source) config token ctx ⌝ }
+    ensures { λ r. ⌜ Acted 1 config (now (source .entry)) token (keyword ∷ []) ctx (now (out .entry)) r (now (out .exit)) ⌝ }
+{
+    let start = token.start;
+    let end = token.end;
+    let text = token_text(source, start, end);
+    ctx.write_keyword(config, out, text)
+}
+
+fn is_line_comment(text: &[u8]) -> bool
+    ensures { λ r. ⌜ r ≡ isLineComment (now (text .entry)) ⌝ }
+{
+    if text.len() < 2 {
+        return false;
+    }
+    if text[0] != 45 {
+        return false;
+    }
+    text[1] == 45
+}
+
+// A pending newline, unless at line start; else a space.
+fn line_or_space(out: &mut [u8], ctx: FormatterContext) -> FormatterContext
+    requires { ⌜ Room 1 ctx ⌝ }
+    ensures { λ r. ⌜ Spaced 1 (lineOrSpace ∷ []) ctx (now (out .entry)) r (now (out .exit)) ⌝ }
+{
+    let taken = ctx.take_pending_newline();
+    let next = taken.context;
+    if taken.mark {
+        if next.is_at_line_start() {
+            return next;
+        }
+        return next.write_newline(out);
+    }
+    next.write_space()
+}
+
+pub fn emit_comment(
+    source: &[u8],
+    config: FormatConfig,
+    out: &mut [u8],
+    ctx: FormatterContext,
+    token: Head,
+) -> FormatterContext
+    requires { ⌜ TokenReady 3 (now source) config token ctx ⌝ }
+    ensures { λ r. ⌜ Acted 3 config (now (source .entry)) token (emitComment (tokenText (now (source .entry)) (token .start) (token .end))) ctx (now (out .entry)) r (now (out .exit)) ⌝ }
+{
+    let a = line_or_space(out, ctx);
+    let b = write_text(source, config, out, a, token);
+    let start = token.start;
+    let end = token.end;
+    let text = token_text(source, start, end);
+    if is_line_comment(text) {
+        return b.write_newline(out);
+    }
+    b
+}
+
+// Whether emit_token changes the case: a bare word on the list that is no value.
+fn is_cased(kind: u16, text: &[u8]) -> bool
+    ensures { λ r. ⌜ r ≡ (eqb kind BareWord && (isKeyword (now (text .entry)) && not (isValueKeyword (now (text .entry))))) ⌝ }
+{
+    if kind != syntax_kind::BARE_WORD {
+        return false;
+    }
+    if is_keyword(text) {
+        return !is_value_keyword(text);
+    }
+    false
+}
+
+// Where nothing is written any more the case does not matter, and the list is not looked at.
+pub fn emit_token(
+    source: &[u8],
+    config: FormatConfig,
+    out: &mut [u8],
+    ctx: FormatterContext,
+    token: Head,
+) -> FormatterContext
+    requires { ⌜ TokenReady 1 (now source) config token ctx ⌝ }
+    ensures { λ r. ⌜ Acted 1 config (now (source .entry)) token (emitToken (seen (now (source .entry)) token)) ctx (now (out .entry)) r (now (out .exit)) ⌝ }
+{
+    if token.kind == syntax_kind::WHITESPACE {
+        return ctx;
+    }
+    let start = token.start;
+    let end = token.end;
+    let text = token_text(source, start, end);
+    let p = ctx.position;
+    if out.len() <= p.length {
+        return ctx.write_token(config, out, text);
+    }
+    if is_cased(token.kind, text) {
+        return ctx.write_keyword(config, out, text);
+    }
+    ctx.write_token(config, out, text)
+}
+
+// White space, else a comment. On its own, so that the two below stay small and a token costs one call.
+pub fn emit_trivia(
+    source: &[u8],
+    config: FormatConfig,
+    out: &mut [u8],
+    ctx: FormatterContext,
+    token: Head,
+) -> FormatterContext
+    requires { ⌜ TokenReady 3 (now source) config token ctx ⌝ }
+    ensures { λ r. ⌜ Acted 3 config (now (source .entry)) token (emitTrivia (eqb (token .kind) Whitespace) (tokenText (now (source .entry)) (token .start) (token .end))) ctx (now (out .entry)) r (now (out .exit)) ⌝ }
+{
+    if token.kind == syntax_kind::WHITESPACE {
+        return note(source, config, out, ctx, token);
+    }
+    emit_comment(source, config, out, ctx, token)
+}
+
+fn is_trivia(kind: u16) -> bool
+    ensures { λ r. ⌜ r ≡ (eqb kind Whitespace || eqb kind Comment) ⌝ }
+{
+    if kind == syntax_kind::WHITESPACE {
+        return true;
+    }
+    kind == syntax_kind::COMMENT
+}
+
+// The arms that most routines share: white space, comments, and any other token.
+pub fn emit_other(
+    source: &[u8],
+    config: FormatConfig,
+    out: &mut [u8],
+    ctx: FormatterContext,
+    token: Head,
+) -> FormatterContext
+    requires { ⌜ TokenReady 4 (now source) config token ctx ⌝ }
+    ensures { λ r. ⌜ Acted 4 config (now (source .entry)) token (emitOther (seen (now (source .entry)) token)) ctx (now (out .entry)) r (now (out .exit)) ⌝ }
+{
+    if is_trivia(token.kind) {
+        return emit_trivia(source, config, out, ctx, token);
+    }
+    emit_token(source, config, out, ctx, token)
+}
+
+// The same in a routine without a comment arm.
+pub fn emit_uncommented(
+    source: &[u8],
+    config: FormatConfig,
+    out: &mut [u8],
+    ctx: FormatterContext,
+    token: Head,
+) -> FormatterContext
+    requires { ⌜ TokenReady 4 (now source) config token ctx ⌝ }
+    ensures { λ r. ⌜ Acted 4 config (now (source .entry)) token (emitUncommented (seen (now (source .entry)) token)) ctx (now (out .entry)) r (now (out .exit)) ⌝ }
+{
+    if token.kind == syntax_kind::WHITESPACE {
+        return emit_trivia(source, config, out, ctx, token);
+    }
+    emit_token(source, config, out, ctx, token)
+}
+
+// The text of a node whose span, if it does not run backwards, lies within the text.
+pub fn format_error_verbatim(
+    source: &[u8],
+    config: FormatConfig,
+    out: &mut [u8],
+    ctx: FormatterContext,
+    node: Head,
+) -> FormatterContext
+    requires { ⌜ (length (now source) ≤ 262144) × (node .start ≤ node .end → node .end ≤ length (now source)) × Room 1 ctx ⌝ }
+    ensures { λ r. ⌜ Ran 1 config (now (source .entry)) (formatErrorVerbatim node) ctx (now (out .entry)) r (now (out .exit)) ⌝ }
+{
+    if node.end < node.start {
+        return ctx;
+    }
+    let start = node.start;
+    let end = node.end;
+    let text = token_text(source, start, end);
+    ctx.write_raw(out, text)
+}
+
+// format_file before its first node: a newline if a blank line is pending.
+pub fn blank_line(out: &mut [u8], ctx: FormatterContext) -> FormatterContext
+    requires { ⌜ Room 1 ctx ⌝ }
+    ensures { λ r. ⌜ Spaced 1 (blankLine ∷ []) ctx (now (out .entry)) r (now (out .exit)) ⌝ }
+{
+    let taken = ctx.take_pending_blank_line();
+    let next = taken.context;
+    if taken.mark {
+        return next.write_newline(out);
+    }
+    next
+}
+
+// format_file before a comment: the same, unless at line start.
+pub fn blank_line_before_comment(out: &mut [u8], ctx: FormatterContext) -> FormatterContext
+    requires { ⌜ Room 1 ctx ⌝ }
+    ensures { λ r. ⌜ Spaced 1 (blankLineBeforeComment ∷ []) ctx (now (out .entry)) r (now (out .exit)) ⌝ }
+{
+    let taken = ctx.take_pending_blank_line();
+    let next = taken.context;
+    if taken.mark {
+        if next.is_at_line_start() {
+            return next;
+        }
+        return next.write_newline(out);
+    }
+    next
+}
