@@ -102,11 +102,15 @@ NODE_ANSWERS = {
     "(@format-error-verbatim .ensures)",
     "routine-of-requires": "search needs",
     "enum-told": "search needs",
+    "enum-known-r": "search needs",
     "CALL-requires": "(omega (arith, @pre .0), @pre .1 .0)",
     "CALL-same-length": "@{called} .kept .1 .1 .1 .1 .0",
-    "CALL-returns": "node-by the-variants.{variant} (@pre .1 .1) (⊎-elim (λ w. scanned-as (w .1 .ensures) (w .2 .left)) "
+    "CALL-returns": "node-by {variant} (@pre .1 .1) (⊎-elim (λ w. scanned-as (w .1 .ensures) (w .2 .left)) "
     "(λ w. clean-node (@pre .1 .0) (@pre .1 .1) (w .left)) (@if1 .came)) (sym (@{told} .given .1) ∙ @routine-of .ensures) (@{called} .ensures)",
 }
+
+# The variant that holds a number.
+HOLDING = "(the-variants.ListClause _)"
 
 # Pieces of rows, by a law of RoutineLaws: the local after a node is the one before it; nothing is written after a node.
 KEPT = "({} {{local}} " + KIND + ")"
@@ -237,8 +241,9 @@ def node_answer(routine, need, members, variants):
     trail, kind = routine.trail(need), re.sub(r"-\d+$", "", need)
     called = next((thing for thing in trail if thing.rstrip("0123456789") in members), None)
     if called:
-        told = next(thing for thing in trail if thing.startswith("enum-told"))
-        own = {"called": called, "told": told, "variant": variants[int(told.removeprefix("enum-told") or 1) - 1]}
+        told = next(thing for thing in trail if thing.startswith("enum-told") or thing == "r")
+        variant = HOLDING if told == "r" else "the-variants." + variants[int(told.removeprefix("enum-told") or 1) - 1]
+        own = {"called": called, "told": told, "variant": variant}
         return NODE_ANSWERS.get("CALL-" + kind), own, ["armsOf"] if kind == "returns" else []
     if kind.removesuffix("-requires") in members:
         kind = "CALL-requires"

@@ -1,6 +1,6 @@
 -- The laws that the proofs of the routines, the dispatch and the calls cite.
 pub mod Walks
 pub mod RoutineLaws
-pub mod KindMatch
+pub mod Copied
 pub mod Entries
 pub mod Pairs

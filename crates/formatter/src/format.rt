@@ -2,7 +2,6 @@
 // each call of `node` a level less is left, and each turn of a loop moves on along the tape. Their names are short, since the proof of a
 // cycle is named after all of its members.
 use crate::Walk;
-use crate::dispatch::routine_of;
 use clauses::file_before;
 use clauses::file_token;
 use clauses::join_clause_token;
@@ -30,6 +29,7 @@ use clauses::with_clause_after;
 use clauses::with_clause_before;
 use context::FormatConfig;
 use context::FormatterContext;
+use dispatch::routine_of;
 use expressions::alter_command_list_token;
 use expressions::binary_expression_token;
 use expressions::brace_list_token;
@@ -1124,29 +1124,7 @@ pub(crate) fn node(
         Routine::SelectStatement => query(source, tape, config, errors, out, left, at, c),
         Routine::SelectClause => select(source, tape, config, errors, out, left, at, c),
         Routine::SimpleClause => simple(source, tape, config, errors, out, left, at, c),
-        Routine::GroupByClause => list_by(
-            source,
-            tape,
-            config,
-            errors,
-            out,
-            left,
-            at,
-            c,
-            syntax_kind::GROUP_BY_LIST,
-        ),
-        Routine::OrderByClause => list_by(
-            source,
-            tape,
-            config,
-            errors,
-            out,
-            left,
-            at,
-            c,
-            syntax_kind::ORDER_BY_LIST,
-        ),
-        Routine::LimitByClause => join(source, tape, config, errors, out, left, at, c),
+        Routine::ListClause(list) => list_by(source, tape, config, errors, out, left, at, c, list),
         Routine::SettingsClause => settings(source, tape, config, errors, out, left, at, c),
         Routine::WithClause => with_of(source, tape, config, errors, out, left, at, c),
         Routine::JoinClause => join(source, tape, config, errors, out, left, at, c),

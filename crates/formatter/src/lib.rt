@@ -1,5 +1,4 @@
 // Measuring and laying out: `format` of mod.rs, from bytes to an answer and a filled space.
-mod dispatch;
 mod format;
 pub mod pair;
 

@@ -5,7 +5,7 @@ use mathlib.Core.List.{List, [], _∷_}
 use Rattle.tape.specs.Kinds
 use Rattle.tape.specs.Tree.{Children}
 use Rattle.layout.specs.declared.Routine.{Routine}
-use Rattle.layout.specs.declared.Routine.the-variants.{File, QueryList, SelectStatement, SelectClause, SimpleClause, GroupByClause, OrderByClause, LimitByClause, SettingsClause, WithClause, JoinClause, Inline, CommaList, InlineCommaList, BinaryExpression, UnaryExpression, FunctionCall, CaseExpression, WhenClause, Subquery, ParenList, BracketList, InlineNoSpaces, BraceList, DataType, InlineTightParens, AlterCommandList, UnionClause, Passthrough}
+use Rattle.layout.specs.declared.Routine.the-variants.{File, QueryList, SelectStatement, SelectClause, SimpleClause, ListClause, SettingsClause, WithClause, JoinClause, Inline, CommaList, InlineCommaList, BinaryExpression, UnaryExpression, FunctionCall, CaseExpression, WhenClause, Subquery, ParenList, BracketList, InlineNoSpaces, BraceList, DataType, InlineTightParens, AlterCommandList, UnionClause, Passthrough}
 use Rattle.layout.specs.Arms.{Arms, match}
 use Rattle.layout.specs.Routines.{formatFile, formatQueryList, formatSelectStatement, formatSelectClause, formatSimpleClause, formatListClause, formatJoinClause, formatSettingsClause, formatWithClause, formatCommaList, formatInlineCommaList, formatBinaryExpression, formatUnaryExpression, formatFunctionCall, formatCaseExpression, formatWhenClause, formatSubquery, formatParenList, formatBracketList, formatBraceList, formatDataType, formatInlineTightParens, formatInline, formatInlineNoSpaces, formatPassthrough, formatAlterCommandList, formatUnionClause}
 
@@ -15,9 +15,7 @@ armsOf QueryList kids = formatQueryList
 armsOf SelectStatement kids = formatSelectStatement
 armsOf SelectClause kids = formatSelectClause
 armsOf SimpleClause kids = formatSimpleClause
-armsOf GroupByClause kids = formatListClause Kinds.GroupByList kids
-armsOf OrderByClause kids = formatListClause Kinds.OrderByList kids
-armsOf LimitByClause kids = formatJoinClause
+armsOf (ListClause list) kids = formatListClause list kids
 armsOf SettingsClause kids = formatSettingsClause
 armsOf WithClause kids = formatWithClause
 armsOf JoinClause kids = formatJoinClause
@@ -50,10 +48,10 @@ routines =
     ∷ (Kinds.PrewhereClause, SimpleClause)
     ∷ (Kinds.WhereClause, SimpleClause)
     ∷ (Kinds.HavingClause, SimpleClause)
-    ∷ (Kinds.GroupByClause, GroupByClause)
-    ∷ (Kinds.OrderByClause, OrderByClause)
+    ∷ (Kinds.GroupByClause, ListClause Kinds.GroupByList)
+    ∷ (Kinds.OrderByClause, ListClause Kinds.OrderByList)
     ∷ (Kinds.LimitClause, SimpleClause)
-    ∷ (Kinds.LimitByClause, LimitByClause)
+    ∷ (Kinds.LimitByClause, JoinClause)
     ∷ (Kinds.SettingsClause, SettingsClause)
     ∷ (Kinds.WithClause, WithClause)
     ∷ (Kinds.JoinClause, JoinClause)

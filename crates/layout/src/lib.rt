@@ -12,16 +12,15 @@ pub struct Local {
     pub prev: PrevKind,
 }
 
-// The routines of format_node.rs on the carried side, in the order of its dispatch.
+// The routines of format_node.rs on the carried side, in the order of its dispatch. format_group_by_clause and format_order_by_clause are
+// one, by the kind of their list; format_limit_by_clause is format_join_clause.
 pub enum Routine {
     File,
     QueryList,
     SelectStatement,
     SelectClause,
     SimpleClause,
-    GroupByClause,
-    OrderByClause,
-    LimitByClause,
+    ListClause(u16),
     SettingsClause,
     WithClause,
     JoinClause,

@@ -145,7 +145,7 @@ use Rattle.expressions.proofs.passthrough_token.Reads as passthrough-token-read
 use Rattle.expressions.proofs.subquery_token.Reads as subquery-token-reads
 use Rattle.expressions.proofs.unary_expression_token.Reads as unary-expression-token-reads
 use Rattle.expressions.proofs.when_clause_token.Reads as when-clause-token-reads
-use Rattle.formatter.proofs.dispatch.routine_of.Reads as routine-of-reads
+use Rattle.dispatch.proofs.routine_of.Reads as routine-of-reads
 use Rattle.formatter.proofs.format.is_copied.Reads as is-copied-reads
 use Rattle.tape.proofs.commands.head_at.Reads as head-at-reads
 use Rattle.tape.proofs.scan.skip.Reads as skip-reads
@@ -2898,12 +2898,12 @@ node-is-copied-requires : (t : ℕ) → node-lts.Need-is-copied-requires (
   simple.Post,
   list-by-below t,
   list-by.Post,
-  join-below t,
-  join.Post,
   settings-below t,
   settings.Post,
   with-of-below t,
   with-of.Post,
+  join-below t,
+  join.Post,
   inline-below t,
   inline.Post,
   commas-below t,
@@ -2966,12 +2966,12 @@ node-head-at-requires : (t : ℕ) → node-lts.Need-head-at-requires (
   simple.Post,
   list-by-below t,
   list-by.Post,
-  join-below t,
-  join.Post,
   settings-below t,
   settings.Post,
   with-of-below t,
   with-of.Post,
+  join-below t,
+  join.Post,
   inline-below t,
   inline.Post,
   commas-below t,
@@ -3034,12 +3034,12 @@ node-skip-requires : (t : ℕ) → node-lts.Need-skip-requires (
   simple.Post,
   list-by-below t,
   list-by.Post,
-  join-below t,
-  join.Post,
   settings-below t,
   settings.Post,
   with-of-below t,
   with-of.Post,
+  join-below t,
+  join.Post,
   inline-below t,
   inline.Post,
   commas-below t,
@@ -3102,12 +3102,12 @@ node-format-error-verbatim-requires : (t : ℕ) → node-lts.Need-format-error-v
   simple.Post,
   list-by-below t,
   list-by.Post,
-  join-below t,
-  join.Post,
   settings-below t,
   settings.Post,
   with-of-below t,
   with-of.Post,
+  join-below t,
+  join.Post,
   inline-below t,
   inline.Post,
   commas-below t,
@@ -3170,12 +3170,12 @@ node-same-length : (t : ℕ) → node-lts.Need-same-length (
   simple.Post,
   list-by-below t,
   list-by.Post,
-  join-below t,
-  join.Post,
   settings-below t,
   settings.Post,
   with-of-below t,
   with-of.Post,
+  join-below t,
+  join.Post,
   inline-below t,
   inline.Post,
   commas-below t,
@@ -3238,12 +3238,12 @@ node-returns : (t : ℕ) → node-lts.Need-returns (
   simple.Post,
   list-by-below t,
   list-by.Post,
-  join-below t,
-  join.Post,
   settings-below t,
   settings.Post,
   with-of-below t,
   with-of.Post,
+  join-below t,
+  join.Post,
   inline-below t,
   inline.Post,
   commas-below t,
@@ -3306,12 +3306,12 @@ node-routine-of-requires : (t : ℕ) → node-lts.Need-routine-of-requires (
   simple.Post,
   list-by-below t,
   list-by.Post,
-  join-below t,
-  join.Post,
   settings-below t,
   settings.Post,
   with-of-below t,
   with-of.Post,
+  join-below t,
+  join.Post,
   inline-below t,
   inline.Post,
   commas-below t,
@@ -3374,12 +3374,12 @@ node-enum-told : (t : ℕ) → node-lts.Need-enum-told (
   simple.Post,
   list-by-below t,
   list-by.Post,
-  join-below t,
-  join.Post,
   settings-below t,
   settings.Post,
   with-of-below t,
   with-of.Post,
+  join-below t,
+  join.Post,
   inline-below t,
   inline.Post,
   commas-below t,
@@ -3442,12 +3442,12 @@ node-file-requires : (t : ℕ) → node-lts.Need-file-requires (
   simple.Post,
   list-by-below t,
   list-by.Post,
-  join-below t,
-  join.Post,
   settings-below t,
   settings.Post,
   with-of-below t,
   with-of.Post,
+  join-below t,
+  join.Post,
   inline-below t,
   inline.Post,
   commas-below t,
@@ -3510,12 +3510,12 @@ node-enum-told-2 : (t : ℕ) → node-lts.Need-enum-told-2 (
   simple.Post,
   list-by-below t,
   list-by.Post,
-  join-below t,
-  join.Post,
   settings-below t,
   settings.Post,
   with-of-below t,
   with-of.Post,
+  join-below t,
+  join.Post,
   inline-below t,
   inline.Post,
   commas-below t,
@@ -3578,12 +3578,12 @@ node-queries-requires : (t : ℕ) → node-lts.Need-queries-requires (
   simple.Post,
   list-by-below t,
   list-by.Post,
-  join-below t,
-  join.Post,
   settings-below t,
   settings.Post,
   with-of-below t,
   with-of.Post,
+  join-below t,
+  join.Post,
   inline-below t,
   inline.Post,
   commas-below t,
@@ -3646,12 +3646,12 @@ node-enum-told-3 : (t : ℕ) → node-lts.Need-enum-told-3 (
   simple.Post,
   list-by-below t,
   list-by.Post,
-  join-below t,
-  join.Post,
   settings-below t,
   settings.Post,
   with-of-below t,
   with-of.Post,
+  join-below t,
+  join.Post,
   inline-below t,
   inline.Post,
   commas-below t,
@@ -3714,12 +3714,12 @@ node-query-requires : (t : ℕ) → node-lts.Need-query-requires (
   simple.Post,
   list-by-below t,
   list-by.Post,
-  join-below t,
-  join.Post,
   settings-below t,
   settings.Post,
   with-of-below t,
   with-of.Post,
+  join-below t,
+  join.Post,
   inline-below t,
   inline.Post,
   commas-below t,
@@ -3782,12 +3782,12 @@ node-enum-told-4 : (t : ℕ) → node-lts.Need-enum-told-4 (
   simple.Post,
   list-by-below t,
   list-by.Post,
-  join-below t,
-  join.Post,
   settings-below t,
   settings.Post,
   with-of-below t,
   with-of.Post,
+  join-below t,
+  join.Post,
   inline-below t,
   inline.Post,
   commas-below t,
@@ -3850,12 +3850,12 @@ node-select-requires : (t : ℕ) → node-lts.Need-select-requires (
   simple.Post,
   list-by-below t,
   list-by.Post,
-  join-below t,
-  join.Post,
   settings-below t,
   settings.Post,
   with-of-below t,
   with-of.Post,
+  join-below t,
+  join.Post,
   inline-below t,
   inline.Post,
   commas-below t,
@@ -3918,12 +3918,12 @@ node-enum-told-5 : (t : ℕ) → node-lts.Need-enum-told-5 (
   simple.Post,
   list-by-below t,
   list-by.Post,
-  join-below t,
-  join.Post,
   settings-below t,
   settings.Post,
   with-of-below t,
   with-of.Post,
+  join-below t,
+  join.Post,
   inline-below t,
   inline.Post,
   commas-below t,
@@ -3986,12 +3986,12 @@ node-simple-requires : (t : ℕ) → node-lts.Need-simple-requires (
   simple.Post,
   list-by-below t,
   list-by.Post,
-  join-below t,
-  join.Post,
   settings-below t,
   settings.Post,
   with-of-below t,
   with-of.Post,
+  join-below t,
+  join.Post,
   inline-below t,
   inline.Post,
   commas-below t,
@@ -4031,6 +4031,142 @@ node-simple-requires : (t : ℕ) → node-lts.Need-simple-requires (
 ) (node-at t) node.Post
 node-simple-requires t c κs = (omega (arith, c .before .before .before .before .before .before .before .before .pre .0), c .before .before .before .before .before .before .before .before .pre .1 .0)
 
+node-enum-known-r : (t : ℕ) → node-lts.Need-enum-known-r (
+  is-copied-reads.Asked,
+  is-copied-reads.Learnt,
+  head-at-reads.Asked,
+  head-at-reads.Learnt,
+  skip-reads.Asked,
+  skip-reads.Learnt,
+  format-error-verbatim-reads.Asked,
+  format-error-verbatim-reads.Learnt,
+  routine-of-reads.Asked,
+  routine-of-reads.Learnt,
+  file-below t,
+  file.Post,
+  queries-below t,
+  queries.Post,
+  query-below t,
+  query.Post,
+  select-below t,
+  select.Post,
+  simple-below t,
+  simple.Post,
+  list-by-below t,
+  list-by.Post,
+  settings-below t,
+  settings.Post,
+  with-of-below t,
+  with-of.Post,
+  join-below t,
+  join.Post,
+  inline-below t,
+  inline.Post,
+  commas-below t,
+  commas.Post,
+  row-below t,
+  row.Post,
+  binary-below t,
+  binary.Post,
+  unary-below t,
+  unary.Post,
+  call-below t,
+  call.Post,
+  cases-below t,
+  cases.Post,
+  when-of-below t,
+  when-of.Post,
+  subquery-below t,
+  subquery.Post,
+  parens-below t,
+  parens.Post,
+  brackets-below t,
+  brackets.Post,
+  solid-below t,
+  solid.Post,
+  braces-below t,
+  braces.Post,
+  types-below t,
+  types.Post,
+  tight-below t,
+  tight.Post,
+  alter-below t,
+  alter.Post,
+  unions-below t,
+  unions.Post,
+  pass-below t,
+  pass.Post,
+) (node-at t) node.Post
+node-enum-known-r t c = search needs
+
+node-list-by-requires : (t : ℕ) → node-lts.Need-list-by-requires (
+  is-copied-reads.Asked,
+  is-copied-reads.Learnt,
+  head-at-reads.Asked,
+  head-at-reads.Learnt,
+  skip-reads.Asked,
+  skip-reads.Learnt,
+  format-error-verbatim-reads.Asked,
+  format-error-verbatim-reads.Learnt,
+  routine-of-reads.Asked,
+  routine-of-reads.Learnt,
+  file-below t,
+  file.Post,
+  queries-below t,
+  queries.Post,
+  query-below t,
+  query.Post,
+  select-below t,
+  select.Post,
+  simple-below t,
+  simple.Post,
+  list-by-below t,
+  list-by.Post,
+  settings-below t,
+  settings.Post,
+  with-of-below t,
+  with-of.Post,
+  join-below t,
+  join.Post,
+  inline-below t,
+  inline.Post,
+  commas-below t,
+  commas.Post,
+  row-below t,
+  row.Post,
+  binary-below t,
+  binary.Post,
+  unary-below t,
+  unary.Post,
+  call-below t,
+  call.Post,
+  cases-below t,
+  cases.Post,
+  when-of-below t,
+  when-of.Post,
+  subquery-below t,
+  subquery.Post,
+  parens-below t,
+  parens.Post,
+  brackets-below t,
+  brackets.Post,
+  solid-below t,
+  solid.Post,
+  braces-below t,
+  braces.Post,
+  types-below t,
+  types.Post,
+  tight-below t,
+  tight.Post,
+  alter-below t,
+  alter.Post,
+  unions-below t,
+  unions.Post,
+  pass-below t,
+  pass.Post,
+) (node-at t) node.Post
+node-list-by-requires t c κs = (omega (arith, c .before .before .before .before .before .before .before .before .before .pre .0), c .before .before .before .before .before .before .before .before .before .pre .1 .0)
+
 node-enum-told-6 : (t : ℕ) → node-lts.Need-enum-told-6 (
   is-copied-reads.Asked,
   is-copied-reads.Learnt,
@@ -4054,12 +4190,12 @@ node-enum-told-6 : (t : ℕ) → node-lts.Need-enum-told-6 (
   simple.Post,
   list-by-below t,
   list-by.Post,
-  join-below t,
-  join.Post,
   settings-below t,
   settings.Post,
   with-of-below t,
   with-of.Post,
+  join-below t,
+  join.Post,
   inline-below t,
   inline.Post,
   commas-below t,
@@ -4099,7 +4235,7 @@ node-enum-told-6 : (t : ℕ) → node-lts.Need-enum-told-6 (
 ) (node-at t) node.Post
 node-enum-told-6 t c = search needs
 
-node-list-by-requires : (t : ℕ) → node-lts.Need-list-by-requires (
+node-settings-requires : (t : ℕ) → node-lts.Need-settings-requires (
   is-copied-reads.Asked,
   is-copied-reads.Learnt,
   head-at-reads.Asked,
@@ -4122,12 +4258,12 @@ node-list-by-requires : (t : ℕ) → node-lts.Need-list-by-requires (
   simple.Post,
   list-by-below t,
   list-by.Post,
-  join-below t,
-  join.Post,
   settings-below t,
   settings.Post,
   with-of-below t,
   with-of.Post,
+  join-below t,
+  join.Post,
   inline-below t,
   inline.Post,
   commas-below t,
@@ -4165,7 +4301,7 @@ node-list-by-requires : (t : ℕ) → node-lts.Need-list-by-requires (
   pass-below t,
   pass.Post,
 ) (node-at t) node.Post
-node-list-by-requires t c κs = (omega (arith, c .before .before .before .before .before .before .before .before .pre .0), c .before .before .before .before .before .before .before .before .pre .1 .0)
+node-settings-requires t c κs = (omega (arith, c .before .before .before .before .before .before .before .before .pre .0), c .before .before .before .before .before .before .before .before .pre .1 .0)
 
 node-enum-told-7 : (t : ℕ) → node-lts.Need-enum-told-7 (
   is-copied-reads.Asked,
@@ -4190,12 +4326,12 @@ node-enum-told-7 : (t : ℕ) → node-lts.Need-enum-told-7 (
   simple.Post,
   list-by-below t,
   list-by.Post,
-  join-below t,
-  join.Post,
   settings-below t,
   settings.Post,
   with-of-below t,
   with-of.Post,
+  join-below t,
+  join.Post,
   inline-below t,
   inline.Post,
   commas-below t,
@@ -4235,7 +4371,7 @@ node-enum-told-7 : (t : ℕ) → node-lts.Need-enum-told-7 (
 ) (node-at t) node.Post
 node-enum-told-7 t c = search needs
 
-node-list-by-requires-2 : (t : ℕ) → node-lts.Need-list-by-requires-2 (
+node-with-of-requires : (t : ℕ) → node-lts.Need-with-of-requires (
   is-copied-reads.Asked,
   is-copied-reads.Learnt,
   head-at-reads.Asked,
@@ -4258,12 +4394,12 @@ node-list-by-requires-2 : (t : ℕ) → node-lts.Need-list-by-requires-2 (
   simple.Post,
   list-by-below t,
   list-by.Post,
-  join-below t,
-  join.Post,
   settings-below t,
   settings.Post,
   with-of-below t,
   with-of.Post,
+  join-below t,
+  join.Post,
   inline-below t,
   inline.Post,
   commas-below t,
@@ -4301,7 +4437,7 @@ node-list-by-requires-2 : (t : ℕ) → node-lts.Need-list-by-requires-2 (
   pass-below t,
   pass.Post,
 ) (node-at t) node.Post
-node-list-by-requires-2 t c κs = (omega (arith, c .before .before .before .before .before .before .before .before .pre .0), c .before .before .before .before .before .before .before .before .pre .1 .0)
+node-with-of-requires t c κs = (omega (arith, c .before .before .before .before .before .before .before .before .pre .0), c .before .before .before .before .before .before .before .before .pre .1 .0)
 
 node-enum-told-8 : (t : ℕ) → node-lts.Need-enum-told-8 (
   is-copied-reads.Asked,
@@ -4326,12 +4462,12 @@ node-enum-told-8 : (t : ℕ) → node-lts.Need-enum-told-8 (
   simple.Post,
   list-by-below t,
   list-by.Post,
-  join-below t,
-  join.Post,
   settings-below t,
   settings.Post,
   with-of-below t,
   with-of.Post,
+  join-below t,
+  join.Post,
   inline-below t,
   inline.Post,
   commas-below t,
@@ -4394,12 +4530,12 @@ node-join-requires : (t : ℕ) → node-lts.Need-join-requires (
   simple.Post,
   list-by-below t,
   list-by.Post,
-  join-below t,
-  join.Post,
   settings-below t,
   settings.Post,
   with-of-below t,
   with-of.Post,
+  join-below t,
+  join.Post,
   inline-below t,
   inline.Post,
   commas-below t,
@@ -4462,12 +4598,12 @@ node-enum-told-9 : (t : ℕ) → node-lts.Need-enum-told-9 (
   simple.Post,
   list-by-below t,
   list-by.Post,
-  join-below t,
-  join.Post,
   settings-below t,
   settings.Post,
   with-of-below t,
   with-of.Post,
+  join-below t,
+  join.Post,
   inline-below t,
   inline.Post,
   commas-below t,
@@ -4507,414 +4643,6 @@ node-enum-told-9 : (t : ℕ) → node-lts.Need-enum-told-9 (
 ) (node-at t) node.Post
 node-enum-told-9 t c = search needs
 
-node-settings-requires : (t : ℕ) → node-lts.Need-settings-requires (
-  is-copied-reads.Asked,
-  is-copied-reads.Learnt,
-  head-at-reads.Asked,
-  head-at-reads.Learnt,
-  skip-reads.Asked,
-  skip-reads.Learnt,
-  format-error-verbatim-reads.Asked,
-  format-error-verbatim-reads.Learnt,
-  routine-of-reads.Asked,
-  routine-of-reads.Learnt,
-  file-below t,
-  file.Post,
-  queries-below t,
-  queries.Post,
-  query-below t,
-  query.Post,
-  select-below t,
-  select.Post,
-  simple-below t,
-  simple.Post,
-  list-by-below t,
-  list-by.Post,
-  join-below t,
-  join.Post,
-  settings-below t,
-  settings.Post,
-  with-of-below t,
-  with-of.Post,
-  inline-below t,
-  inline.Post,
-  commas-below t,
-  commas.Post,
-  row-below t,
-  row.Post,
-  binary-below t,
-  binary.Post,
-  unary-below t,
-  unary.Post,
-  call-below t,
-  call.Post,
-  cases-below t,
-  cases.Post,
-  when-of-below t,
-  when-of.Post,
-  subquery-below t,
-  subquery.Post,
-  parens-below t,
-  parens.Post,
-  brackets-below t,
-  brackets.Post,
-  solid-below t,
-  solid.Post,
-  braces-below t,
-  braces.Post,
-  types-below t,
-  types.Post,
-  tight-below t,
-  tight.Post,
-  alter-below t,
-  alter.Post,
-  unions-below t,
-  unions.Post,
-  pass-below t,
-  pass.Post,
-) (node-at t) node.Post
-node-settings-requires t c κs = (omega (arith, c .before .before .before .before .before .before .before .before .pre .0), c .before .before .before .before .before .before .before .before .pre .1 .0)
-
-node-enum-told-10 : (t : ℕ) → node-lts.Need-enum-told-10 (
-  is-copied-reads.Asked,
-  is-copied-reads.Learnt,
-  head-at-reads.Asked,
-  head-at-reads.Learnt,
-  skip-reads.Asked,
-  skip-reads.Learnt,
-  format-error-verbatim-reads.Asked,
-  format-error-verbatim-reads.Learnt,
-  routine-of-reads.Asked,
-  routine-of-reads.Learnt,
-  file-below t,
-  file.Post,
-  queries-below t,
-  queries.Post,
-  query-below t,
-  query.Post,
-  select-below t,
-  select.Post,
-  simple-below t,
-  simple.Post,
-  list-by-below t,
-  list-by.Post,
-  join-below t,
-  join.Post,
-  settings-below t,
-  settings.Post,
-  with-of-below t,
-  with-of.Post,
-  inline-below t,
-  inline.Post,
-  commas-below t,
-  commas.Post,
-  row-below t,
-  row.Post,
-  binary-below t,
-  binary.Post,
-  unary-below t,
-  unary.Post,
-  call-below t,
-  call.Post,
-  cases-below t,
-  cases.Post,
-  when-of-below t,
-  when-of.Post,
-  subquery-below t,
-  subquery.Post,
-  parens-below t,
-  parens.Post,
-  brackets-below t,
-  brackets.Post,
-  solid-below t,
-  solid.Post,
-  braces-below t,
-  braces.Post,
-  types-below t,
-  types.Post,
-  tight-below t,
-  tight.Post,
-  alter-below t,
-  alter.Post,
-  unions-below t,
-  unions.Post,
-  pass-below t,
-  pass.Post,
-) (node-at t) node.Post
-node-enum-told-10 t c = search needs
-
-node-with-of-requires : (t : ℕ) → node-lts.Need-with-of-requires (
-  is-copied-reads.Asked,
-  is-copied-reads.Learnt,
-  head-at-reads.Asked,
-  head-at-reads.Learnt,
-  skip-reads.Asked,
-  skip-reads.Learnt,
-  format-error-verbatim-reads.Asked,
-  format-error-verbatim-reads.Learnt,
-  routine-of-reads.Asked,
-  routine-of-reads.Learnt,
-  file-below t,
-  file.Post,
-  queries-below t,
-  queries.Post,
-  query-below t,
-  query.Post,
-  select-below t,
-  select.Post,
-  simple-below t,
-  simple.Post,
-  list-by-below t,
-  list-by.Post,
-  join-below t,
-  join.Post,
-  settings-below t,
-  settings.Post,
-  with-of-below t,
-  with-of.Post,
-  inline-below t,
-  inline.Post,
-  commas-below t,
-  commas.Post,
-  row-below t,
-  row.Post,
-  binary-below t,
-  binary.Post,
-  unary-below t,
-  unary.Post,
-  call-below t,
-  call.Post,
-  cases-below t,
-  cases.Post,
-  when-of-below t,
-  when-of.Post,
-  subquery-below t,
-  subquery.Post,
-  parens-below t,
-  parens.Post,
-  brackets-below t,
-  brackets.Post,
-  solid-below t,
-  solid.Post,
-  braces-below t,
-  braces.Post,
-  types-below t,
-  types.Post,
-  tight-below t,
-  tight.Post,
-  alter-below t,
-  alter.Post,
-  unions-below t,
-  unions.Post,
-  pass-below t,
-  pass.Post,
-) (node-at t) node.Post
-node-with-of-requires t c κs = (omega (arith, c .before .before .before .before .before .before .before .before .pre .0), c .before .before .before .before .before .before .before .before .pre .1 .0)
-
-node-enum-told-11 : (t : ℕ) → node-lts.Need-enum-told-11 (
-  is-copied-reads.Asked,
-  is-copied-reads.Learnt,
-  head-at-reads.Asked,
-  head-at-reads.Learnt,
-  skip-reads.Asked,
-  skip-reads.Learnt,
-  format-error-verbatim-reads.Asked,
-  format-error-verbatim-reads.Learnt,
-  routine-of-reads.Asked,
-  routine-of-reads.Learnt,
-  file-below t,
-  file.Post,
-  queries-below t,
-  queries.Post,
-  query-below t,
-  query.Post,
-  select-below t,
-  select.Post,
-  simple-below t,
-  simple.Post,
-  list-by-below t,
-  list-by.Post,
-  join-below t,
-  join.Post,
-  settings-below t,
-  settings.Post,
-  with-of-below t,
-  with-of.Post,
-  inline-below t,
-  inline.Post,
-  commas-below t,
-  commas.Post,
-  row-below t,
-  row.Post,
-  binary-below t,
-  binary.Post,
-  unary-below t,
-  unary.Post,
-  call-below t,
-  call.Post,
-  cases-below t,
-  cases.Post,
-  when-of-below t,
-  when-of.Post,
-  subquery-below t,
-  subquery.Post,
-  parens-below t,
-  parens.Post,
-  brackets-below t,
-  brackets.Post,
-  solid-below t,
-  solid.Post,
-  braces-below t,
-  braces.Post,
-  types-below t,
-  types.Post,
-  tight-below t,
-  tight.Post,
-  alter-below t,
-  alter.Post,
-  unions-below t,
-  unions.Post,
-  pass-below t,
-  pass.Post,
-) (node-at t) node.Post
-node-enum-told-11 t c = search needs
-
-node-join-requires-2 : (t : ℕ) → node-lts.Need-join-requires-2 (
-  is-copied-reads.Asked,
-  is-copied-reads.Learnt,
-  head-at-reads.Asked,
-  head-at-reads.Learnt,
-  skip-reads.Asked,
-  skip-reads.Learnt,
-  format-error-verbatim-reads.Asked,
-  format-error-verbatim-reads.Learnt,
-  routine-of-reads.Asked,
-  routine-of-reads.Learnt,
-  file-below t,
-  file.Post,
-  queries-below t,
-  queries.Post,
-  query-below t,
-  query.Post,
-  select-below t,
-  select.Post,
-  simple-below t,
-  simple.Post,
-  list-by-below t,
-  list-by.Post,
-  join-below t,
-  join.Post,
-  settings-below t,
-  settings.Post,
-  with-of-below t,
-  with-of.Post,
-  inline-below t,
-  inline.Post,
-  commas-below t,
-  commas.Post,
-  row-below t,
-  row.Post,
-  binary-below t,
-  binary.Post,
-  unary-below t,
-  unary.Post,
-  call-below t,
-  call.Post,
-  cases-below t,
-  cases.Post,
-  when-of-below t,
-  when-of.Post,
-  subquery-below t,
-  subquery.Post,
-  parens-below t,
-  parens.Post,
-  brackets-below t,
-  brackets.Post,
-  solid-below t,
-  solid.Post,
-  braces-below t,
-  braces.Post,
-  types-below t,
-  types.Post,
-  tight-below t,
-  tight.Post,
-  alter-below t,
-  alter.Post,
-  unions-below t,
-  unions.Post,
-  pass-below t,
-  pass.Post,
-) (node-at t) node.Post
-node-join-requires-2 t c κs = (omega (arith, c .before .before .before .before .before .before .before .before .pre .0), c .before .before .before .before .before .before .before .before .pre .1 .0)
-
-node-enum-told-12 : (t : ℕ) → node-lts.Need-enum-told-12 (
-  is-copied-reads.Asked,
-  is-copied-reads.Learnt,
-  head-at-reads.Asked,
-  head-at-reads.Learnt,
-  skip-reads.Asked,
-  skip-reads.Learnt,
-  format-error-verbatim-reads.Asked,
-  format-error-verbatim-reads.Learnt,
-  routine-of-reads.Asked,
-  routine-of-reads.Learnt,
-  file-below t,
-  file.Post,
-  queries-below t,
-  queries.Post,
-  query-below t,
-  query.Post,
-  select-below t,
-  select.Post,
-  simple-below t,
-  simple.Post,
-  list-by-below t,
-  list-by.Post,
-  join-below t,
-  join.Post,
-  settings-below t,
-  settings.Post,
-  with-of-below t,
-  with-of.Post,
-  inline-below t,
-  inline.Post,
-  commas-below t,
-  commas.Post,
-  row-below t,
-  row.Post,
-  binary-below t,
-  binary.Post,
-  unary-below t,
-  unary.Post,
-  call-below t,
-  call.Post,
-  cases-below t,
-  cases.Post,
-  when-of-below t,
-  when-of.Post,
-  subquery-below t,
-  subquery.Post,
-  parens-below t,
-  parens.Post,
-  brackets-below t,
-  brackets.Post,
-  solid-below t,
-  solid.Post,
-  braces-below t,
-  braces.Post,
-  types-below t,
-  types.Post,
-  tight-below t,
-  tight.Post,
-  alter-below t,
-  alter.Post,
-  unions-below t,
-  unions.Post,
-  pass-below t,
-  pass.Post,
-) (node-at t) node.Post
-node-enum-told-12 t c = search needs
-
 node-inline-requires : (t : ℕ) → node-lts.Need-inline-requires (
   is-copied-reads.Asked,
   is-copied-reads.Learnt,
@@ -4938,12 +4666,12 @@ node-inline-requires : (t : ℕ) → node-lts.Need-inline-requires (
   simple.Post,
   list-by-below t,
   list-by.Post,
-  join-below t,
-  join.Post,
   settings-below t,
   settings.Post,
   with-of-below t,
   with-of.Post,
+  join-below t,
+  join.Post,
   inline-below t,
   inline.Post,
   commas-below t,
@@ -4983,7 +4711,7 @@ node-inline-requires : (t : ℕ) → node-lts.Need-inline-requires (
 ) (node-at t) node.Post
 node-inline-requires t c κs = (omega (arith, c .before .before .before .before .before .before .before .before .pre .0), c .before .before .before .before .before .before .before .before .pre .1 .0)
 
-node-enum-told-13 : (t : ℕ) → node-lts.Need-enum-told-13 (
+node-enum-told-10 : (t : ℕ) → node-lts.Need-enum-told-10 (
   is-copied-reads.Asked,
   is-copied-reads.Learnt,
   head-at-reads.Asked,
@@ -5006,12 +4734,12 @@ node-enum-told-13 : (t : ℕ) → node-lts.Need-enum-told-13 (
   simple.Post,
   list-by-below t,
   list-by.Post,
-  join-below t,
-  join.Post,
   settings-below t,
   settings.Post,
   with-of-below t,
   with-of.Post,
+  join-below t,
+  join.Post,
   inline-below t,
   inline.Post,
   commas-below t,
@@ -5049,7 +4777,7 @@ node-enum-told-13 : (t : ℕ) → node-lts.Need-enum-told-13 (
   pass-below t,
   pass.Post,
 ) (node-at t) node.Post
-node-enum-told-13 t c = search needs
+node-enum-told-10 t c = search needs
 
 node-commas-requires : (t : ℕ) → node-lts.Need-commas-requires (
   is-copied-reads.Asked,
@@ -5074,12 +4802,12 @@ node-commas-requires : (t : ℕ) → node-lts.Need-commas-requires (
   simple.Post,
   list-by-below t,
   list-by.Post,
-  join-below t,
-  join.Post,
   settings-below t,
   settings.Post,
   with-of-below t,
   with-of.Post,
+  join-below t,
+  join.Post,
   inline-below t,
   inline.Post,
   commas-below t,
@@ -5119,7 +4847,7 @@ node-commas-requires : (t : ℕ) → node-lts.Need-commas-requires (
 ) (node-at t) node.Post
 node-commas-requires t c κs = (omega (arith, c .before .before .before .before .before .before .before .before .pre .0), c .before .before .before .before .before .before .before .before .pre .1 .0)
 
-node-enum-told-14 : (t : ℕ) → node-lts.Need-enum-told-14 (
+node-enum-told-11 : (t : ℕ) → node-lts.Need-enum-told-11 (
   is-copied-reads.Asked,
   is-copied-reads.Learnt,
   head-at-reads.Asked,
@@ -5142,12 +4870,12 @@ node-enum-told-14 : (t : ℕ) → node-lts.Need-enum-told-14 (
   simple.Post,
   list-by-below t,
   list-by.Post,
-  join-below t,
-  join.Post,
   settings-below t,
   settings.Post,
   with-of-below t,
   with-of.Post,
+  join-below t,
+  join.Post,
   inline-below t,
   inline.Post,
   commas-below t,
@@ -5185,7 +4913,7 @@ node-enum-told-14 : (t : ℕ) → node-lts.Need-enum-told-14 (
   pass-below t,
   pass.Post,
 ) (node-at t) node.Post
-node-enum-told-14 t c = search needs
+node-enum-told-11 t c = search needs
 
 node-row-requires : (t : ℕ) → node-lts.Need-row-requires (
   is-copied-reads.Asked,
@@ -5210,12 +4938,12 @@ node-row-requires : (t : ℕ) → node-lts.Need-row-requires (
   simple.Post,
   list-by-below t,
   list-by.Post,
-  join-below t,
-  join.Post,
   settings-below t,
   settings.Post,
   with-of-below t,
   with-of.Post,
+  join-below t,
+  join.Post,
   inline-below t,
   inline.Post,
   commas-below t,
@@ -5255,7 +4983,7 @@ node-row-requires : (t : ℕ) → node-lts.Need-row-requires (
 ) (node-at t) node.Post
 node-row-requires t c κs = (omega (arith, c .before .before .before .before .before .before .before .before .pre .0), c .before .before .before .before .before .before .before .before .pre .1 .0)
 
-node-enum-told-15 : (t : ℕ) → node-lts.Need-enum-told-15 (
+node-enum-told-12 : (t : ℕ) → node-lts.Need-enum-told-12 (
   is-copied-reads.Asked,
   is-copied-reads.Learnt,
   head-at-reads.Asked,
@@ -5278,12 +5006,12 @@ node-enum-told-15 : (t : ℕ) → node-lts.Need-enum-told-15 (
   simple.Post,
   list-by-below t,
   list-by.Post,
-  join-below t,
-  join.Post,
   settings-below t,
   settings.Post,
   with-of-below t,
   with-of.Post,
+  join-below t,
+  join.Post,
   inline-below t,
   inline.Post,
   commas-below t,
@@ -5321,7 +5049,7 @@ node-enum-told-15 : (t : ℕ) → node-lts.Need-enum-told-15 (
   pass-below t,
   pass.Post,
 ) (node-at t) node.Post
-node-enum-told-15 t c = search needs
+node-enum-told-12 t c = search needs
 
 node-binary-requires : (t : ℕ) → node-lts.Need-binary-requires (
   is-copied-reads.Asked,
@@ -5346,12 +5074,12 @@ node-binary-requires : (t : ℕ) → node-lts.Need-binary-requires (
   simple.Post,
   list-by-below t,
   list-by.Post,
-  join-below t,
-  join.Post,
   settings-below t,
   settings.Post,
   with-of-below t,
   with-of.Post,
+  join-below t,
+  join.Post,
   inline-below t,
   inline.Post,
   commas-below t,
@@ -5391,7 +5119,7 @@ node-binary-requires : (t : ℕ) → node-lts.Need-binary-requires (
 ) (node-at t) node.Post
 node-binary-requires t c κs = (omega (arith, c .before .before .before .before .before .before .before .before .pre .0), c .before .before .before .before .before .before .before .before .pre .1 .0)
 
-node-enum-told-16 : (t : ℕ) → node-lts.Need-enum-told-16 (
+node-enum-told-13 : (t : ℕ) → node-lts.Need-enum-told-13 (
   is-copied-reads.Asked,
   is-copied-reads.Learnt,
   head-at-reads.Asked,
@@ -5414,12 +5142,12 @@ node-enum-told-16 : (t : ℕ) → node-lts.Need-enum-told-16 (
   simple.Post,
   list-by-below t,
   list-by.Post,
-  join-below t,
-  join.Post,
   settings-below t,
   settings.Post,
   with-of-below t,
   with-of.Post,
+  join-below t,
+  join.Post,
   inline-below t,
   inline.Post,
   commas-below t,
@@ -5457,7 +5185,7 @@ node-enum-told-16 : (t : ℕ) → node-lts.Need-enum-told-16 (
   pass-below t,
   pass.Post,
 ) (node-at t) node.Post
-node-enum-told-16 t c = search needs
+node-enum-told-13 t c = search needs
 
 node-unary-requires : (t : ℕ) → node-lts.Need-unary-requires (
   is-copied-reads.Asked,
@@ -5482,12 +5210,12 @@ node-unary-requires : (t : ℕ) → node-lts.Need-unary-requires (
   simple.Post,
   list-by-below t,
   list-by.Post,
-  join-below t,
-  join.Post,
   settings-below t,
   settings.Post,
   with-of-below t,
   with-of.Post,
+  join-below t,
+  join.Post,
   inline-below t,
   inline.Post,
   commas-below t,
@@ -5527,7 +5255,7 @@ node-unary-requires : (t : ℕ) → node-lts.Need-unary-requires (
 ) (node-at t) node.Post
 node-unary-requires t c κs = (omega (arith, c .before .before .before .before .before .before .before .before .pre .0), c .before .before .before .before .before .before .before .before .pre .1 .0)
 
-node-enum-told-17 : (t : ℕ) → node-lts.Need-enum-told-17 (
+node-enum-told-14 : (t : ℕ) → node-lts.Need-enum-told-14 (
   is-copied-reads.Asked,
   is-copied-reads.Learnt,
   head-at-reads.Asked,
@@ -5550,12 +5278,12 @@ node-enum-told-17 : (t : ℕ) → node-lts.Need-enum-told-17 (
   simple.Post,
   list-by-below t,
   list-by.Post,
-  join-below t,
-  join.Post,
   settings-below t,
   settings.Post,
   with-of-below t,
   with-of.Post,
+  join-below t,
+  join.Post,
   inline-below t,
   inline.Post,
   commas-below t,
@@ -5593,7 +5321,7 @@ node-enum-told-17 : (t : ℕ) → node-lts.Need-enum-told-17 (
   pass-below t,
   pass.Post,
 ) (node-at t) node.Post
-node-enum-told-17 t c = search needs
+node-enum-told-14 t c = search needs
 
 node-call-requires : (t : ℕ) → node-lts.Need-call-requires (
   is-copied-reads.Asked,
@@ -5618,12 +5346,12 @@ node-call-requires : (t : ℕ) → node-lts.Need-call-requires (
   simple.Post,
   list-by-below t,
   list-by.Post,
-  join-below t,
-  join.Post,
   settings-below t,
   settings.Post,
   with-of-below t,
   with-of.Post,
+  join-below t,
+  join.Post,
   inline-below t,
   inline.Post,
   commas-below t,
@@ -5663,7 +5391,7 @@ node-call-requires : (t : ℕ) → node-lts.Need-call-requires (
 ) (node-at t) node.Post
 node-call-requires t c κs = (omega (arith, c .before .before .before .before .before .before .before .before .pre .0), c .before .before .before .before .before .before .before .before .pre .1 .0)
 
-node-enum-told-18 : (t : ℕ) → node-lts.Need-enum-told-18 (
+node-enum-told-15 : (t : ℕ) → node-lts.Need-enum-told-15 (
   is-copied-reads.Asked,
   is-copied-reads.Learnt,
   head-at-reads.Asked,
@@ -5686,12 +5414,12 @@ node-enum-told-18 : (t : ℕ) → node-lts.Need-enum-told-18 (
   simple.Post,
   list-by-below t,
   list-by.Post,
-  join-below t,
-  join.Post,
   settings-below t,
   settings.Post,
   with-of-below t,
   with-of.Post,
+  join-below t,
+  join.Post,
   inline-below t,
   inline.Post,
   commas-below t,
@@ -5729,7 +5457,7 @@ node-enum-told-18 : (t : ℕ) → node-lts.Need-enum-told-18 (
   pass-below t,
   pass.Post,
 ) (node-at t) node.Post
-node-enum-told-18 t c = search needs
+node-enum-told-15 t c = search needs
 
 node-cases-requires : (t : ℕ) → node-lts.Need-cases-requires (
   is-copied-reads.Asked,
@@ -5754,12 +5482,12 @@ node-cases-requires : (t : ℕ) → node-lts.Need-cases-requires (
   simple.Post,
   list-by-below t,
   list-by.Post,
-  join-below t,
-  join.Post,
   settings-below t,
   settings.Post,
   with-of-below t,
   with-of.Post,
+  join-below t,
+  join.Post,
   inline-below t,
   inline.Post,
   commas-below t,
@@ -5799,7 +5527,7 @@ node-cases-requires : (t : ℕ) → node-lts.Need-cases-requires (
 ) (node-at t) node.Post
 node-cases-requires t c κs = (omega (arith, c .before .before .before .before .before .before .before .before .pre .0), c .before .before .before .before .before .before .before .before .pre .1 .0)
 
-node-enum-told-19 : (t : ℕ) → node-lts.Need-enum-told-19 (
+node-enum-told-16 : (t : ℕ) → node-lts.Need-enum-told-16 (
   is-copied-reads.Asked,
   is-copied-reads.Learnt,
   head-at-reads.Asked,
@@ -5822,12 +5550,12 @@ node-enum-told-19 : (t : ℕ) → node-lts.Need-enum-told-19 (
   simple.Post,
   list-by-below t,
   list-by.Post,
-  join-below t,
-  join.Post,
   settings-below t,
   settings.Post,
   with-of-below t,
   with-of.Post,
+  join-below t,
+  join.Post,
   inline-below t,
   inline.Post,
   commas-below t,
@@ -5865,7 +5593,7 @@ node-enum-told-19 : (t : ℕ) → node-lts.Need-enum-told-19 (
   pass-below t,
   pass.Post,
 ) (node-at t) node.Post
-node-enum-told-19 t c = search needs
+node-enum-told-16 t c = search needs
 
 node-when-of-requires : (t : ℕ) → node-lts.Need-when-of-requires (
   is-copied-reads.Asked,
@@ -5890,12 +5618,12 @@ node-when-of-requires : (t : ℕ) → node-lts.Need-when-of-requires (
   simple.Post,
   list-by-below t,
   list-by.Post,
-  join-below t,
-  join.Post,
   settings-below t,
   settings.Post,
   with-of-below t,
   with-of.Post,
+  join-below t,
+  join.Post,
   inline-below t,
   inline.Post,
   commas-below t,
@@ -5935,7 +5663,7 @@ node-when-of-requires : (t : ℕ) → node-lts.Need-when-of-requires (
 ) (node-at t) node.Post
 node-when-of-requires t c κs = (omega (arith, c .before .before .before .before .before .before .before .before .pre .0), c .before .before .before .before .before .before .before .before .pre .1 .0)
 
-node-enum-told-20 : (t : ℕ) → node-lts.Need-enum-told-20 (
+node-enum-told-17 : (t : ℕ) → node-lts.Need-enum-told-17 (
   is-copied-reads.Asked,
   is-copied-reads.Learnt,
   head-at-reads.Asked,
@@ -5958,12 +5686,12 @@ node-enum-told-20 : (t : ℕ) → node-lts.Need-enum-told-20 (
   simple.Post,
   list-by-below t,
   list-by.Post,
-  join-below t,
-  join.Post,
   settings-below t,
   settings.Post,
   with-of-below t,
   with-of.Post,
+  join-below t,
+  join.Post,
   inline-below t,
   inline.Post,
   commas-below t,
@@ -6001,7 +5729,7 @@ node-enum-told-20 : (t : ℕ) → node-lts.Need-enum-told-20 (
   pass-below t,
   pass.Post,
 ) (node-at t) node.Post
-node-enum-told-20 t c = search needs
+node-enum-told-17 t c = search needs
 
 node-subquery-requires : (t : ℕ) → node-lts.Need-subquery-requires (
   is-copied-reads.Asked,
@@ -6026,12 +5754,12 @@ node-subquery-requires : (t : ℕ) → node-lts.Need-subquery-requires (
   simple.Post,
   list-by-below t,
   list-by.Post,
-  join-below t,
-  join.Post,
   settings-below t,
   settings.Post,
   with-of-below t,
   with-of.Post,
+  join-below t,
+  join.Post,
   inline-below t,
   inline.Post,
   commas-below t,
@@ -6071,7 +5799,7 @@ node-subquery-requires : (t : ℕ) → node-lts.Need-subquery-requires (
 ) (node-at t) node.Post
 node-subquery-requires t c κs = (omega (arith, c .before .before .before .before .before .before .before .before .pre .0), c .before .before .before .before .before .before .before .before .pre .1 .0)
 
-node-enum-told-21 : (t : ℕ) → node-lts.Need-enum-told-21 (
+node-enum-told-18 : (t : ℕ) → node-lts.Need-enum-told-18 (
   is-copied-reads.Asked,
   is-copied-reads.Learnt,
   head-at-reads.Asked,
@@ -6094,12 +5822,12 @@ node-enum-told-21 : (t : ℕ) → node-lts.Need-enum-told-21 (
   simple.Post,
   list-by-below t,
   list-by.Post,
-  join-below t,
-  join.Post,
   settings-below t,
   settings.Post,
   with-of-below t,
   with-of.Post,
+  join-below t,
+  join.Post,
   inline-below t,
   inline.Post,
   commas-below t,
@@ -6137,7 +5865,7 @@ node-enum-told-21 : (t : ℕ) → node-lts.Need-enum-told-21 (
   pass-below t,
   pass.Post,
 ) (node-at t) node.Post
-node-enum-told-21 t c = search needs
+node-enum-told-18 t c = search needs
 
 node-parens-requires : (t : ℕ) → node-lts.Need-parens-requires (
   is-copied-reads.Asked,
@@ -6162,12 +5890,12 @@ node-parens-requires : (t : ℕ) → node-lts.Need-parens-requires (
   simple.Post,
   list-by-below t,
   list-by.Post,
-  join-below t,
-  join.Post,
   settings-below t,
   settings.Post,
   with-of-below t,
   with-of.Post,
+  join-below t,
+  join.Post,
   inline-below t,
   inline.Post,
   commas-below t,
@@ -6207,7 +5935,7 @@ node-parens-requires : (t : ℕ) → node-lts.Need-parens-requires (
 ) (node-at t) node.Post
 node-parens-requires t c κs = (omega (arith, c .before .before .before .before .before .before .before .before .pre .0), c .before .before .before .before .before .before .before .before .pre .1 .0)
 
-node-enum-told-22 : (t : ℕ) → node-lts.Need-enum-told-22 (
+node-enum-told-19 : (t : ℕ) → node-lts.Need-enum-told-19 (
   is-copied-reads.Asked,
   is-copied-reads.Learnt,
   head-at-reads.Asked,
@@ -6230,12 +5958,12 @@ node-enum-told-22 : (t : ℕ) → node-lts.Need-enum-told-22 (
   simple.Post,
   list-by-below t,
   list-by.Post,
-  join-below t,
-  join.Post,
   settings-below t,
   settings.Post,
   with-of-below t,
   with-of.Post,
+  join-below t,
+  join.Post,
   inline-below t,
   inline.Post,
   commas-below t,
@@ -6273,7 +6001,7 @@ node-enum-told-22 : (t : ℕ) → node-lts.Need-enum-told-22 (
   pass-below t,
   pass.Post,
 ) (node-at t) node.Post
-node-enum-told-22 t c = search needs
+node-enum-told-19 t c = search needs
 
 node-brackets-requires : (t : ℕ) → node-lts.Need-brackets-requires (
   is-copied-reads.Asked,
@@ -6298,12 +6026,12 @@ node-brackets-requires : (t : ℕ) → node-lts.Need-brackets-requires (
   simple.Post,
   list-by-below t,
   list-by.Post,
-  join-below t,
-  join.Post,
   settings-below t,
   settings.Post,
   with-of-below t,
   with-of.Post,
+  join-below t,
+  join.Post,
   inline-below t,
   inline.Post,
   commas-below t,
@@ -6343,7 +6071,7 @@ node-brackets-requires : (t : ℕ) → node-lts.Need-brackets-requires (
 ) (node-at t) node.Post
 node-brackets-requires t c κs = (omega (arith, c .before .before .before .before .before .before .before .before .pre .0), c .before .before .before .before .before .before .before .before .pre .1 .0)
 
-node-enum-told-23 : (t : ℕ) → node-lts.Need-enum-told-23 (
+node-enum-told-20 : (t : ℕ) → node-lts.Need-enum-told-20 (
   is-copied-reads.Asked,
   is-copied-reads.Learnt,
   head-at-reads.Asked,
@@ -6366,12 +6094,12 @@ node-enum-told-23 : (t : ℕ) → node-lts.Need-enum-told-23 (
   simple.Post,
   list-by-below t,
   list-by.Post,
-  join-below t,
-  join.Post,
   settings-below t,
   settings.Post,
   with-of-below t,
   with-of.Post,
+  join-below t,
+  join.Post,
   inline-below t,
   inline.Post,
   commas-below t,
@@ -6409,7 +6137,7 @@ node-enum-told-23 : (t : ℕ) → node-lts.Need-enum-told-23 (
   pass-below t,
   pass.Post,
 ) (node-at t) node.Post
-node-enum-told-23 t c = search needs
+node-enum-told-20 t c = search needs
 
 node-solid-requires : (t : ℕ) → node-lts.Need-solid-requires (
   is-copied-reads.Asked,
@@ -6434,12 +6162,12 @@ node-solid-requires : (t : ℕ) → node-lts.Need-solid-requires (
   simple.Post,
   list-by-below t,
   list-by.Post,
-  join-below t,
-  join.Post,
   settings-below t,
   settings.Post,
   with-of-below t,
   with-of.Post,
+  join-below t,
+  join.Post,
   inline-below t,
   inline.Post,
   commas-below t,
@@ -6479,7 +6207,7 @@ node-solid-requires : (t : ℕ) → node-lts.Need-solid-requires (
 ) (node-at t) node.Post
 node-solid-requires t c κs = (omega (arith, c .before .before .before .before .before .before .before .before .pre .0), c .before .before .before .before .before .before .before .before .pre .1 .0)
 
-node-enum-told-24 : (t : ℕ) → node-lts.Need-enum-told-24 (
+node-enum-told-21 : (t : ℕ) → node-lts.Need-enum-told-21 (
   is-copied-reads.Asked,
   is-copied-reads.Learnt,
   head-at-reads.Asked,
@@ -6502,12 +6230,12 @@ node-enum-told-24 : (t : ℕ) → node-lts.Need-enum-told-24 (
   simple.Post,
   list-by-below t,
   list-by.Post,
-  join-below t,
-  join.Post,
   settings-below t,
   settings.Post,
   with-of-below t,
   with-of.Post,
+  join-below t,
+  join.Post,
   inline-below t,
   inline.Post,
   commas-below t,
@@ -6545,7 +6273,7 @@ node-enum-told-24 : (t : ℕ) → node-lts.Need-enum-told-24 (
   pass-below t,
   pass.Post,
 ) (node-at t) node.Post
-node-enum-told-24 t c = search needs
+node-enum-told-21 t c = search needs
 
 node-braces-requires : (t : ℕ) → node-lts.Need-braces-requires (
   is-copied-reads.Asked,
@@ -6570,12 +6298,12 @@ node-braces-requires : (t : ℕ) → node-lts.Need-braces-requires (
   simple.Post,
   list-by-below t,
   list-by.Post,
-  join-below t,
-  join.Post,
   settings-below t,
   settings.Post,
   with-of-below t,
   with-of.Post,
+  join-below t,
+  join.Post,
   inline-below t,
   inline.Post,
   commas-below t,
@@ -6615,7 +6343,7 @@ node-braces-requires : (t : ℕ) → node-lts.Need-braces-requires (
 ) (node-at t) node.Post
 node-braces-requires t c κs = (omega (arith, c .before .before .before .before .before .before .before .before .pre .0), c .before .before .before .before .before .before .before .before .pre .1 .0)
 
-node-enum-told-25 : (t : ℕ) → node-lts.Need-enum-told-25 (
+node-enum-told-22 : (t : ℕ) → node-lts.Need-enum-told-22 (
   is-copied-reads.Asked,
   is-copied-reads.Learnt,
   head-at-reads.Asked,
@@ -6638,12 +6366,12 @@ node-enum-told-25 : (t : ℕ) → node-lts.Need-enum-told-25 (
   simple.Post,
   list-by-below t,
   list-by.Post,
-  join-below t,
-  join.Post,
   settings-below t,
   settings.Post,
   with-of-below t,
   with-of.Post,
+  join-below t,
+  join.Post,
   inline-below t,
   inline.Post,
   commas-below t,
@@ -6681,7 +6409,7 @@ node-enum-told-25 : (t : ℕ) → node-lts.Need-enum-told-25 (
   pass-below t,
   pass.Post,
 ) (node-at t) node.Post
-node-enum-told-25 t c = search needs
+node-enum-told-22 t c = search needs
 
 node-types-requires : (t : ℕ) → node-lts.Need-types-requires (
   is-copied-reads.Asked,
@@ -6706,12 +6434,12 @@ node-types-requires : (t : ℕ) → node-lts.Need-types-requires (
   simple.Post,
   list-by-below t,
   list-by.Post,
-  join-below t,
-  join.Post,
   settings-below t,
   settings.Post,
   with-of-below t,
   with-of.Post,
+  join-below t,
+  join.Post,
   inline-below t,
   inline.Post,
   commas-below t,
@@ -6751,7 +6479,7 @@ node-types-requires : (t : ℕ) → node-lts.Need-types-requires (
 ) (node-at t) node.Post
 node-types-requires t c κs = (omega (arith, c .before .before .before .before .before .before .before .before .pre .0), c .before .before .before .before .before .before .before .before .pre .1 .0)
 
-node-enum-told-26 : (t : ℕ) → node-lts.Need-enum-told-26 (
+node-enum-told-23 : (t : ℕ) → node-lts.Need-enum-told-23 (
   is-copied-reads.Asked,
   is-copied-reads.Learnt,
   head-at-reads.Asked,
@@ -6774,12 +6502,12 @@ node-enum-told-26 : (t : ℕ) → node-lts.Need-enum-told-26 (
   simple.Post,
   list-by-below t,
   list-by.Post,
-  join-below t,
-  join.Post,
   settings-below t,
   settings.Post,
   with-of-below t,
   with-of.Post,
+  join-below t,
+  join.Post,
   inline-below t,
   inline.Post,
   commas-below t,
@@ -6817,7 +6545,7 @@ node-enum-told-26 : (t : ℕ) → node-lts.Need-enum-told-26 (
   pass-below t,
   pass.Post,
 ) (node-at t) node.Post
-node-enum-told-26 t c = search needs
+node-enum-told-23 t c = search needs
 
 node-tight-requires : (t : ℕ) → node-lts.Need-tight-requires (
   is-copied-reads.Asked,
@@ -6842,12 +6570,12 @@ node-tight-requires : (t : ℕ) → node-lts.Need-tight-requires (
   simple.Post,
   list-by-below t,
   list-by.Post,
-  join-below t,
-  join.Post,
   settings-below t,
   settings.Post,
   with-of-below t,
   with-of.Post,
+  join-below t,
+  join.Post,
   inline-below t,
   inline.Post,
   commas-below t,
@@ -6887,7 +6615,7 @@ node-tight-requires : (t : ℕ) → node-lts.Need-tight-requires (
 ) (node-at t) node.Post
 node-tight-requires t c κs = (omega (arith, c .before .before .before .before .before .before .before .before .pre .0), c .before .before .before .before .before .before .before .before .pre .1 .0)
 
-node-enum-told-27 : (t : ℕ) → node-lts.Need-enum-told-27 (
+node-enum-told-24 : (t : ℕ) → node-lts.Need-enum-told-24 (
   is-copied-reads.Asked,
   is-copied-reads.Learnt,
   head-at-reads.Asked,
@@ -6910,12 +6638,12 @@ node-enum-told-27 : (t : ℕ) → node-lts.Need-enum-told-27 (
   simple.Post,
   list-by-below t,
   list-by.Post,
-  join-below t,
-  join.Post,
   settings-below t,
   settings.Post,
   with-of-below t,
   with-of.Post,
+  join-below t,
+  join.Post,
   inline-below t,
   inline.Post,
   commas-below t,
@@ -6953,7 +6681,7 @@ node-enum-told-27 : (t : ℕ) → node-lts.Need-enum-told-27 (
   pass-below t,
   pass.Post,
 ) (node-at t) node.Post
-node-enum-told-27 t c = search needs
+node-enum-told-24 t c = search needs
 
 node-alter-requires : (t : ℕ) → node-lts.Need-alter-requires (
   is-copied-reads.Asked,
@@ -6978,12 +6706,12 @@ node-alter-requires : (t : ℕ) → node-lts.Need-alter-requires (
   simple.Post,
   list-by-below t,
   list-by.Post,
-  join-below t,
-  join.Post,
   settings-below t,
   settings.Post,
   with-of-below t,
   with-of.Post,
+  join-below t,
+  join.Post,
   inline-below t,
   inline.Post,
   commas-below t,
@@ -7023,7 +6751,7 @@ node-alter-requires : (t : ℕ) → node-lts.Need-alter-requires (
 ) (node-at t) node.Post
 node-alter-requires t c κs = (omega (arith, c .before .before .before .before .before .before .before .before .pre .0), c .before .before .before .before .before .before .before .before .pre .1 .0)
 
-node-enum-told-28 : (t : ℕ) → node-lts.Need-enum-told-28 (
+node-enum-told-25 : (t : ℕ) → node-lts.Need-enum-told-25 (
   is-copied-reads.Asked,
   is-copied-reads.Learnt,
   head-at-reads.Asked,
@@ -7046,12 +6774,12 @@ node-enum-told-28 : (t : ℕ) → node-lts.Need-enum-told-28 (
   simple.Post,
   list-by-below t,
   list-by.Post,
-  join-below t,
-  join.Post,
   settings-below t,
   settings.Post,
   with-of-below t,
   with-of.Post,
+  join-below t,
+  join.Post,
   inline-below t,
   inline.Post,
   commas-below t,
@@ -7089,7 +6817,7 @@ node-enum-told-28 : (t : ℕ) → node-lts.Need-enum-told-28 (
   pass-below t,
   pass.Post,
 ) (node-at t) node.Post
-node-enum-told-28 t c = search needs
+node-enum-told-25 t c = search needs
 
 node-unions-requires : (t : ℕ) → node-lts.Need-unions-requires (
   is-copied-reads.Asked,
@@ -7114,12 +6842,12 @@ node-unions-requires : (t : ℕ) → node-lts.Need-unions-requires (
   simple.Post,
   list-by-below t,
   list-by.Post,
-  join-below t,
-  join.Post,
   settings-below t,
   settings.Post,
   with-of-below t,
   with-of.Post,
+  join-below t,
+  join.Post,
   inline-below t,
   inline.Post,
   commas-below t,
@@ -7159,7 +6887,7 @@ node-unions-requires : (t : ℕ) → node-lts.Need-unions-requires (
 ) (node-at t) node.Post
 node-unions-requires t c κs = (omega (arith, c .before .before .before .before .before .before .before .before .pre .0), c .before .before .before .before .before .before .before .before .pre .1 .0)
 
-node-enum-told-29 : (t : ℕ) → node-lts.Need-enum-told-29 (
+node-enum-told-26 : (t : ℕ) → node-lts.Need-enum-told-26 (
   is-copied-reads.Asked,
   is-copied-reads.Learnt,
   head-at-reads.Asked,
@@ -7182,12 +6910,12 @@ node-enum-told-29 : (t : ℕ) → node-lts.Need-enum-told-29 (
   simple.Post,
   list-by-below t,
   list-by.Post,
-  join-below t,
-  join.Post,
   settings-below t,
   settings.Post,
   with-of-below t,
   with-of.Post,
+  join-below t,
+  join.Post,
   inline-below t,
   inline.Post,
   commas-below t,
@@ -7225,7 +6953,7 @@ node-enum-told-29 : (t : ℕ) → node-lts.Need-enum-told-29 (
   pass-below t,
   pass.Post,
 ) (node-at t) node.Post
-node-enum-told-29 t c = search needs
+node-enum-told-26 t c = search needs
 
 node-pass-requires : (t : ℕ) → node-lts.Need-pass-requires (
   is-copied-reads.Asked,
@@ -7250,12 +6978,12 @@ node-pass-requires : (t : ℕ) → node-lts.Need-pass-requires (
   simple.Post,
   list-by-below t,
   list-by.Post,
-  join-below t,
-  join.Post,
   settings-below t,
   settings.Post,
   with-of-below t,
   with-of.Post,
+  join-below t,
+  join.Post,
   inline-below t,
   inline.Post,
   commas-below t,
@@ -7318,12 +7046,12 @@ node-same-length-2 : (t : ℕ) → node-lts.Need-same-length-2 (
   simple.Post,
   list-by-below t,
   list-by.Post,
-  join-below t,
-  join.Post,
   settings-below t,
   settings.Post,
   with-of-below t,
   with-of.Post,
+  join-below t,
+  join.Post,
   inline-below t,
   inline.Post,
   commas-below t,
@@ -7386,12 +7114,12 @@ node-returns-2 : (t : ℕ) → node-lts.Need-returns-2 (
   simple.Post,
   list-by-below t,
   list-by.Post,
-  join-below t,
-  join.Post,
   settings-below t,
   settings.Post,
   with-of-below t,
   with-of.Post,
+  join-below t,
+  join.Post,
   inline-below t,
   inline.Post,
   commas-below t,
@@ -7455,12 +7183,12 @@ node-same-length-3 : (t : ℕ) → node-lts.Need-same-length-3 (
   simple.Post,
   list-by-below t,
   list-by.Post,
-  join-below t,
-  join.Post,
   settings-below t,
   settings.Post,
   with-of-below t,
   with-of.Post,
+  join-below t,
+  join.Post,
   inline-below t,
   inline.Post,
   commas-below t,
@@ -7523,12 +7251,12 @@ node-returns-3 : (t : ℕ) → node-lts.Need-returns-3 (
   simple.Post,
   list-by-below t,
   list-by.Post,
-  join-below t,
-  join.Post,
   settings-below t,
   settings.Post,
   with-of-below t,
   with-of.Post,
+  join-below t,
+  join.Post,
   inline-below t,
   inline.Post,
   commas-below t,
@@ -7592,12 +7320,12 @@ node-same-length-4 : (t : ℕ) → node-lts.Need-same-length-4 (
   simple.Post,
   list-by-below t,
   list-by.Post,
-  join-below t,
-  join.Post,
   settings-below t,
   settings.Post,
   with-of-below t,
   with-of.Post,
+  join-below t,
+  join.Post,
   inline-below t,
   inline.Post,
   commas-below t,
@@ -7660,12 +7388,12 @@ node-returns-4 : (t : ℕ) → node-lts.Need-returns-4 (
   simple.Post,
   list-by-below t,
   list-by.Post,
-  join-below t,
-  join.Post,
   settings-below t,
   settings.Post,
   with-of-below t,
   with-of.Post,
+  join-below t,
+  join.Post,
   inline-below t,
   inline.Post,
   commas-below t,
@@ -7729,12 +7457,12 @@ node-same-length-5 : (t : ℕ) → node-lts.Need-same-length-5 (
   simple.Post,
   list-by-below t,
   list-by.Post,
-  join-below t,
-  join.Post,
   settings-below t,
   settings.Post,
   with-of-below t,
   with-of.Post,
+  join-below t,
+  join.Post,
   inline-below t,
   inline.Post,
   commas-below t,
@@ -7797,12 +7525,12 @@ node-returns-5 : (t : ℕ) → node-lts.Need-returns-5 (
   simple.Post,
   list-by-below t,
   list-by.Post,
-  join-below t,
-  join.Post,
   settings-below t,
   settings.Post,
   with-of-below t,
   with-of.Post,
+  join-below t,
+  join.Post,
   inline-below t,
   inline.Post,
   commas-below t,
@@ -7866,12 +7594,12 @@ node-same-length-6 : (t : ℕ) → node-lts.Need-same-length-6 (
   simple.Post,
   list-by-below t,
   list-by.Post,
-  join-below t,
-  join.Post,
   settings-below t,
   settings.Post,
   with-of-below t,
   with-of.Post,
+  join-below t,
+  join.Post,
   inline-below t,
   inline.Post,
   commas-below t,
@@ -7934,12 +7662,12 @@ node-returns-6 : (t : ℕ) → node-lts.Need-returns-6 (
   simple.Post,
   list-by-below t,
   list-by.Post,
-  join-below t,
-  join.Post,
   settings-below t,
   settings.Post,
   with-of-below t,
   with-of.Post,
+  join-below t,
+  join.Post,
   inline-below t,
   inline.Post,
   commas-below t,
@@ -8003,12 +7731,12 @@ node-same-length-7 : (t : ℕ) → node-lts.Need-same-length-7 (
   simple.Post,
   list-by-below t,
   list-by.Post,
-  join-below t,
-  join.Post,
   settings-below t,
   settings.Post,
   with-of-below t,
   with-of.Post,
+  join-below t,
+  join.Post,
   inline-below t,
   inline.Post,
   commas-below t,
@@ -8071,12 +7799,12 @@ node-returns-7 : (t : ℕ) → node-lts.Need-returns-7 (
   simple.Post,
   list-by-below t,
   list-by.Post,
-  join-below t,
-  join.Post,
   settings-below t,
   settings.Post,
   with-of-below t,
   with-of.Post,
+  join-below t,
+  join.Post,
   inline-below t,
   inline.Post,
   commas-below t,
@@ -8115,7 +7843,7 @@ node-returns-7 : (t : ℕ) → node-lts.Need-returns-7 (
   pass.Post,
 ) (node-at t) node.Post
 unfolding armsOf
-node-returns-7 t c = node-by the-variants.GroupByClause (c .before .before .before .before .before .before .before .before .before .before .before .pre .1 .1) (⊎-elim (λ w. scanned-as (w .1 .ensures) (w .2 .left)) (λ w. clean-node (c .before .before .before .before .before .before .before .before .before .before .before .pre .1 .0) (c .before .before .before .before .before .before .before .before .before .before .before .pre .1 .1) (w .left)) (c .before .before .before .before .before .before .before .if1 .came)) (sym (c .before .before .before .before .enum-told6 .given .1) ∙ c .before .before .before .before .before .before .routine-of .ensures) (c .before .before .list-by .ensures)
+node-returns-7 t c = node-by (the-variants.ListClause _) (c .before .before .before .before .before .before .before .before .before .before .before .before .pre .1 .1) (⊎-elim (λ w. scanned-as (w .1 .ensures) (w .2 .left)) (λ w. clean-node (c .before .before .before .before .before .before .before .before .before .before .before .before .pre .1 .0) (c .before .before .before .before .before .before .before .before .before .before .before .before .pre .1 .1) (w .left)) (c .before .before .before .before .before .before .before .before .if1 .came)) (sym (c .before .before .before .before .before .r .given .1) ∙ c .before .before .before .before .before .before .before .routine-of .ensures) (c .before .before .list-by .ensures)
 
 node-same-length-8 : (t : ℕ) → node-lts.Need-same-length-8 (
   is-copied-reads.Asked,
@@ -8140,12 +7868,12 @@ node-same-length-8 : (t : ℕ) → node-lts.Need-same-length-8 (
   simple.Post,
   list-by-below t,
   list-by.Post,
-  join-below t,
-  join.Post,
   settings-below t,
   settings.Post,
   with-of-below t,
   with-of.Post,
+  join-below t,
+  join.Post,
   inline-below t,
   inline.Post,
   commas-below t,
@@ -8183,7 +7911,7 @@ node-same-length-8 : (t : ℕ) → node-lts.Need-same-length-8 (
   pass-below t,
   pass.Post,
 ) (node-at t) node.Post
-node-same-length-8 t c = c .before .before .list-by2 .kept .1 .1 .1 .1 .0
+node-same-length-8 t c = c .before .before .settings .kept .1 .1 .1 .1 .0
 
 node-returns-8 : (t : ℕ) → node-lts.Need-returns-8 (
   is-copied-reads.Asked,
@@ -8208,12 +7936,12 @@ node-returns-8 : (t : ℕ) → node-lts.Need-returns-8 (
   simple.Post,
   list-by-below t,
   list-by.Post,
-  join-below t,
-  join.Post,
   settings-below t,
   settings.Post,
   with-of-below t,
   with-of.Post,
+  join-below t,
+  join.Post,
   inline-below t,
   inline.Post,
   commas-below t,
@@ -8252,7 +7980,7 @@ node-returns-8 : (t : ℕ) → node-lts.Need-returns-8 (
   pass.Post,
 ) (node-at t) node.Post
 unfolding armsOf
-node-returns-8 t c = node-by the-variants.OrderByClause (c .before .before .before .before .before .before .before .before .before .before .before .pre .1 .1) (⊎-elim (λ w. scanned-as (w .1 .ensures) (w .2 .left)) (λ w. clean-node (c .before .before .before .before .before .before .before .before .before .before .before .pre .1 .0) (c .before .before .before .before .before .before .before .before .before .before .before .pre .1 .1) (w .left)) (c .before .before .before .before .before .before .before .if1 .came)) (sym (c .before .before .before .before .enum-told7 .given .1) ∙ c .before .before .before .before .before .before .routine-of .ensures) (c .before .before .list-by2 .ensures)
+node-returns-8 t c = node-by the-variants.SettingsClause (c .before .before .before .before .before .before .before .before .before .before .before .pre .1 .1) (⊎-elim (λ w. scanned-as (w .1 .ensures) (w .2 .left)) (λ w. clean-node (c .before .before .before .before .before .before .before .before .before .before .before .pre .1 .0) (c .before .before .before .before .before .before .before .before .before .before .before .pre .1 .1) (w .left)) (c .before .before .before .before .before .before .before .if1 .came)) (sym (c .before .before .before .before .enum-told6 .given .1) ∙ c .before .before .before .before .before .before .routine-of .ensures) (c .before .before .settings .ensures)
 
 node-same-length-9 : (t : ℕ) → node-lts.Need-same-length-9 (
   is-copied-reads.Asked,
@@ -8277,12 +8005,12 @@ node-same-length-9 : (t : ℕ) → node-lts.Need-same-length-9 (
   simple.Post,
   list-by-below t,
   list-by.Post,
-  join-below t,
-  join.Post,
   settings-below t,
   settings.Post,
   with-of-below t,
   with-of.Post,
+  join-below t,
+  join.Post,
   inline-below t,
   inline.Post,
   commas-below t,
@@ -8320,7 +8048,7 @@ node-same-length-9 : (t : ℕ) → node-lts.Need-same-length-9 (
   pass-below t,
   pass.Post,
 ) (node-at t) node.Post
-node-same-length-9 t c = c .before .before .join .kept .1 .1 .1 .1 .0
+node-same-length-9 t c = c .before .before .with-of .kept .1 .1 .1 .1 .0
 
 node-returns-9 : (t : ℕ) → node-lts.Need-returns-9 (
   is-copied-reads.Asked,
@@ -8345,12 +8073,12 @@ node-returns-9 : (t : ℕ) → node-lts.Need-returns-9 (
   simple.Post,
   list-by-below t,
   list-by.Post,
-  join-below t,
-  join.Post,
   settings-below t,
   settings.Post,
   with-of-below t,
   with-of.Post,
+  join-below t,
+  join.Post,
   inline-below t,
   inline.Post,
   commas-below t,
@@ -8389,7 +8117,7 @@ node-returns-9 : (t : ℕ) → node-lts.Need-returns-9 (
   pass.Post,
 ) (node-at t) node.Post
 unfolding armsOf
-node-returns-9 t c = node-by the-variants.LimitByClause (c .before .before .before .before .before .before .before .before .before .before .before .pre .1 .1) (⊎-elim (λ w. scanned-as (w .1 .ensures) (w .2 .left)) (λ w. clean-node (c .before .before .before .before .before .before .before .before .before .before .before .pre .1 .0) (c .before .before .before .before .before .before .before .before .before .before .before .pre .1 .1) (w .left)) (c .before .before .before .before .before .before .before .if1 .came)) (sym (c .before .before .before .before .enum-told8 .given .1) ∙ c .before .before .before .before .before .before .routine-of .ensures) (c .before .before .join .ensures)
+node-returns-9 t c = node-by the-variants.WithClause (c .before .before .before .before .before .before .before .before .before .before .before .pre .1 .1) (⊎-elim (λ w. scanned-as (w .1 .ensures) (w .2 .left)) (λ w. clean-node (c .before .before .before .before .before .before .before .before .before .before .before .pre .1 .0) (c .before .before .before .before .before .before .before .before .before .before .before .pre .1 .1) (w .left)) (c .before .before .before .before .before .before .before .if1 .came)) (sym (c .before .before .before .before .enum-told7 .given .1) ∙ c .before .before .before .before .before .before .routine-of .ensures) (c .before .before .with-of .ensures)
 
 node-same-length-10 : (t : ℕ) → node-lts.Need-same-length-10 (
   is-copied-reads.Asked,
@@ -8414,12 +8142,12 @@ node-same-length-10 : (t : ℕ) → node-lts.Need-same-length-10 (
   simple.Post,
   list-by-below t,
   list-by.Post,
-  join-below t,
-  join.Post,
   settings-below t,
   settings.Post,
   with-of-below t,
   with-of.Post,
+  join-below t,
+  join.Post,
   inline-below t,
   inline.Post,
   commas-below t,
@@ -8457,7 +8185,7 @@ node-same-length-10 : (t : ℕ) → node-lts.Need-same-length-10 (
   pass-below t,
   pass.Post,
 ) (node-at t) node.Post
-node-same-length-10 t c = c .before .before .settings .kept .1 .1 .1 .1 .0
+node-same-length-10 t c = c .before .before .join .kept .1 .1 .1 .1 .0
 
 node-returns-10 : (t : ℕ) → node-lts.Need-returns-10 (
   is-copied-reads.Asked,
@@ -8482,12 +8210,12 @@ node-returns-10 : (t : ℕ) → node-lts.Need-returns-10 (
   simple.Post,
   list-by-below t,
   list-by.Post,
-  join-below t,
-  join.Post,
   settings-below t,
   settings.Post,
   with-of-below t,
   with-of.Post,
+  join-below t,
+  join.Post,
   inline-below t,
   inline.Post,
   commas-below t,
@@ -8526,7 +8254,7 @@ node-returns-10 : (t : ℕ) → node-lts.Need-returns-10 (
   pass.Post,
 ) (node-at t) node.Post
 unfolding armsOf
-node-returns-10 t c = node-by the-variants.SettingsClause (c .before .before .before .before .before .before .before .before .before .before .before .pre .1 .1) (⊎-elim (λ w. scanned-as (w .1 .ensures) (w .2 .left)) (λ w. clean-node (c .before .before .before .before .before .before .before .before .before .before .before .pre .1 .0) (c .before .before .before .before .before .before .before .before .before .before .before .pre .1 .1) (w .left)) (c .before .before .before .before .before .before .before .if1 .came)) (sym (c .before .before .before .before .enum-told9 .given .1) ∙ c .before .before .before .before .before .before .routine-of .ensures) (c .before .before .settings .ensures)
+node-returns-10 t c = node-by the-variants.JoinClause (c .before .before .before .before .before .before .before .before .before .before .before .pre .1 .1) (⊎-elim (λ w. scanned-as (w .1 .ensures) (w .2 .left)) (λ w. clean-node (c .before .before .before .before .before .before .before .before .before .before .before .pre .1 .0) (c .before .before .before .before .before .before .before .before .before .before .before .pre .1 .1) (w .left)) (c .before .before .before .before .before .before .before .if1 .came)) (sym (c .before .before .before .before .enum-told8 .given .1) ∙ c .before .before .before .before .before .before .routine-of .ensures) (c .before .before .join .ensures)
 
 node-same-length-11 : (t : ℕ) → node-lts.Need-same-length-11 (
   is-copied-reads.Asked,
@@ -8551,12 +8279,12 @@ node-same-length-11 : (t : ℕ) → node-lts.Need-same-length-11 (
   simple.Post,
   list-by-below t,
   list-by.Post,
-  join-below t,
-  join.Post,
   settings-below t,
   settings.Post,
   with-of-below t,
   with-of.Post,
+  join-below t,
+  join.Post,
   inline-below t,
   inline.Post,
   commas-below t,
@@ -8594,7 +8322,7 @@ node-same-length-11 : (t : ℕ) → node-lts.Need-same-length-11 (
   pass-below t,
   pass.Post,
 ) (node-at t) node.Post
-node-same-length-11 t c = c .before .before .with-of .kept .1 .1 .1 .1 .0
+node-same-length-11 t c = c .before .before .inline .kept .1 .1 .1 .1 .0
 
 node-returns-11 : (t : ℕ) → node-lts.Need-returns-11 (
   is-copied-reads.Asked,
@@ -8619,12 +8347,12 @@ node-returns-11 : (t : ℕ) → node-lts.Need-returns-11 (
   simple.Post,
   list-by-below t,
   list-by.Post,
-  join-below t,
-  join.Post,
   settings-below t,
   settings.Post,
   with-of-below t,
   with-of.Post,
+  join-below t,
+  join.Post,
   inline-below t,
   inline.Post,
   commas-below t,
@@ -8663,7 +8391,7 @@ node-returns-11 : (t : ℕ) → node-lts.Need-returns-11 (
   pass.Post,
 ) (node-at t) node.Post
 unfolding armsOf
-node-returns-11 t c = node-by the-variants.WithClause (c .before .before .before .before .before .before .before .before .before .before .before .pre .1 .1) (⊎-elim (λ w. scanned-as (w .1 .ensures) (w .2 .left)) (λ w. clean-node (c .before .before .before .before .before .before .before .before .before .before .before .pre .1 .0) (c .before .before .before .before .before .before .before .before .before .before .before .pre .1 .1) (w .left)) (c .before .before .before .before .before .before .before .if1 .came)) (sym (c .before .before .before .before .enum-told10 .given .1) ∙ c .before .before .before .before .before .before .routine-of .ensures) (c .before .before .with-of .ensures)
+node-returns-11 t c = node-by the-variants.Inline (c .before .before .before .before .before .before .before .before .before .before .before .pre .1 .1) (⊎-elim (λ w. scanned-as (w .1 .ensures) (w .2 .left)) (λ w. clean-node (c .before .before .before .before .before .before .before .before .before .before .before .pre .1 .0) (c .before .before .before .before .before .before .before .before .before .before .before .pre .1 .1) (w .left)) (c .before .before .before .before .before .before .before .if1 .came)) (sym (c .before .before .before .before .enum-told9 .given .1) ∙ c .before .before .before .before .before .before .routine-of .ensures) (c .before .before .inline .ensures)
 
 node-same-length-12 : (t : ℕ) → node-lts.Need-same-length-12 (
   is-copied-reads.Asked,
@@ -8688,12 +8416,12 @@ node-same-length-12 : (t : ℕ) → node-lts.Need-same-length-12 (
   simple.Post,
   list-by-below t,
   list-by.Post,
-  join-below t,
-  join.Post,
   settings-below t,
   settings.Post,
   with-of-below t,
   with-of.Post,
+  join-below t,
+  join.Post,
   inline-below t,
   inline.Post,
   commas-below t,
@@ -8731,7 +8459,7 @@ node-same-length-12 : (t : ℕ) → node-lts.Need-same-length-12 (
   pass-below t,
   pass.Post,
 ) (node-at t) node.Post
-node-same-length-12 t c = c .before .before .join2 .kept .1 .1 .1 .1 .0
+node-same-length-12 t c = c .before .before .commas .kept .1 .1 .1 .1 .0
 
 node-returns-12 : (t : ℕ) → node-lts.Need-returns-12 (
   is-copied-reads.Asked,
@@ -8756,12 +8484,12 @@ node-returns-12 : (t : ℕ) → node-lts.Need-returns-12 (
   simple.Post,
   list-by-below t,
   list-by.Post,
-  join-below t,
-  join.Post,
   settings-below t,
   settings.Post,
   with-of-below t,
   with-of.Post,
+  join-below t,
+  join.Post,
   inline-below t,
   inline.Post,
   commas-below t,
@@ -8800,7 +8528,7 @@ node-returns-12 : (t : ℕ) → node-lts.Need-returns-12 (
   pass.Post,
 ) (node-at t) node.Post
 unfolding armsOf
-node-returns-12 t c = node-by the-variants.JoinClause (c .before .before .before .before .before .before .before .before .before .before .before .pre .1 .1) (⊎-elim (λ w. scanned-as (w .1 .ensures) (w .2 .left)) (λ w. clean-node (c .before .before .before .before .before .before .before .before .before .before .before .pre .1 .0) (c .before .before .before .before .before .before .before .before .before .before .before .pre .1 .1) (w .left)) (c .before .before .before .before .before .before .before .if1 .came)) (sym (c .before .before .before .before .enum-told11 .given .1) ∙ c .before .before .before .before .before .before .routine-of .ensures) (c .before .before .join2 .ensures)
+node-returns-12 t c = node-by the-variants.CommaList (c .before .before .before .before .before .before .before .before .before .before .before .pre .1 .1) (⊎-elim (λ w. scanned-as (w .1 .ensures) (w .2 .left)) (λ w. clean-node (c .before .before .before .before .before .before .before .before .before .before .before .pre .1 .0) (c .before .before .before .before .before .before .before .before .before .before .before .pre .1 .1) (w .left)) (c .before .before .before .before .before .before .before .if1 .came)) (sym (c .before .before .before .before .enum-told10 .given .1) ∙ c .before .before .before .before .before .before .routine-of .ensures) (c .before .before .commas .ensures)
 
 node-same-length-13 : (t : ℕ) → node-lts.Need-same-length-13 (
   is-copied-reads.Asked,
@@ -8825,12 +8553,12 @@ node-same-length-13 : (t : ℕ) → node-lts.Need-same-length-13 (
   simple.Post,
   list-by-below t,
   list-by.Post,
-  join-below t,
-  join.Post,
   settings-below t,
   settings.Post,
   with-of-below t,
   with-of.Post,
+  join-below t,
+  join.Post,
   inline-below t,
   inline.Post,
   commas-below t,
@@ -8868,7 +8596,7 @@ node-same-length-13 : (t : ℕ) → node-lts.Need-same-length-13 (
   pass-below t,
   pass.Post,
 ) (node-at t) node.Post
-node-same-length-13 t c = c .before .before .inline .kept .1 .1 .1 .1 .0
+node-same-length-13 t c = c .before .before .row .kept .1 .1 .1 .1 .0
 
 node-returns-13 : (t : ℕ) → node-lts.Need-returns-13 (
   is-copied-reads.Asked,
@@ -8893,12 +8621,12 @@ node-returns-13 : (t : ℕ) → node-lts.Need-returns-13 (
   simple.Post,
   list-by-below t,
   list-by.Post,
-  join-below t,
-  join.Post,
   settings-below t,
   settings.Post,
   with-of-below t,
   with-of.Post,
+  join-below t,
+  join.Post,
   inline-below t,
   inline.Post,
   commas-below t,
@@ -8937,7 +8665,7 @@ node-returns-13 : (t : ℕ) → node-lts.Need-returns-13 (
   pass.Post,
 ) (node-at t) node.Post
 unfolding armsOf
-node-returns-13 t c = node-by the-variants.Inline (c .before .before .before .before .before .before .before .before .before .before .before .pre .1 .1) (⊎-elim (λ w. scanned-as (w .1 .ensures) (w .2 .left)) (λ w. clean-node (c .before .before .before .before .before .before .before .before .before .before .before .pre .1 .0) (c .before .before .before .before .before .before .before .before .before .before .before .pre .1 .1) (w .left)) (c .before .before .before .before .before .before .before .if1 .came)) (sym (c .before .before .before .before .enum-told12 .given .1) ∙ c .before .before .before .before .before .before .routine-of .ensures) (c .before .before .inline .ensures)
+node-returns-13 t c = node-by the-variants.InlineCommaList (c .before .before .before .before .before .before .before .before .before .before .before .pre .1 .1) (⊎-elim (λ w. scanned-as (w .1 .ensures) (w .2 .left)) (λ w. clean-node (c .before .before .before .before .before .before .before .before .before .before .before .pre .1 .0) (c .before .before .before .before .before .before .before .before .before .before .before .pre .1 .1) (w .left)) (c .before .before .before .before .before .before .before .if1 .came)) (sym (c .before .before .before .before .enum-told11 .given .1) ∙ c .before .before .before .before .before .before .routine-of .ensures) (c .before .before .row .ensures)
 
 node-same-length-14 : (t : ℕ) → node-lts.Need-same-length-14 (
   is-copied-reads.Asked,
@@ -8962,12 +8690,12 @@ node-same-length-14 : (t : ℕ) → node-lts.Need-same-length-14 (
   simple.Post,
   list-by-below t,
   list-by.Post,
-  join-below t,
-  join.Post,
   settings-below t,
   settings.Post,
   with-of-below t,
   with-of.Post,
+  join-below t,
+  join.Post,
   inline-below t,
   inline.Post,
   commas-below t,
@@ -9005,7 +8733,7 @@ node-same-length-14 : (t : ℕ) → node-lts.Need-same-length-14 (
   pass-below t,
   pass.Post,
 ) (node-at t) node.Post
-node-same-length-14 t c = c .before .before .commas .kept .1 .1 .1 .1 .0
+node-same-length-14 t c = c .before .before .binary .kept .1 .1 .1 .1 .0
 
 node-returns-14 : (t : ℕ) → node-lts.Need-returns-14 (
   is-copied-reads.Asked,
@@ -9030,12 +8758,12 @@ node-returns-14 : (t : ℕ) → node-lts.Need-returns-14 (
   simple.Post,
   list-by-below t,
   list-by.Post,
-  join-below t,
-  join.Post,
   settings-below t,
   settings.Post,
   with-of-below t,
   with-of.Post,
+  join-below t,
+  join.Post,
   inline-below t,
   inline.Post,
   commas-below t,
@@ -9074,7 +8802,7 @@ node-returns-14 : (t : ℕ) → node-lts.Need-returns-14 (
   pass.Post,
 ) (node-at t) node.Post
 unfolding armsOf
-node-returns-14 t c = node-by the-variants.CommaList (c .before .before .before .before .before .before .before .before .before .before .before .pre .1 .1) (⊎-elim (λ w. scanned-as (w .1 .ensures) (w .2 .left)) (λ w. clean-node (c .before .before .before .before .before .before .before .before .before .before .before .pre .1 .0) (c .before .before .before .before .before .before .before .before .before .before .before .pre .1 .1) (w .left)) (c .before .before .before .before .before .before .before .if1 .came)) (sym (c .before .before .before .before .enum-told13 .given .1) ∙ c .before .before .before .before .before .before .routine-of .ensures) (c .before .before .commas .ensures)
+node-returns-14 t c = node-by the-variants.BinaryExpression (c .before .before .before .before .before .before .before .before .before .before .before .pre .1 .1) (⊎-elim (λ w. scanned-as (w .1 .ensures) (w .2 .left)) (λ w. clean-node (c .before .before .before .before .before .before .before .before .before .before .before .pre .1 .0) (c .before .before .before .before .before .before .before .before .before .before .before .pre .1 .1) (w .left)) (c .before .before .before .before .before .before .before .if1 .came)) (sym (c .before .before .before .before .enum-told12 .given .1) ∙ c .before .before .before .before .before .before .routine-of .ensures) (c .before .before .binary .ensures)
 
 node-same-length-15 : (t : ℕ) → node-lts.Need-same-length-15 (
   is-copied-reads.Asked,
@@ -9099,12 +8827,12 @@ node-same-length-15 : (t : ℕ) → node-lts.Need-same-length-15 (
   simple.Post,
   list-by-below t,
   list-by.Post,
-  join-below t,
-  join.Post,
   settings-below t,
   settings.Post,
   with-of-below t,
   with-of.Post,
+  join-below t,
+  join.Post,
   inline-below t,
   inline.Post,
   commas-below t,
@@ -9142,7 +8870,7 @@ node-same-length-15 : (t : ℕ) → node-lts.Need-same-length-15 (
   pass-below t,
   pass.Post,
 ) (node-at t) node.Post
-node-same-length-15 t c = c .before .before .row .kept .1 .1 .1 .1 .0
+node-same-length-15 t c = c .before .before .unary .kept .1 .1 .1 .1 .0
 
 node-returns-15 : (t : ℕ) → node-lts.Need-returns-15 (
   is-copied-reads.Asked,
@@ -9167,12 +8895,12 @@ node-returns-15 : (t : ℕ) → node-lts.Need-returns-15 (
   simple.Post,
   list-by-below t,
   list-by.Post,
-  join-below t,
-  join.Post,
   settings-below t,
   settings.Post,
   with-of-below t,
   with-of.Post,
+  join-below t,
+  join.Post,
   inline-below t,
   inline.Post,
   commas-below t,
@@ -9211,7 +8939,7 @@ node-returns-15 : (t : ℕ) → node-lts.Need-returns-15 (
   pass.Post,
 ) (node-at t) node.Post
 unfolding armsOf
-node-returns-15 t c = node-by the-variants.InlineCommaList (c .before .before .before .before .before .before .before .before .before .before .before .pre .1 .1) (⊎-elim (λ w. scanned-as (w .1 .ensures) (w .2 .left)) (λ w. clean-node (c .before .before .before .before .before .before .before .before .before .before .before .pre .1 .0) (c .before .before .before .before .before .before .before .before .before .before .before .pre .1 .1) (w .left)) (c .before .before .before .before .before .before .before .if1 .came)) (sym (c .before .before .before .before .enum-told14 .given .1) ∙ c .before .before .before .before .before .before .routine-of .ensures) (c .before .before .row .ensures)
+node-returns-15 t c = node-by the-variants.UnaryExpression (c .before .before .before .before .before .before .before .before .before .before .before .pre .1 .1) (⊎-elim (λ w. scanned-as (w .1 .ensures) (w .2 .left)) (λ w. clean-node (c .before .before .before .before .before .before .before .before .before .before .before .pre .1 .0) (c .before .before .before .before .before .before .before .before .before .before .before .pre .1 .1) (w .left)) (c .before .before .before .before .before .before .before .if1 .came)) (sym (c .before .before .before .before .enum-told13 .given .1) ∙ c .before .before .before .before .before .before .routine-of .ensures) (c .before .before .unary .ensures)
 
 node-same-length-16 : (t : ℕ) → node-lts.Need-same-length-16 (
   is-copied-reads.Asked,
@@ -9236,12 +8964,12 @@ node-same-length-16 : (t : ℕ) → node-lts.Need-same-length-16 (
   simple.Post,
   list-by-below t,
   list-by.Post,
-  join-below t,
-  join.Post,
   settings-below t,
   settings.Post,
   with-of-below t,
   with-of.Post,
+  join-below t,
+  join.Post,
   inline-below t,
   inline.Post,
   commas-below t,
@@ -9279,7 +9007,7 @@ node-same-length-16 : (t : ℕ) → node-lts.Need-same-length-16 (
   pass-below t,
   pass.Post,
 ) (node-at t) node.Post
-node-same-length-16 t c = c .before .before .binary .kept .1 .1 .1 .1 .0
+node-same-length-16 t c = c .before .before .call .kept .1 .1 .1 .1 .0
 
 node-returns-16 : (t : ℕ) → node-lts.Need-returns-16 (
   is-copied-reads.Asked,
@@ -9304,12 +9032,12 @@ node-returns-16 : (t : ℕ) → node-lts.Need-returns-16 (
   simple.Post,
   list-by-below t,
   list-by.Post,
-  join-below t,
-  join.Post,
   settings-below t,
   settings.Post,
   with-of-below t,
   with-of.Post,
+  join-below t,
+  join.Post,
   inline-below t,
   inline.Post,
   commas-below t,
@@ -9348,7 +9076,7 @@ node-returns-16 : (t : ℕ) → node-lts.Need-returns-16 (
   pass.Post,
 ) (node-at t) node.Post
 unfolding armsOf
-node-returns-16 t c = node-by the-variants.BinaryExpression (c .before .before .before .before .before .before .before .before .before .before .before .pre .1 .1) (⊎-elim (λ w. scanned-as (w .1 .ensures) (w .2 .left)) (λ w. clean-node (c .before .before .before .before .before .before .before .before .before .before .before .pre .1 .0) (c .before .before .before .before .before .before .before .before .before .before .before .pre .1 .1) (w .left)) (c .before .before .before .before .before .before .before .if1 .came)) (sym (c .before .before .before .before .enum-told15 .given .1) ∙ c .before .before .before .before .before .before .routine-of .ensures) (c .before .before .binary .ensures)
+node-returns-16 t c = node-by the-variants.FunctionCall (c .before .before .before .before .before .before .before .before .before .before .before .pre .1 .1) (⊎-elim (λ w. scanned-as (w .1 .ensures) (w .2 .left)) (λ w. clean-node (c .before .before .before .before .before .before .before .before .before .before .before .pre .1 .0) (c .before .before .before .before .before .before .before .before .before .before .before .pre .1 .1) (w .left)) (c .before .before .before .before .before .before .before .if1 .came)) (sym (c .before .before .before .before .enum-told14 .given .1) ∙ c .before .before .before .before .before .before .routine-of .ensures) (c .before .before .call .ensures)
 
 node-same-length-17 : (t : ℕ) → node-lts.Need-same-length-17 (
   is-copied-reads.Asked,
@@ -9373,12 +9101,12 @@ node-same-length-17 : (t : ℕ) → node-lts.Need-same-length-17 (
   simple.Post,
   list-by-below t,
   list-by.Post,
-  join-below t,
-  join.Post,
   settings-below t,
   settings.Post,
   with-of-below t,
   with-of.Post,
+  join-below t,
+  join.Post,
   inline-below t,
   inline.Post,
   commas-below t,
@@ -9416,7 +9144,7 @@ node-same-length-17 : (t : ℕ) → node-lts.Need-same-length-17 (
   pass-below t,
   pass.Post,
 ) (node-at t) node.Post
-node-same-length-17 t c = c .before .before .unary .kept .1 .1 .1 .1 .0
+node-same-length-17 t c = c .before .before .cases .kept .1 .1 .1 .1 .0
 
 node-returns-17 : (t : ℕ) → node-lts.Need-returns-17 (
   is-copied-reads.Asked,
@@ -9441,12 +9169,12 @@ node-returns-17 : (t : ℕ) → node-lts.Need-returns-17 (
   simple.Post,
   list-by-below t,
   list-by.Post,
-  join-below t,
-  join.Post,
   settings-below t,
   settings.Post,
   with-of-below t,
   with-of.Post,
+  join-below t,
+  join.Post,
   inline-below t,
   inline.Post,
   commas-below t,
@@ -9485,7 +9213,7 @@ node-returns-17 : (t : ℕ) → node-lts.Need-returns-17 (
   pass.Post,
 ) (node-at t) node.Post
 unfolding armsOf
-node-returns-17 t c = node-by the-variants.UnaryExpression (c .before .before .before .before .before .before .before .before .before .before .before .pre .1 .1) (⊎-elim (λ w. scanned-as (w .1 .ensures) (w .2 .left)) (λ w. clean-node (c .before .before .before .before .before .before .before .before .before .before .before .pre .1 .0) (c .before .before .before .before .before .before .before .before .before .before .before .pre .1 .1) (w .left)) (c .before .before .before .before .before .before .before .if1 .came)) (sym (c .before .before .before .before .enum-told16 .given .1) ∙ c .before .before .before .before .before .before .routine-of .ensures) (c .before .before .unary .ensures)
+node-returns-17 t c = node-by the-variants.CaseExpression (c .before .before .before .before .before .before .before .before .before .before .before .pre .1 .1) (⊎-elim (λ w. scanned-as (w .1 .ensures) (w .2 .left)) (λ w. clean-node (c .before .before .before .before .before .before .before .before .before .before .before .pre .1 .0) (c .before .before .before .before .before .before .before .before .before .before .before .pre .1 .1) (w .left)) (c .before .before .before .before .before .before .before .if1 .came)) (sym (c .before .before .before .before .enum-told15 .given .1) ∙ c .before .before .before .before .before .before .routine-of .ensures) (c .before .before .cases .ensures)
 
 node-same-length-18 : (t : ℕ) → node-lts.Need-same-length-18 (
   is-copied-reads.Asked,
@@ -9510,12 +9238,12 @@ node-same-length-18 : (t : ℕ) → node-lts.Need-same-length-18 (
   simple.Post,
   list-by-below t,
   list-by.Post,
-  join-below t,
-  join.Post,
   settings-below t,
   settings.Post,
   with-of-below t,
   with-of.Post,
+  join-below t,
+  join.Post,
   inline-below t,
   inline.Post,
   commas-below t,
@@ -9553,7 +9281,7 @@ node-same-length-18 : (t : ℕ) → node-lts.Need-same-length-18 (
   pass-below t,
   pass.Post,
 ) (node-at t) node.Post
-node-same-length-18 t c = c .before .before .call .kept .1 .1 .1 .1 .0
+node-same-length-18 t c = c .before .before .when-of .kept .1 .1 .1 .1 .0
 
 node-returns-18 : (t : ℕ) → node-lts.Need-returns-18 (
   is-copied-reads.Asked,
@@ -9578,12 +9306,12 @@ node-returns-18 : (t : ℕ) → node-lts.Need-returns-18 (
   simple.Post,
   list-by-below t,
   list-by.Post,
-  join-below t,
-  join.Post,
   settings-below t,
   settings.Post,
   with-of-below t,
   with-of.Post,
+  join-below t,
+  join.Post,
   inline-below t,
   inline.Post,
   commas-below t,
@@ -9622,7 +9350,7 @@ node-returns-18 : (t : ℕ) → node-lts.Need-returns-18 (
   pass.Post,
 ) (node-at t) node.Post
 unfolding armsOf
-node-returns-18 t c = node-by the-variants.FunctionCall (c .before .before .before .before .before .before .before .before .before .before .before .pre .1 .1) (⊎-elim (λ w. scanned-as (w .1 .ensures) (w .2 .left)) (λ w. clean-node (c .before .before .before .before .before .before .before .before .before .before .before .pre .1 .0) (c .before .before .before .before .before .before .before .before .before .before .before .pre .1 .1) (w .left)) (c .before .before .before .before .before .before .before .if1 .came)) (sym (c .before .before .before .before .enum-told17 .given .1) ∙ c .before .before .before .before .before .before .routine-of .ensures) (c .before .before .call .ensures)
+node-returns-18 t c = node-by the-variants.WhenClause (c .before .before .before .before .before .before .before .before .before .before .before .pre .1 .1) (⊎-elim (λ w. scanned-as (w .1 .ensures) (w .2 .left)) (λ w. clean-node (c .before .before .before .before .before .before .before .before .before .before .before .pre .1 .0) (c .before .before .before .before .before .before .before .before .before .before .before .pre .1 .1) (w .left)) (c .before .before .before .before .before .before .before .if1 .came)) (sym (c .before .before .before .before .enum-told16 .given .1) ∙ c .before .before .before .before .before .before .routine-of .ensures) (c .before .before .when-of .ensures)
 
 node-same-length-19 : (t : ℕ) → node-lts.Need-same-length-19 (
   is-copied-reads.Asked,
@@ -9647,12 +9375,12 @@ node-same-length-19 : (t : ℕ) → node-lts.Need-same-length-19 (
   simple.Post,
   list-by-below t,
   list-by.Post,
-  join-below t,
-  join.Post,
   settings-below t,
   settings.Post,
   with-of-below t,
   with-of.Post,
+  join-below t,
+  join.Post,
   inline-below t,
   inline.Post,
   commas-below t,
@@ -9690,7 +9418,7 @@ node-same-length-19 : (t : ℕ) → node-lts.Need-same-length-19 (
   pass-below t,
   pass.Post,
 ) (node-at t) node.Post
-node-same-length-19 t c = c .before .before .cases .kept .1 .1 .1 .1 .0
+node-same-length-19 t c = c .before .before .subquery .kept .1 .1 .1 .1 .0
 
 node-returns-19 : (t : ℕ) → node-lts.Need-returns-19 (
   is-copied-reads.Asked,
@@ -9715,12 +9443,12 @@ node-returns-19 : (t : ℕ) → node-lts.Need-returns-19 (
   simple.Post,
   list-by-below t,
   list-by.Post,
-  join-below t,
-  join.Post,
   settings-below t,
   settings.Post,
   with-of-below t,
   with-of.Post,
+  join-below t,
+  join.Post,
   inline-below t,
   inline.Post,
   commas-below t,
@@ -9759,7 +9487,7 @@ node-returns-19 : (t : ℕ) → node-lts.Need-returns-19 (
   pass.Post,
 ) (node-at t) node.Post
 unfolding armsOf
-node-returns-19 t c = node-by the-variants.CaseExpression (c .before .before .before .before .before .before .before .before .before .before .before .pre .1 .1) (⊎-elim (λ w. scanned-as (w .1 .ensures) (w .2 .left)) (λ w. clean-node (c .before .before .before .before .before .before .before .before .before .before .before .pre .1 .0) (c .before .before .before .before .before .before .before .before .before .before .before .pre .1 .1) (w .left)) (c .before .before .before .before .before .before .before .if1 .came)) (sym (c .before .before .before .before .enum-told18 .given .1) ∙ c .before .before .before .before .before .before .routine-of .ensures) (c .before .before .cases .ensures)
+node-returns-19 t c = node-by the-variants.Subquery (c .before .before .before .before .before .before .before .before .before .before .before .pre .1 .1) (⊎-elim (λ w. scanned-as (w .1 .ensures) (w .2 .left)) (λ w. clean-node (c .before .before .before .before .before .before .before .before .before .before .before .pre .1 .0) (c .before .before .before .before .before .before .before .before .before .before .before .pre .1 .1) (w .left)) (c .before .before .before .before .before .before .before .if1 .came)) (sym (c .before .before .before .before .enum-told17 .given .1) ∙ c .before .before .before .before .before .before .routine-of .ensures) (c .before .before .subquery .ensures)
 
 node-same-length-20 : (t : ℕ) → node-lts.Need-same-length-20 (
   is-copied-reads.Asked,
@@ -9784,12 +9512,12 @@ node-same-length-20 : (t : ℕ) → node-lts.Need-same-length-20 (
   simple.Post,
   list-by-below t,
   list-by.Post,
-  join-below t,
-  join.Post,
   settings-below t,
   settings.Post,
   with-of-below t,
   with-of.Post,
+  join-below t,
+  join.Post,
   inline-below t,
   inline.Post,
   commas-below t,
@@ -9827,7 +9555,7 @@ node-same-length-20 : (t : ℕ) → node-lts.Need-same-length-20 (
   pass-below t,
   pass.Post,
 ) (node-at t) node.Post
-node-same-length-20 t c = c .before .before .when-of .kept .1 .1 .1 .1 .0
+node-same-length-20 t c = c .before .before .parens .kept .1 .1 .1 .1 .0
 
 node-returns-20 : (t : ℕ) → node-lts.Need-returns-20 (
   is-copied-reads.Asked,
@@ -9852,12 +9580,12 @@ node-returns-20 : (t : ℕ) → node-lts.Need-returns-20 (
   simple.Post,
   list-by-below t,
   list-by.Post,
-  join-below t,
-  join.Post,
   settings-below t,
   settings.Post,
   with-of-below t,
   with-of.Post,
+  join-below t,
+  join.Post,
   inline-below t,
   inline.Post,
   commas-below t,
@@ -9896,7 +9624,7 @@ node-returns-20 : (t : ℕ) → node-lts.Need-returns-20 (
   pass.Post,
 ) (node-at t) node.Post
 unfolding armsOf
-node-returns-20 t c = node-by the-variants.WhenClause (c .before .before .before .before .before .before .before .before .before .before .before .pre .1 .1) (⊎-elim (λ w. scanned-as (w .1 .ensures) (w .2 .left)) (λ w. clean-node (c .before .before .before .before .before .before .before .before .before .before .before .pre .1 .0) (c .before .before .before .before .before .before .before .before .before .before .before .pre .1 .1) (w .left)) (c .before .before .before .before .before .before .before .if1 .came)) (sym (c .before .before .before .before .enum-told19 .given .1) ∙ c .before .before .before .before .before .before .routine-of .ensures) (c .before .before .when-of .ensures)
+node-returns-20 t c = node-by the-variants.ParenList (c .before .before .before .before .before .before .before .before .before .before .before .pre .1 .1) (⊎-elim (λ w. scanned-as (w .1 .ensures) (w .2 .left)) (λ w. clean-node (c .before .before .before .before .before .before .before .before .before .before .before .pre .1 .0) (c .before .before .before .before .before .before .before .before .before .before .before .pre .1 .1) (w .left)) (c .before .before .before .before .before .before .before .if1 .came)) (sym (c .before .before .before .before .enum-told18 .given .1) ∙ c .before .before .before .before .before .before .routine-of .ensures) (c .before .before .parens .ensures)
 
 node-same-length-21 : (t : ℕ) → node-lts.Need-same-length-21 (
   is-copied-reads.Asked,
@@ -9921,12 +9649,12 @@ node-same-length-21 : (t : ℕ) → node-lts.Need-same-length-21 (
   simple.Post,
   list-by-below t,
   list-by.Post,
-  join-below t,
-  join.Post,
   settings-below t,
   settings.Post,
   with-of-below t,
   with-of.Post,
+  join-below t,
+  join.Post,
   inline-below t,
   inline.Post,
   commas-below t,
@@ -9964,7 +9692,7 @@ node-same-length-21 : (t : ℕ) → node-lts.Need-same-length-21 (
   pass-below t,
   pass.Post,
 ) (node-at t) node.Post
-node-same-length-21 t c = c .before .before .subquery .kept .1 .1 .1 .1 .0
+node-same-length-21 t c = c .before .before .brackets .kept .1 .1 .1 .1 .0
 
 node-returns-21 : (t : ℕ) → node-lts.Need-returns-21 (
   is-copied-reads.Asked,
@@ -9989,12 +9717,12 @@ node-returns-21 : (t : ℕ) → node-lts.Need-returns-21 (
   simple.Post,
   list-by-below t,
   list-by.Post,
-  join-below t,
-  join.Post,
   settings-below t,
   settings.Post,
   with-of-below t,
   with-of.Post,
+  join-below t,
+  join.Post,
   inline-below t,
   inline.Post,
   commas-below t,
@@ -10033,7 +9761,7 @@ node-returns-21 : (t : ℕ) → node-lts.Need-returns-21 (
   pass.Post,
 ) (node-at t) node.Post
 unfolding armsOf
-node-returns-21 t c = node-by the-variants.Subquery (c .before .before .before .before .before .before .before .before .before .before .before .pre .1 .1) (⊎-elim (λ w. scanned-as (w .1 .ensures) (w .2 .left)) (λ w. clean-node (c .before .before .before .before .before .before .before .before .before .before .before .pre .1 .0) (c .before .before .before .before .before .before .before .before .before .before .before .pre .1 .1) (w .left)) (c .before .before .before .before .before .before .before .if1 .came)) (sym (c .before .before .before .before .enum-told20 .given .1) ∙ c .before .before .before .before .before .before .routine-of .ensures) (c .before .before .subquery .ensures)
+node-returns-21 t c = node-by the-variants.BracketList (c .before .before .before .before .before .before .before .before .before .before .before .pre .1 .1) (⊎-elim (λ w. scanned-as (w .1 .ensures) (w .2 .left)) (λ w. clean-node (c .before .before .before .before .before .before .before .before .before .before .before .pre .1 .0) (c .before .before .before .before .before .before .before .before .before .before .before .pre .1 .1) (w .left)) (c .before .before .before .before .before .before .before .if1 .came)) (sym (c .before .before .before .before .enum-told19 .given .1) ∙ c .before .before .before .before .before .before .routine-of .ensures) (c .before .before .brackets .ensures)
 
 node-same-length-22 : (t : ℕ) → node-lts.Need-same-length-22 (
   is-copied-reads.Asked,
@@ -10058,12 +9786,12 @@ node-same-length-22 : (t : ℕ) → node-lts.Need-same-length-22 (
   simple.Post,
   list-by-below t,
   list-by.Post,
-  join-below t,
-  join.Post,
   settings-below t,
   settings.Post,
   with-of-below t,
   with-of.Post,
+  join-below t,
+  join.Post,
   inline-below t,
   inline.Post,
   commas-below t,
@@ -10101,7 +9829,7 @@ node-same-length-22 : (t : ℕ) → node-lts.Need-same-length-22 (
   pass-below t,
   pass.Post,
 ) (node-at t) node.Post
-node-same-length-22 t c = c .before .before .parens .kept .1 .1 .1 .1 .0
+node-same-length-22 t c = c .before .before .solid .kept .1 .1 .1 .1 .0
 
 node-returns-22 : (t : ℕ) → node-lts.Need-returns-22 (
   is-copied-reads.Asked,
@@ -10126,12 +9854,12 @@ node-returns-22 : (t : ℕ) → node-lts.Need-returns-22 (
   simple.Post,
   list-by-below t,
   list-by.Post,
-  join-below t,
-  join.Post,
   settings-below t,
   settings.Post,
   with-of-below t,
   with-of.Post,
+  join-below t,
+  join.Post,
   inline-below t,
   inline.Post,
   commas-below t,
@@ -10170,7 +9898,7 @@ node-returns-22 : (t : ℕ) → node-lts.Need-returns-22 (
   pass.Post,
 ) (node-at t) node.Post
 unfolding armsOf
-node-returns-22 t c = node-by the-variants.ParenList (c .before .before .before .before .before .before .before .before .before .before .before .pre .1 .1) (⊎-elim (λ w. scanned-as (w .1 .ensures) (w .2 .left)) (λ w. clean-node (c .before .before .before .before .before .before .before .before .before .before .before .pre .1 .0) (c .before .before .before .before .before .before .before .before .before .before .before .pre .1 .1) (w .left)) (c .before .before .before .before .before .before .before .if1 .came)) (sym (c .before .before .before .before .enum-told21 .given .1) ∙ c .before .before .before .before .before .before .routine-of .ensures) (c .before .before .parens .ensures)
+node-returns-22 t c = node-by the-variants.InlineNoSpaces (c .before .before .before .before .before .before .before .before .before .before .before .pre .1 .1) (⊎-elim (λ w. scanned-as (w .1 .ensures) (w .2 .left)) (λ w. clean-node (c .before .before .before .before .before .before .before .before .before .before .before .pre .1 .0) (c .before .before .before .before .before .before .before .before .before .before .before .pre .1 .1) (w .left)) (c .before .before .before .before .before .before .before .if1 .came)) (sym (c .before .before .before .before .enum-told20 .given .1) ∙ c .before .before .before .before .before .before .routine-of .ensures) (c .before .before .solid .ensures)
 
 node-same-length-23 : (t : ℕ) → node-lts.Need-same-length-23 (
   is-copied-reads.Asked,
@@ -10195,12 +9923,12 @@ node-same-length-23 : (t : ℕ) → node-lts.Need-same-length-23 (
   simple.Post,
   list-by-below t,
   list-by.Post,
-  join-below t,
-  join.Post,
   settings-below t,
   settings.Post,
   with-of-below t,
   with-of.Post,
+  join-below t,
+  join.Post,
   inline-below t,
   inline.Post,
   commas-below t,
@@ -10238,7 +9966,7 @@ node-same-length-23 : (t : ℕ) → node-lts.Need-same-length-23 (
   pass-below t,
   pass.Post,
 ) (node-at t) node.Post
-node-same-length-23 t c = c .before .before .brackets .kept .1 .1 .1 .1 .0
+node-same-length-23 t c = c .before .before .braces .kept .1 .1 .1 .1 .0
 
 node-returns-23 : (t : ℕ) → node-lts.Need-returns-23 (
   is-copied-reads.Asked,
@@ -10263,12 +9991,12 @@ node-returns-23 : (t : ℕ) → node-lts.Need-returns-23 (
   simple.Post,
   list-by-below t,
   list-by.Post,
-  join-below t,
-  join.Post,
   settings-below t,
   settings.Post,
   with-of-below t,
   with-of.Post,
+  join-below t,
+  join.Post,
   inline-below t,
   inline.Post,
   commas-below t,
@@ -10307,7 +10035,7 @@ node-returns-23 : (t : ℕ) → node-lts.Need-returns-23 (
   pass.Post,
 ) (node-at t) node.Post
 unfolding armsOf
-node-returns-23 t c = node-by the-variants.BracketList (c .before .before .before .before .before .before .before .before .before .before .before .pre .1 .1) (⊎-elim (λ w. scanned-as (w .1 .ensures) (w .2 .left)) (λ w. clean-node (c .before .before .before .before .before .before .before .before .before .before .before .pre .1 .0) (c .before .before .before .before .before .before .before .before .before .before .before .pre .1 .1) (w .left)) (c .before .before .before .before .before .before .before .if1 .came)) (sym (c .before .before .before .before .enum-told22 .given .1) ∙ c .before .before .before .before .before .before .routine-of .ensures) (c .before .before .brackets .ensures)
+node-returns-23 t c = node-by the-variants.BraceList (c .before .before .before .before .before .before .before .before .before .before .before .pre .1 .1) (⊎-elim (λ w. scanned-as (w .1 .ensures) (w .2 .left)) (λ w. clean-node (c .before .before .before .before .before .before .before .before .before .before .before .pre .1 .0) (c .before .before .before .before .before .before .before .before .before .before .before .pre .1 .1) (w .left)) (c .before .before .before .before .before .before .before .if1 .came)) (sym (c .before .before .before .before .enum-told21 .given .1) ∙ c .before .before .before .before .before .before .routine-of .ensures) (c .before .before .braces .ensures)
 
 node-same-length-24 : (t : ℕ) → node-lts.Need-same-length-24 (
   is-copied-reads.Asked,
@@ -10332,12 +10060,12 @@ node-same-length-24 : (t : ℕ) → node-lts.Need-same-length-24 (
   simple.Post,
   list-by-below t,
   list-by.Post,
-  join-below t,
-  join.Post,
   settings-below t,
   settings.Post,
   with-of-below t,
   with-of.Post,
+  join-below t,
+  join.Post,
   inline-below t,
   inline.Post,
   commas-below t,
@@ -10375,7 +10103,7 @@ node-same-length-24 : (t : ℕ) → node-lts.Need-same-length-24 (
   pass-below t,
   pass.Post,
 ) (node-at t) node.Post
-node-same-length-24 t c = c .before .before .solid .kept .1 .1 .1 .1 .0
+node-same-length-24 t c = c .before .before .types .kept .1 .1 .1 .1 .0
 
 node-returns-24 : (t : ℕ) → node-lts.Need-returns-24 (
   is-copied-reads.Asked,
@@ -10400,12 +10128,12 @@ node-returns-24 : (t : ℕ) → node-lts.Need-returns-24 (
   simple.Post,
   list-by-below t,
   list-by.Post,
-  join-below t,
-  join.Post,
   settings-below t,
   settings.Post,
   with-of-below t,
   with-of.Post,
+  join-below t,
+  join.Post,
   inline-below t,
   inline.Post,
   commas-below t,
@@ -10444,7 +10172,7 @@ node-returns-24 : (t : ℕ) → node-lts.Need-returns-24 (
   pass.Post,
 ) (node-at t) node.Post
 unfolding armsOf
-node-returns-24 t c = node-by the-variants.InlineNoSpaces (c .before .before .before .before .before .before .before .before .before .before .before .pre .1 .1) (⊎-elim (λ w. scanned-as (w .1 .ensures) (w .2 .left)) (λ w. clean-node (c .before .before .before .before .before .before .before .before .before .before .before .pre .1 .0) (c .before .before .before .before .before .before .before .before .before .before .before .pre .1 .1) (w .left)) (c .before .before .before .before .before .before .before .if1 .came)) (sym (c .before .before .before .before .enum-told23 .given .1) ∙ c .before .before .before .before .before .before .routine-of .ensures) (c .before .before .solid .ensures)
+node-returns-24 t c = node-by the-variants.DataType (c .before .before .before .before .before .before .before .before .before .before .before .pre .1 .1) (⊎-elim (λ w. scanned-as (w .1 .ensures) (w .2 .left)) (λ w. clean-node (c .before .before .before .before .before .before .before .before .before .before .before .pre .1 .0) (c .before .before .before .before .before .before .before .before .before .before .before .pre .1 .1) (w .left)) (c .before .before .before .before .before .before .before .if1 .came)) (sym (c .before .before .before .before .enum-told22 .given .1) ∙ c .before .before .before .before .before .before .routine-of .ensures) (c .before .before .types .ensures)
 
 node-same-length-25 : (t : ℕ) → node-lts.Need-same-length-25 (
   is-copied-reads.Asked,
@@ -10469,12 +10197,12 @@ node-same-length-25 : (t : ℕ) → node-lts.Need-same-length-25 (
   simple.Post,
   list-by-below t,
   list-by.Post,
-  join-below t,
-  join.Post,
   settings-below t,
   settings.Post,
   with-of-below t,
   with-of.Post,
+  join-below t,
+  join.Post,
   inline-below t,
   inline.Post,
   commas-below t,
@@ -10512,7 +10240,7 @@ node-same-length-25 : (t : ℕ) → node-lts.Need-same-length-25 (
   pass-below t,
   pass.Post,
 ) (node-at t) node.Post
-node-same-length-25 t c = c .before .before .braces .kept .1 .1 .1 .1 .0
+node-same-length-25 t c = c .before .before .tight .kept .1 .1 .1 .1 .0
 
 node-returns-25 : (t : ℕ) → node-lts.Need-returns-25 (
   is-copied-reads.Asked,
@@ -10537,12 +10265,12 @@ node-returns-25 : (t : ℕ) → node-lts.Need-returns-25 (
   simple.Post,
   list-by-below t,
   list-by.Post,
-  join-below t,
-  join.Post,
   settings-below t,
   settings.Post,
   with-of-below t,
   with-of.Post,
+  join-below t,
+  join.Post,
   inline-below t,
   inline.Post,
   commas-below t,
@@ -10581,7 +10309,7 @@ node-returns-25 : (t : ℕ) → node-lts.Need-returns-25 (
   pass.Post,
 ) (node-at t) node.Post
 unfolding armsOf
-node-returns-25 t c = node-by the-variants.BraceList (c .before .before .before .before .before .before .before .before .before .before .before .pre .1 .1) (⊎-elim (λ w. scanned-as (w .1 .ensures) (w .2 .left)) (λ w. clean-node (c .before .before .before .before .before .before .before .before .before .before .before .pre .1 .0) (c .before .before .before .before .before .before .before .before .before .before .before .pre .1 .1) (w .left)) (c .before .before .before .before .before .before .before .if1 .came)) (sym (c .before .before .before .before .enum-told24 .given .1) ∙ c .before .before .before .before .before .before .routine-of .ensures) (c .before .before .braces .ensures)
+node-returns-25 t c = node-by the-variants.InlineTightParens (c .before .before .before .before .before .before .before .before .before .before .before .pre .1 .1) (⊎-elim (λ w. scanned-as (w .1 .ensures) (w .2 .left)) (λ w. clean-node (c .before .before .before .before .before .before .before .before .before .before .before .pre .1 .0) (c .before .before .before .before .before .before .before .before .before .before .before .pre .1 .1) (w .left)) (c .before .before .before .before .before .before .before .if1 .came)) (sym (c .before .before .before .before .enum-told23 .given .1) ∙ c .before .before .before .before .before .before .routine-of .ensures) (c .before .before .tight .ensures)
 
 node-same-length-26 : (t : ℕ) → node-lts.Need-same-length-26 (
   is-copied-reads.Asked,
@@ -10606,12 +10334,12 @@ node-same-length-26 : (t : ℕ) → node-lts.Need-same-length-26 (
   simple.Post,
   list-by-below t,
   list-by.Post,
-  join-below t,
-  join.Post,
   settings-below t,
   settings.Post,
   with-of-below t,
   with-of.Post,
+  join-below t,
+  join.Post,
   inline-below t,
   inline.Post,
   commas-below t,
@@ -10649,7 +10377,7 @@ node-same-length-26 : (t : ℕ) → node-lts.Need-same-length-26 (
   pass-below t,
   pass.Post,
 ) (node-at t) node.Post
-node-same-length-26 t c = c .before .before .types .kept .1 .1 .1 .1 .0
+node-same-length-26 t c = c .before .before .alter .kept .1 .1 .1 .1 .0
 
 node-returns-26 : (t : ℕ) → node-lts.Need-returns-26 (
   is-copied-reads.Asked,
@@ -10674,12 +10402,12 @@ node-returns-26 : (t : ℕ) → node-lts.Need-returns-26 (
   simple.Post,
   list-by-below t,
   list-by.Post,
-  join-below t,
-  join.Post,
   settings-below t,
   settings.Post,
   with-of-below t,
   with-of.Post,
+  join-below t,
+  join.Post,
   inline-below t,
   inline.Post,
   commas-below t,
@@ -10718,7 +10446,7 @@ node-returns-26 : (t : ℕ) → node-lts.Need-returns-26 (
   pass.Post,
 ) (node-at t) node.Post
 unfolding armsOf
-node-returns-26 t c = node-by the-variants.DataType (c .before .before .before .before .before .before .before .before .before .before .before .pre .1 .1) (⊎-elim (λ w. scanned-as (w .1 .ensures) (w .2 .left)) (λ w. clean-node (c .before .before .before .before .before .before .before .before .before .before .before .pre .1 .0) (c .before .before .before .before .before .before .before .before .before .before .before .pre .1 .1) (w .left)) (c .before .before .before .before .before .before .before .if1 .came)) (sym (c .before .before .before .before .enum-told25 .given .1) ∙ c .before .before .before .before .before .before .routine-of .ensures) (c .before .before .types .ensures)
+node-returns-26 t c = node-by the-variants.AlterCommandList (c .before .before .before .before .before .before .before .before .before .before .before .pre .1 .1) (⊎-elim (λ w. scanned-as (w .1 .ensures) (w .2 .left)) (λ w. clean-node (c .before .before .before .before .before .before .before .before .before .before .before .pre .1 .0) (c .before .before .before .before .before .before .before .before .before .before .before .pre .1 .1) (w .left)) (c .before .before .before .before .before .before .before .if1 .came)) (sym (c .before .before .before .before .enum-told24 .given .1) ∙ c .before .before .before .before .before .before .routine-of .ensures) (c .before .before .alter .ensures)
 
 node-same-length-27 : (t : ℕ) → node-lts.Need-same-length-27 (
   is-copied-reads.Asked,
@@ -10743,12 +10471,12 @@ node-same-length-27 : (t : ℕ) → node-lts.Need-same-length-27 (
   simple.Post,
   list-by-below t,
   list-by.Post,
-  join-below t,
-  join.Post,
   settings-below t,
   settings.Post,
   with-of-below t,
   with-of.Post,
+  join-below t,
+  join.Post,
   inline-below t,
   inline.Post,
   commas-below t,
@@ -10786,7 +10514,7 @@ node-same-length-27 : (t : ℕ) → node-lts.Need-same-length-27 (
   pass-below t,
   pass.Post,
 ) (node-at t) node.Post
-node-same-length-27 t c = c .before .before .tight .kept .1 .1 .1 .1 .0
+node-same-length-27 t c = c .before .before .unions .kept .1 .1 .1 .1 .0
 
 node-returns-27 : (t : ℕ) → node-lts.Need-returns-27 (
   is-copied-reads.Asked,
@@ -10811,12 +10539,12 @@ node-returns-27 : (t : ℕ) → node-lts.Need-returns-27 (
   simple.Post,
   list-by-below t,
   list-by.Post,
-  join-below t,
-  join.Post,
   settings-below t,
   settings.Post,
   with-of-below t,
   with-of.Post,
+  join-below t,
+  join.Post,
   inline-below t,
   inline.Post,
   commas-below t,
@@ -10855,7 +10583,7 @@ node-returns-27 : (t : ℕ) → node-lts.Need-returns-27 (
   pass.Post,
 ) (node-at t) node.Post
 unfolding armsOf
-node-returns-27 t c = node-by the-variants.InlineTightParens (c .before .before .before .before .before .before .before .before .before .before .before .pre .1 .1) (⊎-elim (λ w. scanned-as (w .1 .ensures) (w .2 .left)) (λ w. clean-node (c .before .before .before .before .before .before .before .before .before .before .before .pre .1 .0) (c .before .before .before .before .before .before .before .before .before .before .before .pre .1 .1) (w .left)) (c .before .before .before .before .before .before .before .if1 .came)) (sym (c .before .before .before .before .enum-told26 .given .1) ∙ c .before .before .before .before .before .before .routine-of .ensures) (c .before .before .tight .ensures)
+node-returns-27 t c = node-by the-variants.UnionClause (c .before .before .before .before .before .before .before .before .before .before .before .pre .1 .1) (⊎-elim (λ w. scanned-as (w .1 .ensures) (w .2 .left)) (λ w. clean-node (c .before .before .before .before .before .before .before .before .before .before .before .pre .1 .0) (c .before .before .before .before .before .before .before .before .before .before .before .pre .1 .1) (w .left)) (c .before .before .before .before .before .before .before .if1 .came)) (sym (c .before .before .before .before .enum-told25 .given .1) ∙ c .before .before .before .before .before .before .routine-of .ensures) (c .before .before .unions .ensures)
 
 node-same-length-28 : (t : ℕ) → node-lts.Need-same-length-28 (
   is-copied-reads.Asked,
@@ -10880,12 +10608,12 @@ node-same-length-28 : (t : ℕ) → node-lts.Need-same-length-28 (
   simple.Post,
   list-by-below t,
   list-by.Post,
-  join-below t,
-  join.Post,
   settings-below t,
   settings.Post,
   with-of-below t,
   with-of.Post,
+  join-below t,
+  join.Post,
   inline-below t,
   inline.Post,
   commas-below t,
@@ -10923,7 +10651,7 @@ node-same-length-28 : (t : ℕ) → node-lts.Need-same-length-28 (
   pass-below t,
   pass.Post,
 ) (node-at t) node.Post
-node-same-length-28 t c = c .before .before .alter .kept .1 .1 .1 .1 .0
+node-same-length-28 t c = c .before .before .pass .kept .1 .1 .1 .1 .0
 
 node-returns-28 : (t : ℕ) → node-lts.Need-returns-28 (
   is-copied-reads.Asked,
@@ -10948,12 +10676,12 @@ node-returns-28 : (t : ℕ) → node-lts.Need-returns-28 (
   simple.Post,
   list-by-below t,
   list-by.Post,
-  join-below t,
-  join.Post,
   settings-below t,
   settings.Post,
   with-of-below t,
   with-of.Post,
+  join-below t,
+  join.Post,
   inline-below t,
   inline.Post,
   commas-below t,
@@ -10992,281 +10720,7 @@ node-returns-28 : (t : ℕ) → node-lts.Need-returns-28 (
   pass.Post,
 ) (node-at t) node.Post
 unfolding armsOf
-node-returns-28 t c = node-by the-variants.AlterCommandList (c .before .before .before .before .before .before .before .before .before .before .before .pre .1 .1) (⊎-elim (λ w. scanned-as (w .1 .ensures) (w .2 .left)) (λ w. clean-node (c .before .before .before .before .before .before .before .before .before .before .before .pre .1 .0) (c .before .before .before .before .before .before .before .before .before .before .before .pre .1 .1) (w .left)) (c .before .before .before .before .before .before .before .if1 .came)) (sym (c .before .before .before .before .enum-told27 .given .1) ∙ c .before .before .before .before .before .before .routine-of .ensures) (c .before .before .alter .ensures)
-
-node-same-length-29 : (t : ℕ) → node-lts.Need-same-length-29 (
-  is-copied-reads.Asked,
-  is-copied-reads.Learnt,
-  head-at-reads.Asked,
-  head-at-reads.Learnt,
-  skip-reads.Asked,
-  skip-reads.Learnt,
-  format-error-verbatim-reads.Asked,
-  format-error-verbatim-reads.Learnt,
-  routine-of-reads.Asked,
-  routine-of-reads.Learnt,
-  file-below t,
-  file.Post,
-  queries-below t,
-  queries.Post,
-  query-below t,
-  query.Post,
-  select-below t,
-  select.Post,
-  simple-below t,
-  simple.Post,
-  list-by-below t,
-  list-by.Post,
-  join-below t,
-  join.Post,
-  settings-below t,
-  settings.Post,
-  with-of-below t,
-  with-of.Post,
-  inline-below t,
-  inline.Post,
-  commas-below t,
-  commas.Post,
-  row-below t,
-  row.Post,
-  binary-below t,
-  binary.Post,
-  unary-below t,
-  unary.Post,
-  call-below t,
-  call.Post,
-  cases-below t,
-  cases.Post,
-  when-of-below t,
-  when-of.Post,
-  subquery-below t,
-  subquery.Post,
-  parens-below t,
-  parens.Post,
-  brackets-below t,
-  brackets.Post,
-  solid-below t,
-  solid.Post,
-  braces-below t,
-  braces.Post,
-  types-below t,
-  types.Post,
-  tight-below t,
-  tight.Post,
-  alter-below t,
-  alter.Post,
-  unions-below t,
-  unions.Post,
-  pass-below t,
-  pass.Post,
-) (node-at t) node.Post
-node-same-length-29 t c = c .before .before .unions .kept .1 .1 .1 .1 .0
-
-node-returns-29 : (t : ℕ) → node-lts.Need-returns-29 (
-  is-copied-reads.Asked,
-  is-copied-reads.Learnt,
-  head-at-reads.Asked,
-  head-at-reads.Learnt,
-  skip-reads.Asked,
-  skip-reads.Learnt,
-  format-error-verbatim-reads.Asked,
-  format-error-verbatim-reads.Learnt,
-  routine-of-reads.Asked,
-  routine-of-reads.Learnt,
-  file-below t,
-  file.Post,
-  queries-below t,
-  queries.Post,
-  query-below t,
-  query.Post,
-  select-below t,
-  select.Post,
-  simple-below t,
-  simple.Post,
-  list-by-below t,
-  list-by.Post,
-  join-below t,
-  join.Post,
-  settings-below t,
-  settings.Post,
-  with-of-below t,
-  with-of.Post,
-  inline-below t,
-  inline.Post,
-  commas-below t,
-  commas.Post,
-  row-below t,
-  row.Post,
-  binary-below t,
-  binary.Post,
-  unary-below t,
-  unary.Post,
-  call-below t,
-  call.Post,
-  cases-below t,
-  cases.Post,
-  when-of-below t,
-  when-of.Post,
-  subquery-below t,
-  subquery.Post,
-  parens-below t,
-  parens.Post,
-  brackets-below t,
-  brackets.Post,
-  solid-below t,
-  solid.Post,
-  braces-below t,
-  braces.Post,
-  types-below t,
-  types.Post,
-  tight-below t,
-  tight.Post,
-  alter-below t,
-  alter.Post,
-  unions-below t,
-  unions.Post,
-  pass-below t,
-  pass.Post,
-) (node-at t) node.Post
-unfolding armsOf
-node-returns-29 t c = node-by the-variants.UnionClause (c .before .before .before .before .before .before .before .before .before .before .before .pre .1 .1) (⊎-elim (λ w. scanned-as (w .1 .ensures) (w .2 .left)) (λ w. clean-node (c .before .before .before .before .before .before .before .before .before .before .before .pre .1 .0) (c .before .before .before .before .before .before .before .before .before .before .before .pre .1 .1) (w .left)) (c .before .before .before .before .before .before .before .if1 .came)) (sym (c .before .before .before .before .enum-told28 .given .1) ∙ c .before .before .before .before .before .before .routine-of .ensures) (c .before .before .unions .ensures)
-
-node-same-length-30 : (t : ℕ) → node-lts.Need-same-length-30 (
-  is-copied-reads.Asked,
-  is-copied-reads.Learnt,
-  head-at-reads.Asked,
-  head-at-reads.Learnt,
-  skip-reads.Asked,
-  skip-reads.Learnt,
-  format-error-verbatim-reads.Asked,
-  format-error-verbatim-reads.Learnt,
-  routine-of-reads.Asked,
-  routine-of-reads.Learnt,
-  file-below t,
-  file.Post,
-  queries-below t,
-  queries.Post,
-  query-below t,
-  query.Post,
-  select-below t,
-  select.Post,
-  simple-below t,
-  simple.Post,
-  list-by-below t,
-  list-by.Post,
-  join-below t,
-  join.Post,
-  settings-below t,
-  settings.Post,
-  with-of-below t,
-  with-of.Post,
-  inline-below t,
-  inline.Post,
-  commas-below t,
-  commas.Post,
-  row-below t,
-  row.Post,
-  binary-below t,
-  binary.Post,
-  unary-below t,
-  unary.Post,
-  call-below t,
-  call.Post,
-  cases-below t,
-  cases.Post,
-  when-of-below t,
-  when-of.Post,
-  subquery-below t,
-  subquery.Post,
-  parens-below t,
-  parens.Post,
-  brackets-below t,
-  brackets.Post,
-  solid-below t,
-  solid.Post,
-  braces-below t,
-  braces.Post,
-  types-below t,
-  types.Post,
-  tight-below t,
-  tight.Post,
-  alter-below t,
-  alter.Post,
-  unions-below t,
-  unions.Post,
-  pass-below t,
-  pass.Post,
-) (node-at t) node.Post
-node-same-length-30 t c = c .before .before .pass .kept .1 .1 .1 .1 .0
-
-node-returns-30 : (t : ℕ) → node-lts.Need-returns-30 (
-  is-copied-reads.Asked,
-  is-copied-reads.Learnt,
-  head-at-reads.Asked,
-  head-at-reads.Learnt,
-  skip-reads.Asked,
-  skip-reads.Learnt,
-  format-error-verbatim-reads.Asked,
-  format-error-verbatim-reads.Learnt,
-  routine-of-reads.Asked,
-  routine-of-reads.Learnt,
-  file-below t,
-  file.Post,
-  queries-below t,
-  queries.Post,
-  query-below t,
-  query.Post,
-  select-below t,
-  select.Post,
-  simple-below t,
-  simple.Post,
-  list-by-below t,
-  list-by.Post,
-  join-below t,
-  join.Post,
-  settings-below t,
-  settings.Post,
-  with-of-below t,
-  with-of.Post,
-  inline-below t,
-  inline.Post,
-  commas-below t,
-  commas.Post,
-  row-below t,
-  row.Post,
-  binary-below t,
-  binary.Post,
-  unary-below t,
-  unary.Post,
-  call-below t,
-  call.Post,
-  cases-below t,
-  cases.Post,
-  when-of-below t,
-  when-of.Post,
-  subquery-below t,
-  subquery.Post,
-  parens-below t,
-  parens.Post,
-  brackets-below t,
-  brackets.Post,
-  solid-below t,
-  solid.Post,
-  braces-below t,
-  braces.Post,
-  types-below t,
-  types.Post,
-  tight-below t,
-  tight.Post,
-  alter-below t,
-  alter.Post,
-  unions-below t,
-  unions.Post,
-  pass-below t,
-  pass.Post,
-) (node-at t) node.Post
-unfolding armsOf
-node-returns-30 t c = node-by the-variants.Passthrough (c .before .before .before .before .before .before .before .before .before .before .before .pre .1 .1) (⊎-elim (λ w. scanned-as (w .1 .ensures) (w .2 .left)) (λ w. clean-node (c .before .before .before .before .before .before .before .before .before .before .before .pre .1 .0) (c .before .before .before .before .before .before .before .before .before .before .before .pre .1 .1) (w .left)) (c .before .before .before .before .before .before .before .if1 .came)) (sym (c .before .before .before .before .enum-told29 .given .1) ∙ c .before .before .before .before .before .before .routine-of .ensures) (c .before .before .pass .ensures)
+node-returns-28 t c = node-by the-variants.Passthrough (c .before .before .before .before .before .before .before .before .before .before .before .pre .1 .1) (⊎-elim (λ w. scanned-as (w .1 .ensures) (w .2 .left)) (λ w. clean-node (c .before .before .before .before .before .before .before .before .before .before .before .pre .1 .0) (c .before .before .before .before .before .before .before .before .before .before .before .pre .1 .1) (w .left)) (c .before .before .before .before .before .before .before .if1 .came)) (sym (c .before .before .before .before .enum-told26 .given .1) ∙ c .before .before .before .before .before .before .routine-of .ensures) (c .before .before .pass .ensures)
 
 abbrev parens-Inv-loop : parens-lts.InvT-loop
 parens-Inv-loop source tape config errors out₀ left at i₀ ctx₀ out i ctx = Loop source tape config errors left at (always formatParenList) formatParenList ctx₀ out₀ out i ctx (flagged false)
@@ -14982,12 +14436,12 @@ pub +alter+binary+braces+brackets+call+cases+commas+file+inline+join+list-by+nod
       simple.Post,
       list-by-below t,
       list-by.Post,
-      join-below t,
-      join.Post,
       settings-below t,
       settings.Post,
       with-of-below t,
       with-of.Post,
+      join-below t,
+      join.Post,
       inline-below t,
       inline.Post,
       commas-below t,
@@ -15044,53 +14498,49 @@ pub +alter+binary+braces+brackets+call+cases+commas+file+inline+join+list-by+nod
     (node-select-requires t)
     (node-enum-told-5 t)
     (node-simple-requires t)
-    (node-enum-told-6 t)
+    (node-enum-known-r t)
     (node-list-by-requires t)
+    (node-enum-told-6 t)
+    (node-settings-requires t)
     (node-enum-told-7 t)
-    (node-list-by-requires-2 t)
+    (node-with-of-requires t)
     (node-enum-told-8 t)
     (node-join-requires t)
     (node-enum-told-9 t)
-    (node-settings-requires t)
-    (node-enum-told-10 t)
-    (node-with-of-requires t)
-    (node-enum-told-11 t)
-    (node-join-requires-2 t)
-    (node-enum-told-12 t)
     (node-inline-requires t)
-    (node-enum-told-13 t)
+    (node-enum-told-10 t)
     (node-commas-requires t)
-    (node-enum-told-14 t)
+    (node-enum-told-11 t)
     (node-row-requires t)
-    (node-enum-told-15 t)
+    (node-enum-told-12 t)
     (node-binary-requires t)
-    (node-enum-told-16 t)
+    (node-enum-told-13 t)
     (node-unary-requires t)
-    (node-enum-told-17 t)
+    (node-enum-told-14 t)
     (node-call-requires t)
-    (node-enum-told-18 t)
+    (node-enum-told-15 t)
     (node-cases-requires t)
-    (node-enum-told-19 t)
+    (node-enum-told-16 t)
     (node-when-of-requires t)
-    (node-enum-told-20 t)
+    (node-enum-told-17 t)
     (node-subquery-requires t)
-    (node-enum-told-21 t)
+    (node-enum-told-18 t)
     (node-parens-requires t)
-    (node-enum-told-22 t)
+    (node-enum-told-19 t)
     (node-brackets-requires t)
-    (node-enum-told-23 t)
+    (node-enum-told-20 t)
     (node-solid-requires t)
-    (node-enum-told-24 t)
+    (node-enum-told-21 t)
     (node-braces-requires t)
-    (node-enum-told-25 t)
+    (node-enum-told-22 t)
     (node-types-requires t)
-    (node-enum-told-26 t)
+    (node-enum-told-23 t)
     (node-tight-requires t)
-    (node-enum-told-27 t)
+    (node-enum-told-24 t)
     (node-alter-requires t)
-    (node-enum-told-28 t)
+    (node-enum-told-25 t)
     (node-unions-requires t)
-    (node-enum-told-29 t)
+    (node-enum-told-26 t)
     (node-pass-requires t)
     (node-same-length-2 t)
     (node-returns-2 t)
@@ -15145,11 +14595,7 @@ pub +alter+binary+braces+brackets+call+cases+commas+file+inline+join+list-by+nod
     (node-same-length-27 t)
     (node-returns-27 t)
     (node-same-length-28 t)
-    (node-returns-28 t)
-    (node-same-length-29 t)
-    (node-returns-29 t)
-    (node-same-length-30 t)
-    (node-returns-30 t))
+    (node-returns-28 t))
     (λ t. parens-lts.spec (
       head-at-reads.Asked,
       head-at-reads.Learnt,

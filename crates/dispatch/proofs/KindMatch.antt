@@ -1,54 +1,54 @@
 -- A `match` on a kind against the dispatch of the definition: one computed test for each arm. Assumes nothing.
-use Prim.Native.Nat.{ℕ}
+use Prim.Native.Nat.{ℕ, _+_, _-_}
+use native.Mathlib.Omega.{arith}
 use mathlib.Core.Path.{_≡_, refl, sym, ap, _∙_}
-use mathlib.Core.Bool.{Bool, true, false, _&&_, _||_, false≢true}
+use mathlib.Core.Bool.{Bool, true, false, cond, _&&_, _||_, false≢true}
 use mathlib.Core.List.{List, [], _∷_}
-use lib.Dec.{eqb}
+use lib.Dec.{eqb, ltb}
 use types.Run.{OneOf}
-use borrow.Author.Tests.{eqb-true, ne-eqb}
+use borrow.Author.Tests.{eqb-true, le-ltb, ne-eqb}
 use Rattle.tape.specs.Kinds.{among}
-use Rattle.tape.specs.Kinds
-use Rattle.tape.specs.Tree.{Children, hasErrorChild, copied}
 use Rattle.tape.proofs.Among.{every, each-key, found, first, second}
 use Rattle.layout.specs.declared.Routine.{Routine}
-use Rattle.layout.specs.declared.Routine.the-variants.{File, QueryList, SelectStatement, SelectClause, SimpleClause, GroupByClause, OrderByClause, LimitByClause, SettingsClause, WithClause, JoinClause, Inline, CommaList, InlineCommaList, BinaryExpression, UnaryExpression, FunctionCall, CaseExpression, WhenClause, Subquery, ParenList, BracketList, InlineNoSpaces, BraceList, DataType, InlineTightParens, AlterCommandList, UnionClause, Passthrough}
+use Rattle.layout.specs.declared.Routine.the-variants.{File, QueryList, SelectStatement, SelectClause, SimpleClause, ListClause, SettingsClause, WithClause, JoinClause, Inline, CommaList, InlineCommaList, BinaryExpression, UnaryExpression, FunctionCall, CaseExpression, WhenClause, Subquery, ParenList, BracketList, InlineNoSpaces, BraceList, DataType, InlineTightParens, AlterCommandList, UnionClause, Passthrough}
 use Rattle.layout.specs.Arms.{match}
 use Rattle.layout.specs.FormatNode.{routines, routineOf}
 
--- a routine's place among the variants
+-- a routine's place among the variants; those of the list clauses come last, by the list
 abbrev pub place : Routine → ℕ
 place File = 0
 place QueryList = 1
 place SelectStatement = 2
 place SelectClause = 3
 place SimpleClause = 4
-place GroupByClause = 5
-place OrderByClause = 6
-place LimitByClause = 7
-place SettingsClause = 8
-place WithClause = 9
-place JoinClause = 10
-place Inline = 11
-place CommaList = 12
-place InlineCommaList = 13
-place BinaryExpression = 14
-place UnaryExpression = 15
-place FunctionCall = 16
-place CaseExpression = 17
-place WhenClause = 18
-place Subquery = 19
-place ParenList = 20
-place BracketList = 21
-place InlineNoSpaces = 22
-place BraceList = 23
-place DataType = 24
-place InlineTightParens = 25
-place AlterCommandList = 26
-place UnionClause = 27
-place Passthrough = 28
+place SettingsClause = 5
+place WithClause = 6
+place JoinClause = 7
+place Inline = 8
+place CommaList = 9
+place InlineCommaList = 10
+place BinaryExpression = 11
+place UnaryExpression = 12
+place FunctionCall = 13
+place CaseExpression = 14
+place WhenClause = 15
+place Subquery = 16
+place ParenList = 17
+place BracketList = 18
+place InlineNoSpaces = 19
+place BraceList = 20
+place DataType = 21
+place InlineTightParens = 22
+place AlterCommandList = 23
+place UnionClause = 24
+place Passthrough = 25
+place (ListClause list) = 26 + list
+
+abbrev others : List (ℕ × Routine)
+others = (0, File) ∷ (1, QueryList) ∷ (2, SelectStatement) ∷ (3, SelectClause) ∷ (4, SimpleClause) ∷ (5, SettingsClause) ∷ (6, WithClause) ∷ (7, JoinClause) ∷ (8, Inline) ∷ (9, CommaList) ∷ (10, InlineCommaList) ∷ (11, BinaryExpression) ∷ (12, UnaryExpression) ∷ (13, FunctionCall) ∷ (14, CaseExpression) ∷ (15, WhenClause) ∷ (16, Subquery) ∷ (17, ParenList) ∷ (18, BracketList) ∷ (19, InlineNoSpaces) ∷ (20, BraceList) ∷ (21, DataType) ∷ (22, InlineTightParens) ∷ (23, AlterCommandList) ∷ (24, UnionClause) ∷ (25, Passthrough) ∷ []
 
 abbrev at : ℕ → Routine
-at n = match n ((0, File) ∷ (1, QueryList) ∷ (2, SelectStatement) ∷ (3, SelectClause) ∷ (4, SimpleClause) ∷ (5, GroupByClause) ∷ (6, OrderByClause) ∷ (7, LimitByClause) ∷ (8, SettingsClause) ∷ (9, WithClause) ∷ (10, JoinClause) ∷ (11, Inline) ∷ (12, CommaList) ∷ (13, InlineCommaList) ∷ (14, BinaryExpression) ∷ (15, UnaryExpression) ∷ (16, FunctionCall) ∷ (17, CaseExpression) ∷ (18, WhenClause) ∷ (19, Subquery) ∷ (20, ParenList) ∷ (21, BracketList) ∷ (22, InlineNoSpaces) ∷ (23, BraceList) ∷ (24, DataType) ∷ (25, InlineTightParens) ∷ (26, AlterCommandList) ∷ (27, UnionClause) ∷ (28, Passthrough) ∷ []) Passthrough
+at n = cond (ltb n 26) (match n others Passthrough) (ListClause (n - 26))
 
 at-place : (r : Routine) → at (place r) ≡ r
 at-place File = refl
@@ -56,9 +56,6 @@ at-place QueryList = refl
 at-place SelectStatement = refl
 at-place SelectClause = refl
 at-place SimpleClause = refl
-at-place GroupByClause = refl
-at-place OrderByClause = refl
-at-place LimitByClause = refl
 at-place SettingsClause = refl
 at-place WithClause = refl
 at-place JoinClause = refl
@@ -80,6 +77,9 @@ at-place InlineTightParens = refl
 at-place AlterCommandList = refl
 at-place UnionClause = refl
 at-place Passthrough = refl
+at-place (ListClause list) =
+    ap (λ (b : Bool). cond b (match (26 + list) others Passthrough) (ListClause (26 + list - 26))) (le-ltb (26 + list) 26 (omega arith))
+    ∙ ap ListClause (omega arith)
 
 -- the keys of an arm have its routine
 pub arm-is : (r : Routine) (ks : List ℕ) (k : ℕ) → every (λ x. eqb (place (routineOf x)) (place r)) ks ≡ true → OneOf ks k → r ≡ routineOf k
@@ -116,17 +116,3 @@ none-of arms k n (e ∷ es) d t =
 pub other-is : (arms : List (List ℕ)) (k : ℕ) → covered arms routines ≡ true → NoKey arms k → Passthrough ≡ routineOf k
 unfolding routineOf
 other-is arms k t n = sym (none-of arms k n routines Passthrough t)
-
--- ── which nodes are copied as typed
-
-pub copied-error : (k : ℕ) (kids : Children) → k ≡ Kinds.Error → true ≡ copied k kids
-unfolding copied
-copied-error k kids e = rw e
-
-pub copied-list : (k : ℕ) (kids : Children) → (k ≡ Kinds.Error → ⊥) → k ≡ Kinds.QueryList → false ≡ copied k kids
-unfolding copied
-copied-list k kids n e = rw e
-
-pub copied-other : (k : ℕ) (kids : Children) → (k ≡ Kinds.Error → ⊥) → (k ≡ Kinds.QueryList → ⊥) → hasErrorChild kids ≡ copied k kids
-unfolding copied
-copied-other k kids n m = rw (ne-eqb k Kinds.Error n, ne-eqb k Kinds.QueryList m)

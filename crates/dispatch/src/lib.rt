@@ -5,7 +5,7 @@ ghost use mathlib.Core.Path.{_≡_};
 ghost use Rattle.layout.specs.FormatNode.{routineOf};
 
 // Keys of one arm that are neighbours would become ranges, so the kinds of a routine stand in two.
-pub(crate) fn routine_of(kind: u16) -> Routine
+pub fn routine_of(kind: u16) -> Routine
     ensures { λ r. ⌜ r ≡ routineOf kind ⌝ }
 {
     match kind {
@@ -49,12 +49,11 @@ pub(crate) fn routine_of(kind: u16) -> Routine
         | syntax_kind::PREWHERE_CLAUSE
         | syntax_kind::PARTITION_BY_DEFINITION
         | syntax_kind::SAMPLE_BY_DEFINITION => Routine::SimpleClause,
-        syntax_kind::GROUP_BY_CLAUSE => Routine::GroupByClause,
-        syntax_kind::ORDER_BY_CLAUSE => Routine::OrderByClause,
-        syntax_kind::LIMIT_BY_CLAUSE => Routine::LimitByClause,
+        syntax_kind::GROUP_BY_CLAUSE => Routine::ListClause(syntax_kind::GROUP_BY_LIST),
+        syntax_kind::ORDER_BY_CLAUSE => Routine::ListClause(syntax_kind::ORDER_BY_LIST),
         syntax_kind::SETTINGS_CLAUSE => Routine::SettingsClause,
         syntax_kind::WITH_CLAUSE => Routine::WithClause,
-        syntax_kind::JOIN_CLAUSE => Routine::JoinClause,
+        syntax_kind::JOIN_CLAUSE | syntax_kind::LIMIT_BY_CLAUSE => Routine::JoinClause,
         syntax_kind::WINDOW_DEFINITION
         | syntax_kind::WINDOW_SPEC
         | syntax_kind::SAMPLE_CLAUSE
