@@ -94,7 +94,7 @@ fn wide(columns: usize) -> Case {
     Case { text: text.into_bytes(), tape, width: 4, case: 1, space: Vec::new() }
 }
 
-/// Prints the median of the rounds of each side, which take turns, for a byte of the tape.
+/// Prints the median of the rounds of each side, which take turns, for a byte of the tape, and that of the rounds' ratios.
 fn row(label: &str, cases: &[Case]) {
     let trees: Vec<source::Tree> =
         cases.iter().map(|case| source::tree(&accepted_tree(case).expect("accepted"))).collect();
@@ -117,6 +117,8 @@ fn row(label: &str, cases: &[Case]) {
         }
         times[1].push(per_byte(start));
     }
+    // A round's two times are taken one after the other, so their ratio is not moved by what the machine does in between rounds.
+    let ratio = bench::median(times[0].iter().zip(&times[1]).map(|(source, port)| source / port).collect());
     let [source, port] = times.map(bench::median);
-    println!("{label:<32} {bytes:>10} {source:>10.2} {port:>8.2} {:>6.2}", source / port);
+    println!("{label:<32} {bytes:>10} {source:>10.2} {port:>8.2} {ratio:>6.2}");
 }
