@@ -4,4 +4,5 @@ pub mod TwoCalls
 pub mod WorkedPair
 pub mod Origins
 pub mod Tables
+pub mod Limits
 pub mod Running

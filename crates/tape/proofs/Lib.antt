@@ -11,3 +11,4 @@ pub mod Skips
 pub mod Looks
 pub mod Order
 pub mod Samples
+pub mod Limits

@@ -1,0 +1,59 @@
+-- The limits of a whole call: what both calls answer at each, and one past it.
+use Prim.Native.Nat.{ℕ, _≤_, _<_}
+use native.Mathlib.Omega.{arith}
+use mathlib.Core.Path.{_≡_, refl, ap}
+use mathlib.Core.List.{List, [], _++_}
+use lib.ListN.{length, replicate}
+use borrow.Author.Tests.{le-leb}
+use Rattle.context.specs.Context.{writeNewline, takePendingBlankLine, finish}
+use Rattle.context.specs.Trim.{trim}
+use Rattle.tape.specs.declared.Fault.{Fault}
+use Rattle.tape.specs.Faults.{number}
+use Rattle.tape.specs.Tree.{hasChild, countListItems, copied}
+use Rattle.tape.specs.Tape.{refused, headAt}
+use Rattle.tape.specs.Call.{readCall}
+use Rattle.tape.specs.SmallInputs.{file, close}
+use Rattle.tape.proofs.Limits.{nested, text-accepted, text-refused, tape-refused, nodes-accepted, nodes-refused}
+use Rattle.layout.specs.Routines.{formatFile}
+use Rattle.layout.specs.FormatNode.{armsOf, routines, routineOf, formatNode}
+use Rattle.layout.specs.Calls.{walk, calls}
+use Rattle.layout.specs.Layout.{doSpacing, step, pieces, written, Version, original, piecesOf, format}
+use Rattle.layout.specs.Outcome.{Outcome, laid, ofRead, configOf, outcome, answer, measured, laidOut}
+
+-- both calls answer the number and the value, and leave any lent space as it is
+pub record Answered (o : Outcome) (number value : ℕ) : Type 0 where
+  pub measuring : measured o ≡ answer number value
+  pub laying-out : (space : List ℕ) → laidOut o space ≡ record { answer = answer number value; space = space }
+
+-- a reading that is refused is answered so by both calls
+pub refused-answered : (v : Version) (width case : ℕ) (text tape : List ℕ) {f : Fault} {p : ℕ} → readCall width case text tape ≡ refused f p
+    → Answered (outcome v width case text tape) (number f) p
+unfolding outcome measured laidOut
+refused-answered v width case text tape e = record { measuring = rw e; laying-out = λ space. rw e }
+
+empty-answered : (o : Outcome) → o ≡ laid [] → Answered o 0 0
+unfolding measured laidOut
+empty-answered o e = record { measuring = rw e; laying-out = λ space. rw (e, le-leb 0 (length space) (omega arith)) }
+
+-- ── the text: 262,144 bytes; n blanks with a File that has no child
+
+pub text-laid-out : (n : ℕ) → n ≤ 262144 → Answered (outcome original 4 1 (replicate n 32) (file ++ close)) 0 0
+unfolding outcome original format piecesOf pieces written calls walk copied hasChild headAt formatNode routineOf routines armsOf formatFile finish trim
+text-laid-out n h = empty-answered _ (ap (λ r. ofRead r (format original (configOf 4 1) (replicate n 32))) (text-accepted n h))
+
+pub text-too-long : (n : ℕ) (tape : List ℕ) → 262144 < n → Answered (outcome original 4 1 (replicate n 32) tape) 3 0
+text-too-long n tape h = refused-answered original 4 1 (replicate n 32) tape (text-refused n tape h)
+
+-- ── the tape: 262,144 bytes; n closes
+
+pub tape-too-long : (n : ℕ) → 262144 < n → Answered (outcome original 4 1 [] (replicate n 3)) 5 0
+tape-too-long n h = refused-answered original 4 1 [] (replicate n 3) (tape-refused n h)
+
+-- ── the open nodes: 64; one File in another
+
+pub nodes-laid-out : Answered (outcome original 4 1 [] (nested 64)) 0 0
+unfolding outcome original format piecesOf pieces written calls walk copied hasChild countListItems headAt formatNode routineOf routines armsOf formatFile step doSpacing takePendingBlankLine writeNewline finish trim
+nodes-laid-out = empty-answered _ (ap (λ r. ofRead r (format original (configOf 4 1) [])) nodes-accepted)
+
+pub nodes-too-deep : Answered (outcome original 4 1 [] (nested 65)) 11 704
+nodes-too-deep = refused-answered original 4 1 [] (nested 65) nodes-refused
