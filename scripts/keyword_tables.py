@@ -68,19 +68,23 @@ def proof(function, argument, uses, unfolding, table, arms, answer):
     name = function.replace("_", "-")
     needs = ["returns"] + [f"returns-{i}" for i in range(2, len(arms) + 2)]
     lines = [
-        f"-- `keywords::{function}` meets its contract: each arm against the list of the definition. Assumes nothing.",
-        "use mathlib.Core.List.{[], _∷_}",
+        "-- Written by scripts/keyword_tables.py; do not edit.",
+        f"-- `keywords::{function}` meets its contract: each arm against the list of the definition.",
+        "use mathlib.Core.List.{[], _∷_, map}",
         "use mathlib.Core.Path.{refl}",
+        "use Prim.Native.Nat.{ℕ}",
+        "use Rattle.basics.specs.Match.{match}",
+        "use Rattle.basics.proofs.Match.{arm-is, other-is}",
         *uses,
-        "use Rattle.keywords.proofs.Matches.{arm-is, other-is}",
         f"use Rattle.keywords.proofs.{function}.Statement.{{statement}}",
         f"use Rattle.keywords.proofs.{function}.Tie as tie",
     ]
-    for i, ((key, value), need) in enumerate(zip(arms, needs), start=1):
-        arm = f"arm-is {table} {key} {value} (c .before .args .{argument}) (c .match .keys{i}) refl"
+    value = f"(λ (k : ℕ). match k {table} 0)"
+    for i, ((key, code), need) in enumerate(zip(arms, needs), start=1):
+        arm = f"arm-is {value} {code} ({key} ∷ []) (c .before .args .{argument}) refl (c .match .keys{i})"
         lines += ["", f"{need} : tie.Need-{need}", f"unfolding {unfolding}", f"{need} c = {answer(arm)}"]
     keys = listed(key for key, _ in reversed(arms))
-    rest = f"other-is ({keys}) (c .before .args .{argument}) (c .match .rest) {table} refl"
+    rest = f"other-is (map (λ k. k ∷ []) ({keys})) (c .before .args .{argument}) (c .match .rest) {table} 0 refl"
     lines += ["", f"{needs[-1]} : tie.Need-{needs[-1]}", f"unfolding {unfolding}", f"{needs[-1]} c = {answer(rest)}"]
     lines += ["", f"pub {name}-spec : {{M : Type 1}} → statement M", f"{name}-spec =", "    tie.close", "    (tie.spec"]
     lines += [f"    {need}" for need in needs]
@@ -108,8 +112,8 @@ def main():
     proof(
         "shift_of",
         "bucket",
-        ["use native.Mathlib.Omega.{arith}", index + "{find, shifts}"],
-        "find shifts",
+        ["use native.Mathlib.Omega.{arith}", index + "{shifts}"],
+        "shifts",
         "shifts",
         shift_arms,
         lambda equation: f"({equation}, omega arith)",
@@ -120,9 +124,9 @@ def main():
         [
             "use Rattle.keywords.specs.Names.{names}",
             "use Rattle.keywords.specs.Words.{words}",
-            index + "{code, codes, find, key, shifts}",
+            index + "{code, codes, key, shifts}",
         ],
-        "names words code codes find key shifts",
+        "names words code codes key shifts",
         "(codes words)",
         code_arms,
         lambda equation: equation,

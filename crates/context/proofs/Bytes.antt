@@ -9,7 +9,8 @@ use lib.Dec.{leb, eqb}
 use lib.ListN.{length, getD, drop, replicate, length-take, length-drop}
 use lib.Seq.{length-take-le, getD-take, getD-drop, ext-getD}
 use borrow.Author.Tests.{ne-eqb, lt-leb, leb-true}
-use Rattle.context.specs.Cells.{Text, Cell, isWhiteSpace, toUppercase, toLowercase, toCase, tokenText, bytesOf, fresh, fixed, copiedFrom, spanCells, cellInCase}
+use Rattle.basics.specs.Case.{toUppercase, toLowercase}
+use Rattle.context.specs.Cells.{Text, Cell, isWhiteSpace, toCase, tokenText, bytesOf, fresh, fixed, copiedFrom, spanCells, cellInCase}
 use Rattle.context.specs.Trim.{trimmedLength}
 use Rattle.context.specs.Context.{lastByte, cellIsWhiteSpace}
 use Rattle.context.proofs.Trimming.{trimmed-map}

@@ -5,6 +5,7 @@ use mathlib.Core.Bool.{Bool, cond, _&&_, _||_}
 use mathlib.Core.List.{List, [], _∷_, map}
 use lib.ListN.{take, drop}
 use lib.Dec.{leb, eqb}
+use Rattle.basics.specs.Case.{toUppercase, toLowercase}
 
 abbrev pub Text : Type 0
 Text = List ℕ
@@ -12,12 +13,6 @@ Text = List ℕ
 -- bytes 9 to 13 and 32
 unfoldable pub isWhiteSpace : ℕ → Bool
 isWhiteSpace b = eqb b 32 || (leb 9 b && leb b 13)
-
-unfoldable pub toUppercase : ℕ → ℕ
-toUppercase b = cond (leb 97 b && leb b 122) (b - 32) b
-
-unfoldable pub toLowercase : ℕ → ℕ
-toLowercase b = cond (leb 65 b && leb b 90) (b + 32) b
 
 -- a byte in upper case, or in lower case
 abbrev pub toCase : Bool → ℕ → ℕ

@@ -4,7 +4,8 @@ use mathlib.Core.Path.{_≡_, refl, sym, ap}
 use mathlib.Core.Bool.{Bool, true, false, cond, not, _&&_}
 use mathlib.Core.List.{List, [], _∷_}
 use lib.Dec.{eqb, ltb}
-use Rattle.tape.specs.Kinds.{ColumnList, SettingList, WhenClause, SelectStatement, UnionClause, among}
+use Rattle.basics.specs.Match.{among}
+use Rattle.tape.specs.Kinds.{ColumnList, SettingList, WhenClause, SelectStatement, UnionClause}
 use Rattle.tape.specs.Tree.{Children}
 use Rattle.layout.specs.declared.Local.{Local}
 use Rattle.layout.specs.Arms.{Spacing, newline, space, indent, dedent}

@@ -1,6 +1,5 @@
 -- The laws that the proofs and the crates above cite.
 pub mod Same
 pub mod Capitals
-pub mod Matches
 pub mod Codes
 pub mod Lookup

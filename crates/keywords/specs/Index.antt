@@ -2,15 +2,10 @@
 use mathlib.Core.Bool.{cond}
 use mathlib.Core.List.{List, [], _∷_}
 use Prim.Native.Nat.{ℕ, _+_, _*_, _-_, _/_, _%_}
-use lib.Dec.{eqb}
 use lib.ListN.{length, getD}
+use Rattle.basics.specs.Match.{match}
 use Rattle.keywords.specs.Words.{capitals}
 use Rattle.keywords.specs.Table.{capital}
-
--- the value beside the first entry for k; 0 where there is none
-unfoldable pub find : ℕ → List (ℕ × ℕ) → ℕ
-find k [] = 0
-find k (e ∷ es) = cond (eqb k (e .0)) (e .1) (find k es)
 
 -- what keeps the keys of the entries apart, for each bucket that needs it
 unfoldable pub shifts : List (ℕ × ℕ)
@@ -26,7 +21,7 @@ letterAt w i = getD w i 0 % 32
 
 -- a word's key
 unfoldable pub key : List ℕ → ℕ
-key w = (2 * letterAt w 1 + 5 * letterAt w (length w / 2) + letterAt w (length w - 1) + find ((letterAt w 0 + 4 * length w) % 64) shifts) % 256
+key w = (2 * letterAt w 1 + 5 * letterAt w (length w / 2) + letterAt w (length w - 1) + match ((letterAt w 0 + 4 * length w) % 64) shifts 0) % 256
 
 -- capitals as a number: digits in base 32, the first the lowest
 unfoldable pub code : List ℕ → ℕ

@@ -1,11 +1,12 @@
 -- Which words are keywords, and which of them are values: `is_keyword` and `is_value_keyword` of format_node.rs. Assumes nothing.
-use mathlib.Core.Bool.{Bool, true, false, cond, _&&_, _||_}
+use mathlib.Core.Bool.{Bool, true, false, _&&_, _||_}
 use mathlib.Core.List.{List, [], _∷_, map}
 use Prim.Native.Char.{code}
-use Prim.Native.Nat.{ℕ, _-_}
+use Prim.Native.Nat.{ℕ}
 use Prim.Native.String
 use Prim.Native.String.{String}
-use lib.Dec.{leb, eqb}
+use lib.Dec.{eqb}
+use Rattle.basics.specs.Case.{toUppercase}
 use Rattle.keywords.specs.Names.{names}
 
 -- a text's characters as numbers
@@ -18,13 +19,9 @@ unfoldable pub words : List (List ℕ)
 unfolding names
 words = map bytes names
 
--- a byte in upper case
-abbrev pub upper : ℕ → ℕ
-upper b = cond (leb 97 b && leb b 122) (b - 32) b
-
 -- a word in upper case
 abbrev pub capitals : List ℕ → List ℕ
-capitals w = map upper w
+capitals w = map toUppercase w
 
 -- whether two byte lists are equal
 unfoldable pub same : List ℕ → List ℕ → Bool

@@ -2,12 +2,14 @@
 ghost use mathlib.Core.Path.{_≡_};
 ghost use Prim.Native.Nat.{_%_, _≤_, _<_};
 ghost use lib.ListN.{length};
-ghost use Rattle.keywords.specs.Words.{capitals, isKeyword, isValueKeyword, same, upper, words};
-ghost use Rattle.keywords.specs.Index.{codes, find, key, shifts, wordCode};
+ghost use Rattle.basics.specs.Case.{toUppercase};
+ghost use Rattle.basics.specs.Match.{match};
+ghost use Rattle.keywords.specs.Words.{capitals, isKeyword, isValueKeyword, same, words};
+ghost use Rattle.keywords.specs.Index.{codes, key, shifts, wordCode};
 
 // A byte in upper case.
 fn upper_of(b: u8) -> u8
-    ensures { λ r. ⌜ r ≡ upper b ⌝ }
+    ensures { λ r. ⌜ r ≡ toUppercase b ⌝ }
 {
     if b < 97 {
         return b;
@@ -30,7 +32,7 @@ fn letter(b: u8) -> usize
 // A perfect hash over the list (hash and displace): each bucket of entries, the largest first, has the least shift that leads to keys
 // which are still free.
 fn shift_of(bucket: usize) -> usize
-    ensures { λ r. ⌜ (r ≡ find bucket shifts) × (r < 256) ⌝ }
+    ensures { λ r. ⌜ (r ≡ match bucket shifts 0) × (r < 256) ⌝ }
 {
     match bucket {
         0 => 1,
@@ -83,7 +85,7 @@ fn shift_of(bucket: usize) -> usize
 
 // The list in the source's order: of each entry its key and its code. 0 where no entry has the key.
 fn code_at(key: usize) -> u64
-    ensures { λ r. ⌜ r ≡ find key (codes words) ⌝ }
+    ensures { λ r. ⌜ r ≡ match key (codes words) 0 ⌝ }
 {
     match key {
         145 => 674410675, // SELECT

@@ -9,7 +9,8 @@ use lib.ListN.{length, getD, take, drop, replicate, length-take}
 use lib.Seq.{getD-drop, getD-take}
 use lib.Dec.{leb}
 use borrow.Author.Tests.{leb-true, le-leb, lt-leb}
-use Rattle.context.specs.Cells.{Text, Origin, made, from, Cell, fresh, toUppercase, toLowercase, toCase, tokenText, copiedFrom, spanCells, cellInCase, isWhiteSpace}
+use Rattle.basics.specs.Case.{toUppercase, toLowercase}
+use Rattle.context.specs.Cells.{Text, Origin, made, from, Cell, fresh, toCase, tokenText, copiedFrom, spanCells, cellInCase, isWhiteSpace}
 use Rattle.context.specs.Trim.{trimCons, trim}
 use Rattle.context.specs.Context.{Step, newState, writeNewline, lead, writeToken, writeKeyword, writeRaw, takePendingNewline, takePendingBlankLine, writeSpace, endLine, cellIsWhiteSpace, finish}
 use Rattle.context.specs.declared.FormatConfig.{FormatConfig}

@@ -3,7 +3,8 @@
 use lib.Dec.{T}
 use Rattle.keywords.specs.Names.{names}
 use Rattle.keywords.specs.Words.{words, same, listed}
-use Rattle.context.specs.Cells.{isWhiteSpace, toUppercase, toLowercase, tokenText}
+use Rattle.basics.specs.Case.{toUppercase, toLowercase}
+use Rattle.context.specs.Cells.{isWhiteSpace, tokenText}
 use Rattle.context.specs.Trim.{trim, trimmedLength}
 use Rattle.context.specs.Context.{writeNewline, lead, writeToken, writeKeyword, writeSpace, noteSkippedWhitespace, takePendingNewline, takePendingBlankLine, indent, dedent, writeRaw, finish}
 use Rattle.tape.specs.Kinds.{kinds, notCarried}

@@ -2,7 +2,7 @@
 -- what it does is a list of acts, and none of them names a place of the text. Assumes nothing.
 use Prim.Native.Nat.{ℕ}
 use mathlib.Core.Bool.{Bool, cond, _||_}
-use mathlib.Core.List.{List, [], _∷_}
+use mathlib.Core.List.{List, []}
 use lib.Dec.{eqb}
 use Rattle.context.specs.Cells.{Text, tokenText}
 use Rattle.tape.specs.Kinds
@@ -46,8 +46,3 @@ pub record Arms : Type 0 where
   -- before and after a child node, by its kind and its count_list_items
   pub atNode : Local → ℕ → ℕ → Local × List Spacing × List Spacing
   pub atEnd : Local → List Spacing
-
--- a `match` on a kind: the value beside the first entry that equals k, else d
-abbrev pub match : {A : Type 0} → ℕ → List (ℕ × A) → A → A
-match k [] d = d
-match k (e ∷ es) d = cond (eqb k (e .0)) (e .1) (match k es d)

@@ -2,11 +2,12 @@
 -- carried are left out, and an Error node never comes here. Assumes nothing.
 use Prim.Native.Nat.{ℕ}
 use mathlib.Core.List.{List, [], _∷_}
+use Rattle.basics.specs.Match.{match}
 use Rattle.tape.specs.Kinds
 use Rattle.tape.specs.Tree.{Children}
 use Rattle.layout.specs.declared.Routine.{Routine}
 use Rattle.layout.specs.declared.Routine.the-variants.{File, QueryList, SelectStatement, SelectClause, SimpleClause, ListClause, SettingsClause, WithClause, JoinClause, Inline, CommaList, InlineCommaList, BinaryExpression, UnaryExpression, FunctionCall, CaseExpression, WhenClause, Subquery, ParenList, BracketList, InlineNoSpaces, BraceList, DataType, InlineTightParens, AlterCommandList, UnionClause, Passthrough}
-use Rattle.layout.specs.Arms.{Arms, match}
+use Rattle.layout.specs.Arms.{Arms}
 use Rattle.layout.specs.Routines.{formatFile, formatQueryList, formatSelectStatement, formatSelectClause, formatSimpleClause, formatListClause, formatJoinClause, formatSettingsClause, formatWithClause, formatCommaList, formatInlineCommaList, formatBinaryExpression, formatUnaryExpression, formatFunctionCall, formatCaseExpression, formatWhenClause, formatSubquery, formatParenList, formatBracketList, formatBraceList, formatDataType, formatInlineTightParens, formatInline, formatInlineNoSpaces, formatPassthrough, formatAlterCommandList, formatUnionClause}
 
 unfoldable pub armsOf : Routine → Children → Arms

@@ -2,7 +2,8 @@
 use mathlib.Core.Path.{_≡_}
 use mathlib.Core.List.{List, [], _∷_}
 use lib.ListN.{getD}
-use Rattle.context.specs.Cells.{Text, Origin, made, from, Cell, toLowercase}
+use Rattle.basics.specs.Case.{toLowercase}
+use Rattle.context.specs.Cells.{Text, Origin, made, from, Cell}
 
 abbrev pub ComesFrom : Text → Cell → Origin → Type 0
 ComesFrom t c made = Unit {0}

@@ -3,14 +3,14 @@ use Prim.Native.Nat.{ℕ}
 use mathlib.Core.Bool.{Bool, true, false, cond, not, _&&_}
 use mathlib.Core.List.{List, [], _∷_, _++_}
 use lib.Dec.{eqb, ltb}
+use Rattle.basics.specs.Match.{among, match}
 use Rattle.keywords.specs.Words.{isWord}
 use Rattle.tape.specs.Kinds
-use Rattle.tape.specs.Kinds.{among}
 use Rattle.tape.specs.Tree.{Children, hasChild, countListItems}
 use Rattle.layout.specs.declared.PrevKind.{PrevKind}
 use Rattle.layout.specs.declared.PrevKind.the-variants.{Nothing, Kind}
 use Rattle.layout.specs.declared.Local.{Local}
-use Rattle.layout.specs.Arms.{Spacing, newline, space, indent, dedent, blankLine, blankLineBeforeComment, Act, spacing, text, keyword, sign, Seen, Arms, match}
+use Rattle.layout.specs.Arms.{Spacing, newline, space, indent, dedent, blankLine, blankLineBeforeComment, Act, spacing, text, keyword, sign, Seen, Arms}
 use Rattle.layout.specs.Tokens.{noSpaceBefore, noSpaceAfter, noteSkippedWhitespace, emitComment, emitToken, emitOther, isOperator}
 
 -- ── what several routines share

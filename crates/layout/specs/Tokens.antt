@@ -3,10 +3,10 @@ use Prim.Native.Nat.{ℕ}
 use mathlib.Core.Bool.{Bool, false, cond, not, _&&_}
 use mathlib.Core.List.{List, [], _∷_}
 use lib.Dec.{eqb}
+use Rattle.basics.specs.Match.{among, match}
 use Rattle.keywords.specs.Words.{isKeyword, isValueKeyword}
 use Rattle.tape.specs.Kinds
-use Rattle.tape.specs.Kinds.{among}
-use Rattle.layout.specs.Arms.{Act, spacing, text, keyword, newline, note, lineOrSpace, Seen, match}
+use Rattle.layout.specs.Arms.{Act, spacing, text, keyword, newline, note, lineOrSpace, Seen}
 
 -- ── no_space_before
 

@@ -1,5 +1,4 @@
 -- The laws that the proofs and the crates above cite.
-pub mod Among
 pub mod Facts
 pub mod Trees
 pub mod Reading

@@ -1,9 +1,9 @@
 -- The kinds of `SyntaxKind`. A kind's number is its place there, from 0; each name stands for its number.
 -- Assumes nothing.
 use Prim.Native.Nat.{ℕ}
-use mathlib.Core.Bool.{Bool, false, _||_}
+use mathlib.Core.Bool.{Bool}
 use mathlib.Core.List.{List, [], _∷_}
-use lib.Dec.{eqb}
+use Rattle.basics.specs.Match.{among}
 
 abbrev pub Error : ℕ
 Error = 0
@@ -821,10 +821,6 @@ abbrev pub kindsNotCarried : List ℕ
 kindsNotCarried =
     InsertStatement ∷ InsertValuesClause ∷ CreateStatement ∷ TableDefinition ∷ DatabaseDefinition ∷ ViewDefinition ∷ MaterializedViewDefinition
     ∷ DictionaryDefinition ∷ ColumnDefinitionList ∷ EngineClause ∷ AlterStatement ∷ SetStatement ∷ ExplainStatement ∷ []
-
-abbrev pub among : ℕ → List ℕ → Bool
-among k [] = false
-among k (x ∷ xs) = eqb k x || among k xs
 
 unfoldable pub notCarried : ℕ → Bool
 notCarried k = among k kindsNotCarried

@@ -5,11 +5,12 @@ use mathlib.Core.Bool.{Bool, true, false, cond, not, _||_, false≢true}
 use mathlib.Core.List.{List, [], _∷_, _++_, map}
 use lib.Dec.{eqb, ltb}
 use borrow.Author.Tests.{ne-eqb}
+use Rattle.basics.specs.Match.{among}
 use Rattle.keywords.specs.Words.{isWord}
 use Rattle.context.specs.declared.FormatterContext.{FormatterContext}
 use Rattle.context.proofs.Writes.{spent-none}
 use Rattle.context.specs.Cells.{Text, tokenText}
-use Rattle.tape.specs.Kinds.{Whitespace, Comment, BareWord, SelectStatement, UnionClause, among}
+use Rattle.tape.specs.Kinds.{Whitespace, Comment, BareWord, SelectStatement, UnionClause}
 use Rattle.tape.specs.declared.Head.{Head}
 use Rattle.tape.specs.Tree.{Children, hasChild, countListItems, severalListItems}
 use Rattle.layout.specs.declared.Local.{Local}

@@ -4,6 +4,7 @@ use mathlib.Core.Path.{_≡_}
 use mathlib.Core.Bool.{Bool, cond}
 use mathlib.Core.List.{List, [], _∷_, map}
 use lib.ListN.{length}
+use Rattle.basics.specs.Match.{match}
 use Rattle.context.specs.Cells.{Text}
 use Rattle.context.specs.Store.{Store, Room, Spent}
 use Rattle.context.specs.declared.FormatConfig.{FormatConfig}
@@ -11,7 +12,7 @@ use Rattle.context.specs.declared.FormatterContext.{FormatterContext}
 use Rattle.tape.specs.Kinds
 use Rattle.tape.specs.declared.Head.{Head}
 use Rattle.layout.specs.declared.Local.{Local}
-use Rattle.layout.specs.Arms.{Spacing, Act, Seen, seen, match}
+use Rattle.layout.specs.Arms.{Spacing, Act, Seen, seen}
 use Rattle.layout.specs.Tokens.{noteSkippedWhitespace, emitComment, emitToken}
 use Rattle.layout.specs.Calls.{Call, on}
 use Rattle.layout.specs.Run.{runSpacing, run}

@@ -1,884 +1,887 @@
--- `keywords::code_at` meets its contract: each arm against the list of the definition. Assumes nothing.
-use mathlib.Core.List.{[], _∷_}
+-- Written by scripts/keyword_tables.py; do not edit.
+-- `keywords::code_at` meets its contract: each arm against the list of the definition.
+use mathlib.Core.List.{[], _∷_, map}
 use mathlib.Core.Path.{refl}
+use Prim.Native.Nat.{ℕ}
+use Rattle.basics.specs.Match.{match}
+use Rattle.basics.proofs.Match.{arm-is, other-is}
 use Rattle.keywords.specs.Names.{names}
 use Rattle.keywords.specs.Words.{words}
-use Rattle.keywords.specs.Index.{code, codes, find, key, shifts}
-use Rattle.keywords.proofs.Matches.{arm-is, other-is}
+use Rattle.keywords.specs.Index.{code, codes, key, shifts}
 use Rattle.keywords.proofs.code_at.Statement.{statement}
 use Rattle.keywords.proofs.code_at.Tie as tie
 
 returns : tie.Need-returns
-unfolding names words code codes find key shifts
-returns c = arm-is (codes words) 145 674410675 (c .before .args .key) (c .match .keys1) refl
+unfolding names words code codes key shifts
+returns c = arm-is (λ (k : ℕ). match k (codes words) 0) 674410675 (145 ∷ []) (c .before .args .key) refl (c .match .keys1)
 
 returns-2 : tie.Need-returns-2
-unfolding names words code codes find key shifts
-returns-2 c = arm-is (codes words) 245 441926 (c .before .args .key) (c .match .keys2) refl
+unfolding names words code codes key shifts
+returns-2 c = arm-is (λ (k : ℕ). match k (codes words) 0) 441926 (245 ∷ []) (c .before .args .key) refl (c .match .keys2)
 
 returns-3 : tie.Need-returns-3
-unfolding names words code codes find key shifts
-returns-3 c = arm-is (codes words) 136 5838103 (c .before .args .key) (c .match .keys3) refl
+unfolding names words code codes key shifts
+returns-3 c = arm-is (λ (k : ℕ). match k (codes words) 0) 5838103 (136 ∷ []) (c .before .args .key) refl (c .match .keys3)
 
 returns-4 : tie.Need-returns-4
-unfolding names words code codes find key shifts
-returns-4 c = arm-is (codes words) 89 19042895 (c .before .args .key) (c .match .keys4) refl
+unfolding names words code codes key shifts
+returns-4 c = arm-is (λ (k : ℕ). match k (codes words) 0) 19042895 (89 ∷ []) (c .before .args .key) refl (c .match .keys4)
 
 returns-5 : tie.Need-returns-5
-unfolding names words code codes find key shifts
-returns-5 c = arm-is (codes words) 216 802 (c .before .args .key) (c .match .keys5) refl
+unfolding names words code codes key shifts
+returns-5 c = arm-is (λ (k : ℕ). match k (codes words) 0) 802 (216 ∷ []) (c .before .args .key) refl (c .match .keys5)
 
 returns-6 : tie.Need-returns-6
-unfolding names words code codes find key shifts
-returns-6 c = arm-is (codes words) 135 17481287 (c .before .args .key) (c .match .keys6) refl
+unfolding names words code codes key shifts
+returns-6 c = arm-is (λ (k : ℕ). match k (codes words) 0) 17481287 (135 ∷ []) (c .before .args .key) refl (c .match .keys6)
 
 returns-7 : tie.Need-returns-7
-unfolding names words code codes find key shifts
-returns-7 c = arm-is (codes words) 58 249878568 (c .before .args .key) (c .match .keys7) refl
+unfolding names words code codes key shifts
+returns-7 c = arm-is (λ (k : ℕ). match k (codes words) 0) 249878568 (58 ∷ []) (c .before .args .key) refl (c .match .keys7)
 
 returns-8 : tie.Need-returns-8
-unfolding names words code codes find key shifts
-returns-8 c = arm-is (codes words) 107 21280044 (c .before .args .key) (c .match .keys8) refl
+unfolding names words code codes key shifts
+returns-8 c = arm-is (λ (k : ℕ). match k (codes words) 0) 21280044 (107 ∷ []) (c .before .args .key) refl (c .match .keys8)
 
 returns-9 : tie.Need-returns-9
-unfolding names words code codes find key shifts
-returns-9 c = arm-is (codes words) 3 676960463 (c .before .args .key) (c .match .keys9) refl
+unfolding names words code codes key shifts
+returns-9 c = arm-is (λ (k : ℕ). match k (codes words) 0) 676960463 (3 ∷ []) (c .before .args .key) refl (c .match .keys9)
 
 returns-10 : tie.Need-returns-10
-unfolding names words code codes find key shifts
-returns-10 c = arm-is (codes words) 2 282935 (c .before .args .key) (c .match .keys10) refl
+unfolding names words code codes key shifts
+returns-10 c = arm-is (λ (k : ℕ). match k (codes words) 0) 282935 (2 ∷ []) (c .before .args .key) refl (c .match .keys10)
 
 returns-11 : tie.Need-returns-11
-unfolding names words code codes find key shifts
-returns-11 c = arm-is (codes words) 174 609 (c .before .args .key) (c .match .keys11) refl
+unfolding names words code codes key shifts
+returns-11 c = arm-is (λ (k : ℕ). match k (codes words) 0) 609 (174 ∷ []) (c .before .args .key) refl (c .match .keys11)
 
 returns-12 : tie.Need-returns-12
-unfolding names words code codes find key shifts
-returns-12 c = arm-is (codes words) 126 463 (c .before .args .key) (c .match .keys12) refl
+unfolding names words code codes key shifts
+returns-12 c = arm-is (λ (k : ℕ). match k (codes words) 0) 463 (126 ∷ []) (c .before .args .key) refl (c .match .keys12)
 
 returns-13 : tie.Need-returns-13
-unfolding names words code codes find key shifts
-returns-13 c = arm-is (codes words) 225 7808629 (c .before .args .key) (c .match .keys13) refl
+unfolding names words code codes key shifts
+returns-13 c = arm-is (λ (k : ℕ). match k (codes words) 0) 7808629 (225 ∷ []) (c .before .args .key) refl (c .match .keys13)
 
 returns-14 : tie.Need-returns-14
-unfolding names words code codes find key shifts
-returns-14 c = arm-is (codes words) 232 15206174882 (c .before .args .key) (c .match .keys14) refl
+unfolding names words code codes key shifts
+returns-14 c = arm-is (λ (k : ℕ). match k (codes words) 0) 15206174882 (232 ∷ []) (c .before .args .key) refl (c .match .keys14)
 
 returns-15 : tie.Need-returns-15
-unfolding names words code codes find key shifts
-returns-15 c = arm-is (codes words) 194 457 (c .before .args .key) (c .match .keys15) refl
+unfolding names words code codes key shifts
+returns-15 c = arm-is (λ (k : ℕ). match k (codes words) 0) 457 (194 ∷ []) (c .before .args .key) refl (c .match .keys15)
 
 returns-16 : tie.Need-returns-16
-unfolding names words code codes find key shifts
-returns-16 c = arm-is (codes words) 78 175404 (c .before .args .key) (c .match .keys16) refl
+unfolding names words code codes key shifts
+returns-16 c = arm-is (λ (k : ℕ). match k (codes words) 0) 175404 (78 ∷ []) (c .before .args .key) refl (c .match .keys16)
 
 returns-17 : tie.Need-returns-17
-unfolding names words code codes find key shifts
-returns-17 c = arm-is (codes words) 143 5612937 (c .before .args .key) (c .match .keys17) refl
+unfolding names words code codes key shifts
+returns-17 c = arm-is (λ (k : ℕ). match k (codes words) 0) 5612937 (143 ∷ []) (c .before .args .key) refl (c .match .keys17)
 
 returns-18 : tie.Need-returns-18
-unfolding names words code codes find key shifts
-returns-18 c = arm-is (codes words) 234 617 (c .before .args .key) (c .match .keys18) refl
+unfolding names words code codes key shifts
+returns-18 c = arm-is (λ (k : ℕ). match k (codes words) 0) 617 (234 ∷ []) (c .before .args .key) refl (c .match .keys18)
 
 returns-19 : tie.Need-returns-19
-unfolding names words code codes find key shifts
-returns-19 c = arm-is (codes words) 128 20974 (c .before .args .key) (c .match .keys19) refl
+unfolding names words code codes key shifts
+returns-19 c = arm-is (λ (k : ℕ). match k (codes words) 0) 20974 (128 ∷ []) (c .before .args .key) refl (c .match .keys19)
 
 returns-20 : tie.Need-returns-20
-unfolding names words code codes find key shifts
-returns-20 c = arm-is (codes words) 16 183331 (c .before .args .key) (c .match .keys20) refl
+unfolding names words code codes key shifts
+returns-20 c = arm-is (λ (k : ℕ). match k (codes words) 0) 183331 (16 ∷ []) (c .before .args .key) refl (c .match .keys20)
 
 returns-21 : tie.Need-returns-21
-unfolding names words code codes find key shifts
-returns-21 c = arm-is (codes words) 187 464151 (c .before .args .key) (c .match .keys21) refl
+unfolding names words code codes key shifts
+returns-21 c = arm-is (λ (k : ℕ). match k (codes words) 0) 464151 (187 ∷ []) (c .before .args .key) refl (c .match .keys21)
 
 returns-22 : tie.Need-returns-22
-unfolding names words code codes find key shifts
-returns-22 c = arm-is (codes words) 62 464148 (c .before .args .key) (c .match .keys22) refl
+unfolding names words code codes key shifts
+returns-22 c = arm-is (λ (k : ℕ). match k (codes words) 0) 464148 (62 ∷ []) (c .before .args .key) refl (c .match .keys22)
 
 returns-23 : tie.Need-returns-23
-unfolding names words code codes find key shifts
-returns-23 c = arm-is (codes words) 163 183685 (c .before .args .key) (c .match .keys23) refl
+unfolding names words code codes key shifts
+returns-23 c = arm-is (λ (k : ℕ). match k (codes words) 0) 183685 (163 ∷ []) (c .before .args .key) refl (c .match .keys23)
 
 returns-24 : tie.Need-returns-24
-unfolding names words code codes find key shifts
-returns-24 c = arm-is (codes words) 184 4549 (c .before .args .key) (c .match .keys24) refl
+unfolding names words code codes key shifts
+returns-24 c = arm-is (λ (k : ℕ). match k (codes words) 0) 4549 (184 ∷ []) (c .before .args .key) refl (c .match .keys24)
 
 returns-25 : tie.Need-returns-25
-unfolding names words code codes find key shifts
-returns-25 c = arm-is (codes words) 31 674851 (c .before .args .key) (c .match .keys25) refl
+unfolding names words code codes key shifts
+returns-25 c = arm-is (λ (k : ℕ). match k (codes words) 0) 674851 (31 ∷ []) (c .before .args .key) refl (c .match .keys25)
 
 returns-26 : tie.Need-returns-26
-unfolding names words code codes find key shifts
-returns-26 c = arm-is (codes words) 90 690895867172 (c .before .args .key) (c .match .keys26) refl
+unfolding names words code codes key shifts
+returns-26 c = arm-is (λ (k : ℕ). match k (codes words) 0) 690895867172 (90 ∷ []) (c .before .args .key) refl (c .match .keys26)
 
 returns-27 : tie.Need-returns-27
-unfolding names words code codes find key shifts
-returns-27 c = arm-is (codes words) 155 12673 (c .before .args .key) (c .match .keys27) refl
+unfolding names words code codes key shifts
+returns-27 c = arm-is (λ (k : ℕ). match k (codes words) 0) 12673 (155 ∷ []) (c .before .args .key) refl (c .match .keys27)
 
 returns-28 : tie.Need-returns-28
-unfolding names words code codes find key shifts
-returns-28 c = arm-is (codes words) 231 659138309 (c .before .args .key) (c .match .keys28) refl
+unfolding names words code codes key shifts
+returns-28 c = arm-is (λ (k : ℕ). match k (codes words) 0) 659138309 (231 ∷ []) (c .before .args .key) refl (c .match .keys28)
 
 returns-29 : tie.Need-returns-29
-unfolding names words code codes find key shifts
-returns-29 c = arm-is (codes words) 161 4545 (c .before .args .key) (c .match .keys29) refl
+unfolding names words code codes key shifts
+returns-29 c = arm-is (λ (k : ℕ). match k (codes words) 0) 4545 (161 ∷ []) (c .before .args .key) refl (c .match .keys29)
 
 returns-30 : tie.Need-returns-30
-unfolding names words code codes find key shifts
-returns-30 c = arm-is (codes words) 158 591 (c .before .args .key) (c .match .keys30) refl
+unfolding names words code codes key shifts
+returns-30 c = arm-is (λ (k : ℕ). match k (codes words) 0) 591 (158 ∷ []) (c .before .args .key) refl (c .match .keys30)
 
 returns-31 : tie.Need-returns-31
-unfolding names words code codes find key shifts
-returns-31 c = arm-is (codes words) 92 468458 (c .before .args .key) (c .match .keys31) refl
+unfolding names words code codes key shifts
+returns-31 c = arm-is (λ (k : ℕ). match k (codes words) 0) 468458 (92 ∷ []) (c .before .args .key) refl (c .match .keys31)
 
 returns-32 : tie.Need-returns-32
-unfolding names words code codes find key shifts
-returns-32 c = arm-is (codes words) 185 19053001 (c .before .args .key) (c .match .keys32) refl
+unfolding names words code codes key shifts
+returns-32 c = arm-is (λ (k : ℕ). match k (codes words) 0) 19053001 (185 ∷ []) (c .before .args .key) refl (c .match .keys32)
 
 returns-33 : tie.Need-returns-33
-unfolding names words code codes find key shifts
-returns-33 c = arm-is (codes words) 60 661676 (c .before .args .key) (c .match .keys33) refl
+unfolding names words code codes key shifts
+returns-33 c = arm-is (λ (k : ℕ). match k (codes words) 0) 661676 (60 ∷ []) (c .before .args .key) refl (c .match .keys33)
 
 returns-34 : tie.Need-returns-34
-unfolding names words code codes find key shifts
-returns-34 c = arm-is (codes words) 200 21241138 (c .before .args .key) (c .match .keys34) refl
+unfolding names words code codes key shifts
+returns-34 c = arm-is (λ (k : ℕ). match k (codes words) 0) 21241138 (200 ∷ []) (c .before .args .key) refl (c .match .keys34)
 
 returns-35 : tie.Need-returns-35
-unfolding names words code codes find key shifts
-returns-35 c = arm-is (codes words) 235 406182 (c .before .args .key) (c .match .keys35) refl
+unfolding names words code codes key shifts
+returns-35 c = arm-is (λ (k : ℕ). match k (codes words) 0) 406182 (235 ∷ []) (c .before .args .key) refl (c .match .keys35)
 
 returns-36 : tie.Need-returns-36
-unfolding names words code codes find key shifts
-returns-36 c = arm-is (codes words) 175 19059375 (c .before .args .key) (c .match .keys36) refl
+unfolding names words code codes key shifts
+returns-36 c = arm-is (λ (k : ℕ). match k (codes words) 0) 19059375 (175 ∷ []) (c .before .args .key) refl (c .match .keys36)
 
 returns-37 : tie.Need-returns-37
-unfolding names words code codes find key shifts
-returns-37 c = arm-is (codes words) 144 20561475 (c .before .args .key) (c .match .keys37) refl
+unfolding names words code codes key shifts
+returns-37 c = arm-is (λ (k : ℕ). match k (codes words) 0) 20561475 (144 ∷ []) (c .before .args .key) refl (c .match .keys37)
 
 returns-38 : tie.Need-returns-38
-unfolding names words code codes find key shifts
-returns-38 c = arm-is (codes words) 46 403783047 (c .before .args .key) (c .match .keys38) refl
+unfolding names words code codes key shifts
+returns-38 c = arm-is (λ (k : ℕ). match k (codes words) 0) 403783047 (46 ∷ []) (c .before .args .key) refl (c .match .keys38)
 
 returns-39 : tie.Need-returns-39
-unfolding names words code codes find key shifts
-returns-39 c = arm-is (codes words) 182 26049 (c .before .args .key) (c .match .keys39) refl
+unfolding names words code codes key shifts
+returns-39 c = arm-is (λ (k : ℕ). match k (codes words) 0) 26049 (182 ∷ []) (c .before .args .key) refl (c .match .keys39)
 
 returns-40 : tie.Need-returns-40
-unfolding names words code codes find key shifts
-returns-40 c = arm-is (codes words) 99 308403 (c .before .args .key) (c .match .keys40) refl
+unfolding names words code codes key shifts
+returns-40 c = arm-is (λ (k : ℕ). match k (codes words) 0) 308403 (99 ∷ []) (c .before .args .key) refl (c .match .keys40)
 
 returns-41 : tie.Need-returns-41
-unfolding names words code codes find key shifts
-returns-41 c = arm-is (codes words) 219 315841 (c .before .args .key) (c .match .keys41) refl
+unfolding names words code codes key shifts
+returns-41 c = arm-is (λ (k : ℕ). match k (codes words) 0) 315841 (219 ∷ []) (c .before .args .key) refl (c .match .keys41)
 
 returns-42 : tie.Need-returns-42
-unfolding names words code codes find key shifts
-returns-42 c = arm-is (codes words) 201 212577 (c .before .args .key) (c .match .keys42) refl
+unfolding names words code codes key shifts
+returns-42 c = arm-is (λ (k : ℕ). match k (codes words) 0) 212577 (201 ∷ []) (c .before .args .key) refl (c .match .keys42)
 
 returns-43 : tie.Need-returns-43
-unfolding names words code codes find key shifts
-returns-43 c = arm-is (codes words) 178 12938039342 (c .before .args .key) (c .match .keys43) refl
+unfolding names words code codes key shifts
+returns-43 c = arm-is (λ (k : ℕ). match k (codes words) 0) 12938039342 (178 ∷ []) (c .before .args .key) refl (c .match .keys43)
 
 returns-44 : tie.Need-returns-44
-unfolding names words code codes find key shifts
-returns-44 c = arm-is (codes words) 190 26266177 (c .before .args .key) (c .match .keys44) refl
+unfolding names words code codes key shifts
+returns-44 c = arm-is (λ (k : ℕ). match k (codes words) 0) 26266177 (190 ∷ []) (c .before .args .key) refl (c .match .keys44)
 
 returns-45 : tie.Need-returns-45
-unfolding names words code codes find key shifts
-returns-45 c = arm-is (codes words) 103 12630310 (c .before .args .key) (c .match .keys45) refl
+unfolding names words code codes key shifts
+returns-45 c = arm-is (λ (k : ℕ). match k (codes words) 0) 12630310 (103 ∷ []) (c .before .args .key) refl (c .match .keys45)
 
 returns-46 : tie.Need-returns-46
-unfolding names words code codes find key shifts
-returns-46 c = arm-is (codes words) 195 3681 (c .before .args .key) (c .match .keys46) refl
+unfolding names words code codes key shifts
+returns-46 c = arm-is (λ (k : ℕ). match k (codes words) 0) 3681 (195 ∷ []) (c .before .args .key) refl (c .match .keys46)
 
 returns-47 : tie.Need-returns-47
-unfolding names words code codes find key shifts
-returns-47 c = arm-is (codes words) 217 117924 (c .before .args .key) (c .match .keys47) refl
+unfolding names words code codes key shifts
+returns-47 c = arm-is (λ (k : ℕ). match k (codes words) 0) 117924 (217 ∷ []) (c .before .args .key) refl (c .match .keys47)
 
 returns-48 : tie.Need-returns-48
-unfolding names words code codes find key shifts
-returns-48 c = arm-is (codes words) 199 20329134 (c .before .args .key) (c .match .keys48) refl
+unfolding names words code codes key shifts
+returns-48 c = arm-is (λ (k : ℕ). match k (codes words) 0) 20329134 (199 ∷ []) (c .before .args .key) refl (c .match .keys48)
 
 returns-49 : tie.Need-returns-49
-unfolding names words code codes find key shifts
-returns-49 c = arm-is (codes words) 131 21612838 (c .before .args .key) (c .match .keys49) refl
+unfolding names words code codes key shifts
+returns-49 c = arm-is (λ (k : ℕ). match k (codes words) 0) 21612838 (131 ∷ []) (c .before .args .key) refl (c .match .keys49)
 
 returns-50 : tie.Need-returns-50
-unfolding names words code codes find key shifts
-returns-50 c = arm-is (codes words) 117 674860 (c .before .args .key) (c .match .keys50) refl
+unfolding names words code codes key shifts
+returns-50 c = arm-is (λ (k : ℕ). match k (codes words) 0) 674860 (117 ∷ []) (c .before .args .key) refl (c .match .keys50)
 
 returns-51 : tie.Need-returns-51
-unfolding names words code codes find key shifts
-returns-51 c = arm-is (codes words) 179 650170868 (c .before .args .key) (c .match .keys51) refl
+unfolding names words code codes key shifts
+returns-51 c = arm-is (λ (k : ℕ). match k (codes words) 0) 650170868 (179 ∷ []) (c .before .args .key) refl (c .match .keys51)
 
 returns-52 : tie.Need-returns-52
-unfolding names words code codes find key shifts
-returns-52 c = arm-is (codes words) 165 559297010 (c .before .args .key) (c .match .keys52) refl
+unfolding names words code codes key shifts
+returns-52 c = arm-is (λ (k : ℕ). match k (codes words) 0) 559297010 (165 ∷ []) (c .before .args .key) refl (c .match .keys52)
 
 returns-53 : tie.Need-returns-53
-unfolding names words code codes find key shifts
-returns-53 c = arm-is (codes words) 227 166563 (c .before .args .key) (c .match .keys53) refl
+unfolding names words code codes key shifts
+returns-53 c = arm-is (λ (k : ℕ). match k (codes words) 0) 166563 (227 ∷ []) (c .before .args .key) refl (c .match .keys53)
 
 returns-54 : tie.Need-returns-54
-unfolding names words code codes find key shifts
-returns-54 c = arm-is (codes words) 222 15181269 (c .before .args .key) (c .match .keys54) refl
+unfolding names words code codes key shifts
+returns-54 c = arm-is (λ (k : ℕ). match k (codes words) 0) 15181269 (222 ∷ []) (c .before .args .key) refl (c .match .keys54)
 
 returns-55 : tie.Need-returns-55
-unfolding names words code codes find key shifts
-returns-55 c = arm-is (codes words) 162 688033541 (c .before .args .key) (c .match .keys55) refl
+unfolding names words code codes key shifts
+returns-55 c = arm-is (λ (k : ℕ). match k (codes words) 0) 688033541 (162 ∷ []) (c .before .args .key) refl (c .match .keys55)
 
 returns-56 : tie.Need-returns-56
-unfolding names words code codes find key shifts
-returns-56 c = arm-is (codes words) 26 22099337073097 (c .before .args .key) (c .match .keys56) refl
+unfolding names words code codes key shifts
+returns-56 c = arm-is (λ (k : ℕ). match k (codes words) 0) 22099337073097 (26 ∷ []) (c .before .args .key) refl (c .match .keys56)
 
 returns-57 : tie.Need-returns-57
-unfolding names words code codes find key shifts
-returns-57 c = arm-is (codes words) 164 690146761 (c .before .args .key) (c .match .keys57) refl
+unfolding names words code codes key shifts
+returns-57 c = arm-is (λ (k : ℕ). match k (codes words) 0) 690146761 (164 ∷ []) (c .before .args .key) refl (c .match .keys57)
 
 returns-58 : tie.Need-returns-58
-unfolding names words code codes find key shifts
-returns-58 c = arm-is (codes words) 25 512457 (c .before .args .key) (c .match .keys58) refl
+unfolding names words code codes key shifts
+returns-58 c = arm-is (λ (k : ℕ). match k (codes words) 0) 512457 (25 ∷ []) (c .before .args .key) refl (c .match .keys58)
 
 returns-59 : tie.Need-returns-59
-unfolding names words code codes find key shifts
-returns-59 c = arm-is (codes words) 32 643477558 (c .before .args .key) (c .match .keys59) refl
+unfolding names words code codes key shifts
+returns-59 c = arm-is (λ (k : ℕ). match k (codes words) 0) 643477558 (32 ∷ []) (c .before .args .key) refl (c .match .keys59)
 
 returns-60 : tie.Need-returns-60
-unfolding names words code codes find key shifts
-returns-60 c = arm-is (codes words) 40 188919972 (c .before .args .key) (c .match .keys60) refl
+unfolding names words code codes key shifts
+returns-60 c = arm-is (λ (k : ℕ). match k (codes words) 0) 188919972 (40 ∷ []) (c .before .args .key) refl (c .match .keys60)
 
 returns-61 : tie.Need-returns-61
-unfolding names words code codes find key shifts
-returns-61 c = arm-is (codes words) 186 188781077 (c .before .args .key) (c .match .keys61) refl
+unfolding names words code codes key shifts
+returns-61 c = arm-is (λ (k : ℕ). match k (codes words) 0) 188781077 (186 ∷ []) (c .before .args .key) refl (c .match .keys61)
 
 returns-62 : tie.Need-returns-62
-unfolding names words code codes find key shifts
-returns-62 c = arm-is (codes words) 55 20659 (c .before .args .key) (c .match .keys62) refl
+unfolding names words code codes key shifts
+returns-62 c = arm-is (λ (k : ℕ). match k (codes words) 0) 20659 (55 ∷ []) (c .before .args .key) refl (c .match .keys62)
 
 returns-63 : tie.Need-returns-63
-unfolding names words code codes find key shifts
-returns-63 c = arm-is (codes words) 54 188782147 (c .before .args .key) (c .match .keys63) refl
+unfolding names words code codes key shifts
+returns-63 c = arm-is (λ (k : ℕ). match k (codes words) 0) 188782147 (54 ∷ []) (c .before .args .key) refl (c .match .keys63)
 
 returns-64 : tie.Need-returns-64
-unfolding names words code codes find key shifts
-returns-64 c = arm-is (codes words) 181 19059073 (c .before .args .key) (c .match .keys64) refl
+unfolding names words code codes key shifts
+returns-64 c = arm-is (λ (k : ℕ). match k (codes words) 0) 19059073 (181 ∷ []) (c .before .args .key) refl (c .match .keys64)
 
 returns-65 : tie.Need-returns-65
-unfolding names words code codes find key shifts
-returns-65 c = arm-is (codes words) 236 540228 (c .before .args .key) (c .match .keys65) refl
+unfolding names words code codes key shifts
+returns-65 c = arm-is (λ (k : ℕ). match k (codes words) 0) 540228 (236 ∷ []) (c .before .args .key) refl (c .match .keys65)
 
 returns-66 : tie.Need-returns-66
-unfolding names words code codes find key shifts
-returns-66 c = arm-is (codes words) 23 271634596 (c .before .args .key) (c .match .keys66) refl
+unfolding names words code codes key shifts
+returns-66 c = arm-is (λ (k : ℕ). match k (codes words) 0) 271634596 (23 ∷ []) (c .before .args .key) refl (c .match .keys66)
 
 returns-67 : tie.Need-returns-67
-unfolding names words code codes find key shifts
-returns-67 c = arm-is (codes words) 191 271635073 (c .before .args .key) (c .match .keys67) refl
+unfolding names words code codes key shifts
+returns-67 c = arm-is (λ (k : ℕ). match k (codes words) 0) 271635073 (191 ∷ []) (c .before .args .key) refl (c .match .keys67)
 
 returns-68 : tie.Need-returns-68
-unfolding names words code codes find key shifts
-returns-68 c = arm-is (codes words) 79 181450930 (c .before .args .key) (c .match .keys68) refl
+unfolding names words code codes key shifts
+returns-68 c = arm-is (λ (k : ℕ). match k (codes words) 0) 181450930 (79 ∷ []) (c .before .args .key) refl (c .match .keys68)
 
 returns-69 : tie.Need-returns-69
-unfolding names words code codes find key shifts
-returns-69 c = arm-is (codes words) 0 193310709332 (c .before .args .key) (c .match .keys69) refl
+unfolding names words code codes key shifts
+returns-69 c = arm-is (λ (k : ℕ). match k (codes words) 0) 193310709332 (0 ∷ []) (c .before .args .key) refl (c .match .keys69)
 
 returns-70 : tie.Need-returns-70
-unfolding names words code codes find key shifts
-returns-70 c = arm-is (codes words) 129 769299 (c .before .args .key) (c .match .keys70) refl
+unfolding names words code codes key shifts
+returns-70 c = arm-is (λ (k : ℕ). match k (codes words) 0) 769299 (129 ∷ []) (c .before .args .key) refl (c .match .keys70)
 
 returns-71 : tie.Need-returns-71
-unfolding names words code codes find key shifts
-returns-71 c = arm-is (codes words) 229 5749 (c .before .args .key) (c .match .keys71) refl
+unfolding names words code codes key shifts
+returns-71 c = arm-is (λ (k : ℕ). match k (codes words) 0) 5749 (229 ∷ []) (c .before .args .key) refl (c .match .keys71)
 
 returns-72 : tie.Need-returns-72
-unfolding names words code codes find key shifts
-returns-72 c = arm-is (codes words) 151 200031916559 (c .before .args .key) (c .match .keys72) refl
+unfolding names words code codes key shifts
+returns-72 c = arm-is (λ (k : ℕ). match k (codes words) 0) 200031916559 (151 ∷ []) (c .before .args .key) refl (c .match .keys72)
 
 returns-73 : tie.Need-returns-73
-unfolding names words code codes find key shifts
-returns-73 c = arm-is (codes words) 253 442126131 (c .before .args .key) (c .match .keys73) refl
+unfolding names words code codes key shifts
+returns-73 c = arm-is (λ (k : ℕ). match k (codes words) 0) 442126131 (253 ∷ []) (c .before .args .key) refl (c .match .keys73)
 
 returns-74 : tie.Need-returns-74
-unfolding names words code codes find key shifts
-returns-74 c = arm-is (codes words) 59 179785961221 (c .before .args .key) (c .match .keys74) refl
+unfolding names words code codes key shifts
+returns-74 c = arm-is (λ (k : ℕ). match k (codes words) 0) 179785961221 (59 ∷ []) (c .before .args .key) refl (c .match .keys74)
 
 returns-75 : tie.Need-returns-75
-unfolding names words code codes find key shifts
-returns-75 c = arm-is (codes words) 22 553193941 (c .before .args .key) (c .match .keys75) refl
+unfolding names words code codes key shifts
+returns-75 c = arm-is (λ (k : ℕ). match k (codes words) 0) 553193941 (22 ∷ []) (c .before .args .key) refl (c .match .keys75)
 
 returns-76 : tie.Need-returns-76
-unfolding names words code codes find key shifts
-returns-76 c = arm-is (codes words) 19 5638196 (c .before .args .key) (c .match .keys76) refl
+unfolding names words code codes key shifts
+returns-76 c = arm-is (λ (k : ℕ). match k (codes words) 0) 5638196 (19 ∷ []) (c .before .args .key) refl (c .match .keys76)
 
 returns-77 : tie.Need-returns-77
-unfolding names words code codes find key shifts
-returns-77 c = arm-is (codes words) 193 759094 (c .before .args .key) (c .match .keys77) refl
+unfolding names words code codes key shifts
+returns-77 c = arm-is (λ (k : ℕ). match k (codes words) 0) 759094 (193 ∷ []) (c .before .args .key) refl (c .match .keys77)
 
 returns-78 : tie.Need-returns-78
-unfolding names words code codes find key shifts
-returns-78 c = arm-is (codes words) 24 192235491364 (c .before .args .key) (c .match .keys78) refl
+unfolding names words code codes key shifts
+returns-78 c = arm-is (λ (k : ℕ). match k (codes words) 0) 192235491364 (24 ∷ []) (c .before .args .key) refl (c .match .keys78)
 
 returns-79 : tie.Need-returns-79
-unfolding names words code codes find key shifts
-returns-79 c = arm-is (codes words) 243 899450417057060 (c .before .args .key) (c .match .keys79) refl
+unfolding names words code codes key shifts
+returns-79 c = arm-is (λ (k : ℕ). match k (codes words) 0) 899450417057060 (243 ∷ []) (c .before .args .key) refl (c .match .keys79)
 
 returns-80 : tie.Need-returns-80
-unfolding names words code codes find key shifts
-returns-80 c = arm-is (codes words) 27 497465539238 (c .before .args .key) (c .match .keys80) refl
+unfolding names words code codes key shifts
+returns-80 c = arm-is (λ (k : ℕ). match k (codes words) 0) 497465539238 (27 ∷ []) (c .before .args .key) refl (c .match .keys80)
 
 returns-81 : tie.Need-returns-81
-unfolding names words code codes find key shifts
-returns-81 c = arm-is (codes words) 11 150669790600679469 (c .before .args .key) (c .match .keys81) refl
+unfolding names words code codes key shifts
+returns-81 c = arm-is (λ (k : ℕ). match k (codes words) 0) 150669790600679469 (11 ∷ []) (c .before .args .key) refl (c .match .keys81)
 
 returns-82 : tie.Need-returns-82
-unfolding names words code codes find key shifts
-returns-82 c = arm-is (codes words) 113 28107959973044 (c .before .args .key) (c .match .keys82) refl
+unfolding names words code codes key shifts
+returns-82 c = arm-is (λ (k : ℕ). match k (codes words) 0) 28107959973044 (113 ∷ []) (c .before .args .key) refl (c .match .keys82)
 
 returns-83 : tie.Need-returns-83
-unfolding names words code codes find key shifts
-returns-83 c = arm-is (codes words) 130 201 (c .before .args .key) (c .match .keys83) refl
+unfolding names words code codes key shifts
+returns-83 c = arm-is (λ (k : ℕ). match k (codes words) 0) 201 (130 ∷ []) (c .before .args .key) refl (c .match .keys83)
 
 returns-84 : tie.Need-returns-84
-unfolding names words code codes find key shifts
-returns-84 c = arm-is (codes words) 237 5470830770 (c .before .args .key) (c .match .keys84) refl
+unfolding names words code codes key shifts
+returns-84 c = arm-is (λ (k : ℕ). match k (codes words) 0) 5470830770 (237 ∷ []) (c .before .args .key) refl (c .match .keys84)
 
 returns-85 : tie.Need-returns-85
-unfolding names words code codes find key shifts
-returns-85 c = arm-is (codes words) 133 186668 (c .before .args .key) (c .match .keys85) refl
+unfolding names words code codes key shifts
+returns-85 c = arm-is (λ (k : ℕ). match k (codes words) 0) 186668 (133 ∷ []) (c .before .args .key) refl (c .match .keys85)
 
 returns-86 : tie.Need-returns-86
-unfolding names words code codes find key shifts
-returns-86 c = arm-is (codes words) 39 21899548836 (c .before .args .key) (c .match .keys86) refl
+unfolding names words code codes key shifts
+returns-86 c = arm-is (λ (k : ℕ). match k (codes words) 0) 21899548836 (39 ∷ []) (c .before .args .key) refl (c .match .keys86)
 
 returns-87 : tie.Need-returns-87
-unfolding names words code codes find key shifts
-returns-87 c = arm-is (codes words) 67 3314147 (c .before .args .key) (c .match .keys87) refl
+unfolding names words code codes key shifts
+returns-87 c = arm-is (λ (k : ℕ). match k (codes words) 0) 3314147 (67 ∷ []) (c .before .args .key) refl (c .match .keys87)
 
 returns-88 : tie.Need-returns-88
-unfolding names words code codes find key shifts
-returns-88 c = arm-is (codes words) 156 12948 (c .before .args .key) (c .match .keys88) refl
+unfolding names words code codes key shifts
+returns-88 c = arm-is (λ (k : ℕ). match k (codes words) 0) 12948 (156 ∷ []) (c .before .args .key) refl (c .match .keys88)
 
 returns-89 : tie.Need-returns-89
-unfolding names words code codes find key shifts
-returns-89 c = arm-is (codes words) 115 21950281187 (c .before .args .key) (c .match .keys89) refl
+unfolding names words code codes key shifts
+returns-89 c = arm-is (λ (k : ℕ). match k (codes words) 0) 21950281187 (115 ∷ []) (c .before .args .key) refl (c .match .keys89)
 
 returns-90 : tie.Need-returns-90
-unfolding names words code codes find key shifts
-returns-90 c = arm-is (codes words) 251 27449009744 (c .before .args .key) (c .match .keys90) refl
+unfolding names words code codes key shifts
+returns-90 c = arm-is (λ (k : ℕ). match k (codes words) 0) 27449009744 (251 ∷ []) (c .before .args .key) refl (c .match .keys90)
 
 returns-91 : tie.Need-returns-91
-unfolding names words code codes find key shifts
-returns-91 c = arm-is (codes words) 74 25771 (c .before .args .key) (c .match .keys91) refl
+unfolding names words code codes key shifts
+returns-91 c = arm-is (λ (k : ℕ). match k (codes words) 0) 25771 (74 ∷ []) (c .before .args .key) refl (c .match .keys91)
 
 returns-92 : tie.Need-returns-92
-unfolding names words code codes find key shifts
-returns-92 c = arm-is (codes words) 127 19965313 (c .before .args .key) (c .match .keys92) refl
+unfolding names words code codes key shifts
+returns-92 c = arm-is (λ (k : ℕ). match k (codes words) 0) 19965313 (127 ∷ []) (c .before .args .key) refl (c .match .keys92)
 
 returns-93 : tie.Need-returns-93
-unfolding names words code codes find key shifts
-returns-93 c = arm-is (codes words) 244 13248008200709 (c .before .args .key) (c .match .keys93) refl
+unfolding names words code codes key shifts
+returns-93 c = arm-is (λ (k : ℕ). match k (codes words) 0) 13248008200709 (244 ∷ []) (c .before .args .key) refl (c .match .keys93)
 
 returns-94 : tie.Need-returns-94
-unfolding names words code codes find key shifts
-returns-94 c = arm-is (codes words) 224 191302964816 (c .before .args .key) (c .match .keys94) refl
+unfolding names words code codes key shifts
+returns-94 c = arm-is (λ (k : ℕ). match k (codes words) 0) 191302964816 (224 ∷ []) (c .before .args .key) refl (c .match .keys94)
 
 returns-95 : tie.Need-returns-95
-unfolding names words code codes find key shifts
-returns-95 c = arm-is (codes words) 77 660831097011 (c .before .args .key) (c .match .keys95) refl
+unfolding names words code codes key shifts
+returns-95 c = arm-is (λ (k : ℕ). match k (codes words) 0) 660831097011 (77 ∷ []) (c .before .args .key) refl (c .match .keys95)
 
 returns-96 : tie.Need-returns-96
-unfolding names words code codes find key shifts
-returns-96 c = arm-is (codes words) 208 672582118 (c .before .args .key) (c .match .keys96) refl
+unfolding names words code codes key shifts
+returns-96 c = arm-is (λ (k : ℕ). match k (codes words) 0) 672582118 (208 ∷ []) (c .before .args .key) refl (c .match .keys96)
 
 returns-97 : tie.Need-returns-97
-unfolding names words code codes find key shifts
-returns-97 c = arm-is (codes words) 177 180892723 (c .before .args .key) (c .match .keys97) refl
+unfolding names words code codes key shifts
+returns-97 c = arm-is (λ (k : ℕ). match k (codes words) 0) 180892723 (177 ∷ []) (c .before .args .key) refl (c .match .keys97)
 
 returns-98 : tie.Need-returns-98
-unfolding names words code codes find key shifts
-returns-98 c = arm-is (codes words) 207 406190 (c .before .args .key) (c .match .keys98) refl
+unfolding names words code codes key shifts
+returns-98 c = arm-is (λ (k : ℕ). match k (codes words) 0) 406190 (207 ∷ []) (c .before .args .key) refl (c .match .keys98)
 
 returns-99 : tie.Need-returns-99
-unfolding names words code codes find key shifts
-returns-99 c = arm-is (codes words) 153 185940 (c .before .args .key) (c .match .keys99) refl
+unfolding names words code codes key shifts
+returns-99 c = arm-is (λ (k : ℕ). match k (codes words) 0) 185940 (153 ∷ []) (c .before .args .key) refl (c .match .keys99)
 
 returns-100 : tie.Need-returns-100
-unfolding names words code codes find key shifts
-returns-100 c = arm-is (codes words) 70 5877798 (c .before .args .key) (c .match .keys100) refl
+unfolding names words code codes key shifts
+returns-100 c = arm-is (λ (k : ℕ). match k (codes words) 0) 5877798 (70 ∷ []) (c .before .args .key) refl (c .match .keys100)
 
 returns-101 : tie.Need-returns-101
-unfolding names words code codes find key shifts
-returns-101 c = arm-is (codes words) 9 414147858889 (c .before .args .key) (c .match .keys101) refl
+unfolding names words code codes key shifts
+returns-101 c = arm-is (λ (k : ℕ). match k (codes words) 0) 414147858889 (9 ∷ []) (c .before .args .key) refl (c .match .keys101)
 
 returns-102 : tie.Need-returns-102
-unfolding names words code codes find key shifts
-returns-102 c = arm-is (codes words) 147 182754757 (c .before .args .key) (c .match .keys102) refl
+unfolding names words code codes key shifts
+returns-102 c = arm-is (λ (k : ℕ). match k (codes words) 0) 182754757 (147 ∷ []) (c .before .args .key) refl (c .match .keys102)
 
 returns-103 : tie.Need-returns-103
-unfolding names words code codes find key shifts
-returns-103 c = arm-is (codes words) 5 15918903740464 (c .before .args .key) (c .match .keys103) refl
+unfolding names words code codes key shifts
+returns-103 c = arm-is (λ (k : ℕ). match k (codes words) 0) 15918903740464 (5 ∷ []) (c .before .args .key) refl (c .match .keys103)
 
 returns-104 : tie.Need-returns-104
-unfolding names words code codes find key shifts
-returns-104 c = arm-is (codes words) 137 19516740995 (c .before .args .key) (c .match .keys104) refl
+unfolding names words code codes key shifts
+returns-104 c = arm-is (λ (k : ℕ). match k (codes words) 0) 19516740995 (137 ∷ []) (c .before .args .key) refl (c .match .keys104)
 
 returns-105 : tie.Need-returns-105
-unfolding names words code codes find key shifts
-returns-105 c = arm-is (codes words) 120 500 (c .before .args .key) (c .match .keys105) refl
+unfolding names words code codes key shifts
+returns-105 c = arm-is (λ (k : ℕ). match k (codes words) 0) 500 (120 ∷ []) (c .before .args .key) refl (c .match .keys105)
 
 returns-106 : tie.Need-returns-106
-unfolding names words code codes find key shifts
-returns-106 c = arm-is (codes words) 238 193320370672 (c .before .args .key) (c .match .keys106) refl
+unfolding names words code codes key shifts
+returns-106 c = arm-is (λ (k : ℕ). match k (codes words) 0) 193320370672 (238 ∷ []) (c .before .args .key) refl (c .match .keys106)
 
 returns-107 : tie.Need-returns-107
-unfolding names words code codes find key shifts
-returns-107 c = arm-is (codes words) 13 26886565 (c .before .args .key) (c .match .keys107) refl
+unfolding names words code codes key shifts
+returns-107 c = arm-is (λ (k : ℕ). match k (codes words) 0) 26886565 (13 ∷ []) (c .before .args .key) refl (c .match .keys107)
 
 returns-108 : tie.Need-returns-108
-unfolding names words code codes find key shifts
-returns-108 c = arm-is (codes words) 203 28592187244988592 (c .before .args .key) (c .match .keys108) refl
+unfolding names words code codes key shifts
+returns-108 c = arm-is (λ (k : ℕ). match k (codes words) 0) 28592187244988592 (203 ∷ []) (c .before .args .key) refl (c .match .keys108)
 
 returns-109 : tie.Need-returns-109
-unfolding names words code codes find key shifts
-returns-109 c = arm-is (codes words) 169 19058881 (c .before .args .key) (c .match .keys109) refl
+unfolding names words code codes key shifts
+returns-109 c = arm-is (λ (k : ℕ). match k (codes words) 0) 19058881 (169 ∷ []) (c .before .args .key) refl (c .match .keys109)
 
 returns-110 : tie.Need-returns-110
-unfolding names words code codes find key shifts
-returns-110 c = arm-is (codes words) 157 484094435 (c .before .args .key) (c .match .keys110) refl
+unfolding names words code codes key shifts
+returns-110 c = arm-is (λ (k : ℕ). match k (codes words) 0) 484094435 (157 ∷ []) (c .before .args .key) refl (c .match .keys110)
 
 returns-111 : tie.Need-returns-111
-unfolding names words code codes find key shifts
-returns-111 c = arm-is (codes words) 141 25334217 (c .before .args .key) (c .match .keys111) refl
+unfolding names words code codes key shifts
+returns-111 c = arm-is (λ (k : ℕ). match k (codes words) 0) 25334217 (141 ∷ []) (c .before .args .key) refl (c .match .keys111)
 
 returns-112 : tie.Need-returns-112
-unfolding names words code codes find key shifts
-returns-112 c = arm-is (codes words) 68 509404702391888 (c .before .args .key) (c .match .keys112) refl
+unfolding names words code codes key shifts
+returns-112 c = arm-is (λ (k : ℕ). match k (codes words) 0) 509404702391888 (68 ∷ []) (c .before .args .key) refl (c .match .keys112)
 
 returns-113 : tie.Need-returns-113
-unfolding names words code codes find key shifts
-returns-113 c = arm-is (codes words) 230 719391541541347 (c .before .args .key) (c .match .keys113) refl
+unfolding names words code codes key shifts
+returns-113 c = arm-is (λ (k : ℕ). match k (codes words) 0) 719391541541347 (230 ∷ []) (c .before .args .key) refl (c .match .keys113)
 
 returns-114 : tie.Need-returns-114
-unfolding names words code codes find key shifts
-returns-114 c = arm-is (codes words) 91 4225 (c .before .args .key) (c .match .keys114) refl
+unfolding names words code codes key shifts
+returns-114 c = arm-is (λ (k : ℕ). match k (codes words) 0) 4225 (91 ∷ []) (c .before .args .key) refl (c .match .keys114)
 
 returns-115 : tie.Need-returns-115
-unfolding names words code codes find key shifts
-returns-115 c = arm-is (codes words) 101 845451757 (c .before .args .key) (c .match .keys115) refl
+unfolding names words code codes key shifts
+returns-115 c = arm-is (λ (k : ℕ). match k (codes words) 0) 845451757 (101 ∷ []) (c .before .args .key) refl (c .match .keys115)
 
 returns-116 : tie.Need-returns-116
-unfolding names words code codes find key shifts
-returns-116 c = arm-is (codes words) 81 18912643 (c .before .args .key) (c .match .keys116) refl
+unfolding names words code codes key shifts
+returns-116 c = arm-is (λ (k : ℕ). match k (codes words) 0) 18912643 (81 ∷ []) (c .before .args .key) refl (c .match .keys116)
 
 returns-117 : tie.Need-returns-117
-unfolding names words code codes find key shifts
-returns-117 c = arm-is (codes words) 214 186861 (c .before .args .key) (c .match .keys117) refl
+unfolding names words code codes key shifts
+returns-117 c = arm-is (λ (k : ℕ). match k (codes words) 0) 186861 (214 ∷ []) (c .before .args .key) refl (c .match .keys117)
 
 returns-118 : tie.Need-returns-118
-unfolding names words code codes find key shifts
-returns-118 c = arm-is (codes words) 124 28861700691658311 (c .before .args .key) (c .match .keys118) refl
+unfolding names words code codes key shifts
+returns-118 c = arm-is (λ (k : ℕ). match k (codes words) 0) 28861700691658311 (124 ∷ []) (c .before .args .key) refl (c .match .keys118)
 
 returns-119 : tie.Need-returns-119
-unfolding names words code codes find key shifts
-returns-119 c = arm-is (codes words) 142 181044 (c .before .args .key) (c .match .keys119) refl
+unfolding names words code codes key shifts
+returns-119 c = arm-is (λ (k : ℕ). match k (codes words) 0) 181044 (142 ∷ []) (c .before .args .key) refl (c .match .keys119)
 
 returns-120 : tie.Need-returns-120
-unfolding names words code codes find key shifts
-returns-120 c = arm-is (codes words) 218 6334399650631844 (c .before .args .key) (c .match .keys120) refl
+unfolding names words code codes key shifts
+returns-120 c = arm-is (λ (k : ℕ). match k (codes words) 0) 6334399650631844 (218 ∷ []) (c .before .args .key) refl (c .match .keys120)
 
 returns-121 : tie.Need-returns-121
-unfolding names words code codes find key shifts
-returns-121 c = arm-is (codes words) 213 15335834373 (c .before .args .key) (c .match .keys121) refl
+unfolding names words code codes key shifts
+returns-121 c = arm-is (λ (k : ℕ). match k (codes words) 0) 15335834373 (213 ∷ []) (c .before .args .key) refl (c .match .keys121)
 
 returns-122 : tie.Need-returns-122
-unfolding names words code codes find key shifts
-returns-122 c = arm-is (codes words) 112 174267157668 (c .before .args .key) (c .match .keys122) refl
+unfolding names words code codes key shifts
+returns-122 c = arm-is (λ (k : ℕ). match k (codes words) 0) 174267157668 (112 ∷ []) (c .before .args .key) refl (c .match .keys122)
 
 returns-123 : tie.Need-returns-123
-unfolding names words code codes find key shifts
-returns-123 c = arm-is (codes words) 212 21089 (c .before .args .key) (c .match .keys123) refl
+unfolding names words code codes key shifts
+returns-123 c = arm-is (λ (k : ℕ). match k (codes words) 0) 21089 (212 ∷ []) (c .before .args .key) refl (c .match .keys123)
 
 returns-124 : tie.Need-returns-124
-unfolding names words code codes find key shifts
-returns-124 c = arm-is (codes words) 47 460176 (c .before .args .key) (c .match .keys124) refl
+unfolding names words code codes key shifts
+returns-124 c = arm-is (λ (k : ℕ). match k (codes words) 0) 460176 (47 ∷ []) (c .before .args .key) refl (c .match .keys124)
 
 returns-125 : tie.Need-returns-125
-unfolding names words code codes find key shifts
-returns-125 c = arm-is (codes words) 226 187145830704 (c .before .args .key) (c .match .keys125) refl
+unfolding names words code codes key shifts
+returns-125 c = arm-is (λ (k : ℕ). match k (codes words) 0) 187145830704 (226 ∷ []) (c .before .args .key) refl (c .match .keys125)
 
 returns-126 : tie.Need-returns-126
-unfolding names words code codes find key shifts
-returns-126 c = arm-is (codes words) 109 193321030245 (c .before .args .key) (c .match .keys126) refl
+unfolding names words code codes key shifts
+returns-126 c = arm-is (λ (k : ℕ). match k (codes words) 0) 193321030245 (109 ∷ []) (c .before .args .key) refl (c .match .keys126)
 
 returns-127 : tie.Need-returns-127
-unfolding names words code codes find key shifts
-returns-127 c = arm-is (codes words) 206 643172404 (c .before .args .key) (c .match .keys127) refl
+unfolding names words code codes key shifts
+returns-127 c = arm-is (λ (k : ℕ). match k (codes words) 0) 643172404 (206 ∷ []) (c .before .args .key) refl (c .match .keys127)
 
 returns-128 : tie.Need-returns-128
-unfolding names words code codes find key shifts
-returns-128 c = arm-is (codes words) 33 21082956419108 (c .before .args .key) (c .match .keys128) refl
+unfolding names words code codes key shifts
+returns-128 c = arm-is (λ (k : ℕ). match k (codes words) 0) 21082956419108 (33 ∷ []) (c .before .args .key) refl (c .match .keys128)
 
 returns-129 : tie.Need-returns-129
-unfolding names words code codes find key shifts
-returns-129 c = arm-is (codes words) 154 20885189091 (c .before .args .key) (c .match .keys129) refl
+unfolding names words code codes key shifts
+returns-129 c = arm-is (λ (k : ℕ). match k (codes words) 0) 20885189091 (154 ∷ []) (c .before .args .key) refl (c .match .keys129)
 
 returns-130 : tie.Need-returns-130
-unfolding names words code codes find key shifts
-returns-130 c = arm-is (codes words) 51 690513143358164260 (c .before .args .key) (c .match .keys130) refl
+unfolding names words code codes key shifts
+returns-130 c = arm-is (λ (k : ℕ). match k (codes words) 0) 690513143358164260 (51 ∷ []) (c .before .args .key) refl (c .match .keys130)
 
 returns-131 : tie.Need-returns-131
-unfolding names words code codes find key shifts
-returns-131 c = arm-is (codes words) 220 21388186466982 (c .before .args .key) (c .match .keys131) refl
+unfolding names words code codes key shifts
+returns-131 c = arm-is (λ (k : ℕ). match k (codes words) 0) 21388186466982 (220 ∷ []) (c .before .args .key) refl (c .match .keys131)
 
 returns-132 : tie.Need-returns-132
-unfolding names words code codes find key shifts
-returns-132 c = arm-is (codes words) 249 23196830172036688 (c .before .args .key) (c .match .keys132) refl
+unfolding names words code codes key shifts
+returns-132 c = arm-is (λ (k : ℕ). match k (codes words) 0) 23196830172036688 (249 ∷ []) (c .before .args .key) refl (c .match .keys132)
 
 returns-133 : tie.Need-returns-133
-unfolding names words code codes find key shifts
-returns-133 c = arm-is (codes words) 118 674246927525456 (c .before .args .key) (c .match .keys133) refl
+unfolding names words code codes key shifts
+returns-133 c = arm-is (λ (k : ℕ). match k (codes words) 0) 674246927525456 (118 ∷ []) (c .before .args .key) refl (c .match .keys133)
 
 returns-134 : tie.Need-returns-134
-unfolding names words code codes find key shifts
-returns-134 c = arm-is (codes words) 125 658966087 (c .before .args .key) (c .match .keys134) refl
+unfolding names words code codes key shifts
+returns-134 c = arm-is (λ (k : ℕ). match k (codes words) 0) 658966087 (125 ∷ []) (c .before .args .key) refl (c .match .keys134)
 
 returns-135 : tie.Need-returns-135
-unfolding names words code codes find key shifts
-returns-135 c = arm-is (codes words) 148 135770290 (c .before .args .key) (c .match .keys135) refl
+unfolding names words code codes key shifts
+returns-135 c = arm-is (λ (k : ℕ). match k (codes words) 0) 135770290 (148 ∷ []) (c .before .args .key) refl (c .match .keys135)
 
 returns-136 : tie.Need-returns-136
-unfolding names words code codes find key shifts
-returns-136 c = arm-is (codes words) 140 9033094 (c .before .args .key) (c .match .keys136) refl
+unfolding names words code codes key shifts
+returns-136 c = arm-is (λ (k : ℕ). match k (codes words) 0) 9033094 (140 ∷ []) (c .before .args .key) refl (c .match .keys136)
 
 returns-137 : tie.Need-returns-137
-unfolding names words code codes find key shifts
-returns-137 c = arm-is (codes words) 146 540307 (c .before .args .key) (c .match .keys137) refl
+unfolding names words code codes key shifts
+returns-137 c = arm-is (λ (k : ℕ). match k (codes words) 0) 540307 (146 ∷ []) (c .before .args .key) refl (c .match .keys137)
 
 returns-138 : tie.Need-returns-138
-unfolding names words code codes find key shifts
-returns-138 c = arm-is (codes words) 197 21563027 (c .before .args .key) (c .match .keys138) refl
+unfolding names words code codes key shifts
+returns-138 c = arm-is (λ (k : ℕ). match k (codes words) 0) 21563027 (197 ∷ []) (c .before .args .key) refl (c .match .keys138)
 
 returns-139 : tie.Need-returns-139
-unfolding names words code codes find key shifts
-returns-139 c = arm-is (codes words) 65 643025069 (c .before .args .key) (c .match .keys139) refl
+unfolding names words code codes key shifts
+returns-139 c = arm-is (λ (k : ℕ). match k (codes words) 0) 643025069 (65 ∷ []) (c .before .args .key) refl (c .match .keys139)
 
 returns-140 : tie.Need-returns-140
-unfolding names words code codes find key shifts
-returns-140 c = arm-is (codes words) 233 1184252082 (c .before .args .key) (c .match .keys140) refl
+unfolding names words code codes key shifts
+returns-140 c = arm-is (λ (k : ℕ). match k (codes words) 0) 1184252082 (233 ∷ []) (c .before .args .key) refl (c .match .keys140)
 
 returns-141 : tie.Need-returns-141
-unfolding names words code codes find key shifts
-returns-141 c = arm-is (codes words) 80 654019281074 (c .before .args .key) (c .match .keys141) refl
+unfolding names words code codes key shifts
+returns-141 c = arm-is (λ (k : ℕ). match k (codes words) 0) 654019281074 (80 ∷ []) (c .before .args .key) refl (c .match .keys141)
 
 returns-142 : tie.Need-returns-142
-unfolding names words code codes find key shifts
-returns-142 c = arm-is (codes words) 210 4702235743898916 (c .before .args .key) (c .match .keys142) refl
+unfolding names words code codes key shifts
+returns-142 c = arm-is (λ (k : ℕ). match k (codes words) 0) 4702235743898916 (210 ∷ []) (c .before .args .key) refl (c .match .keys142)
 
 returns-143 : tie.Need-returns-143
-unfolding names words code codes find key shifts
-returns-143 c = arm-is (codes words) 86 7995537587 (c .before .args .key) (c .match .keys143) refl
+unfolding names words code codes key shifts
+returns-143 c = arm-is (λ (k : ℕ). match k (codes words) 0) 7995537587 (86 ∷ []) (c .before .args .key) refl (c .match .keys143)
 
 returns-144 : tie.Need-returns-144
-unfolding names words code codes find key shifts
-returns-144 c = arm-is (codes words) 122 20577374374 (c .before .args .key) (c .match .keys144) refl
+unfolding names words code codes key shifts
+returns-144 c = arm-is (λ (k : ℕ). match k (codes words) 0) 20577374374 (122 ∷ []) (c .before .args .key) refl (c .match .keys144)
 
 returns-145 : tie.Need-returns-145
-unfolding names words code codes find key shifts
-returns-145 c = arm-is (codes words) 250 20109805 (c .before .args .key) (c .match .keys145) refl
+unfolding names words code codes key shifts
+returns-145 c = arm-is (λ (k : ℕ). match k (codes words) 0) 20109805 (250 ∷ []) (c .before .args .key) refl (c .match .keys145)
 
 returns-146 : tie.Need-returns-146
-unfolding names words code codes find key shifts
-returns-146 c = arm-is (codes words) 84 630252 (c .before .args .key) (c .match .keys146) refl
+unfolding names words code codes key shifts
+returns-146 c = arm-is (λ (k : ℕ). match k (codes words) 0) 630252 (84 ∷ []) (c .before .args .key) refl (c .match .keys146)
 
 returns-147 : tie.Need-returns-147
-unfolding names words code codes find key shifts
-returns-147 c = arm-is (codes words) 36 5508131 (c .before .args .key) (c .match .keys147) refl
+unfolding names words code codes key shifts
+returns-147 c = arm-is (λ (k : ℕ). match k (codes words) 0) 5508131 (36 ∷ []) (c .before .args .key) refl (c .match .keys147)
 
 returns-148 : tie.Need-returns-148
-unfolding names words code codes find key shifts
-returns-148 c = arm-is (codes words) 241 19908 (c .before .args .key) (c .match .keys148) refl
+unfolding names words code codes key shifts
+returns-148 c = arm-is (λ (k : ℕ). match k (codes words) 0) 19908 (241 ∷ []) (c .before .args .key) refl (c .match .keys148)
 
 returns-149 : tie.Need-returns-149
-unfolding names words code codes find key shifts
-returns-149 c = arm-is (codes words) 172 378925 (c .before .args .key) (c .match .keys149) refl
+unfolding names words code codes key shifts
+returns-149 c = arm-is (λ (k : ℕ). match k (codes words) 0) 378925 (172 ∷ []) (c .before .args .key) refl (c .match .keys149)
 
 returns-150 : tie.Need-returns-150
-unfolding names words code codes find key shifts
-returns-150 c = arm-is (codes words) 167 150434273077726677 (c .before .args .key) (c .match .keys150) refl
+unfolding names words code codes key shifts
+returns-150 c = arm-is (λ (k : ℕ). match k (codes words) 0) 150434273077726677 (167 ∷ []) (c .before .args .key) refl (c .match .keys150)
 
 returns-151 : tie.Need-returns-151
-unfolding names words code codes find key shifts
-returns-151 c = arm-is (codes words) 94 143220291043 (c .before .args .key) (c .match .keys151) refl
+unfolding names words code codes key shifts
+returns-151 c = arm-is (λ (k : ℕ). match k (codes words) 0) 143220291043 (94 ∷ []) (c .before .args .key) refl (c .match .keys151)
 
 returns-152 : tie.Need-returns-152
-unfolding names words code codes find key shifts
-returns-152 c = arm-is (codes words) 75 650285549 (c .before .args .key) (c .match .keys152) refl
+unfolding names words code codes key shifts
+returns-152 c = arm-is (λ (k : ℕ). match k (codes words) 0) 650285549 (75 ∷ []) (c .before .args .key) refl (c .match .keys152)
 
 returns-153 : tie.Need-returns-153
-unfolding names words code codes find key shifts
-returns-153 c = arm-is (codes words) 189 20303140 (c .before .args .key) (c .match .keys153) refl
+unfolding names words code codes key shifts
+returns-153 c = arm-is (λ (k : ℕ). match k (codes words) 0) 20303140 (189 ∷ []) (c .before .args .key) refl (c .match .keys153)
 
 returns-154 : tie.Need-returns-154
-unfolding names words code codes find key shifts
-returns-154 c = arm-is (codes words) 69 21431879 (c .before .args .key) (c .match .keys154) refl
+unfolding names words code codes key shifts
+returns-154 c = arm-is (λ (k : ℕ). match k (codes words) 0) 21431879 (69 ∷ []) (c .before .args .key) refl (c .match .keys154)
 
 returns-155 : tie.Need-returns-155
-unfolding names words code codes find key shifts
-returns-155 c = arm-is (codes words) 149 179820722 (c .before .args .key) (c .match .keys155) refl
+unfolding names words code codes key shifts
+returns-155 c = arm-is (λ (k : ℕ). match k (codes words) 0) 179820722 (149 ∷ []) (c .before .args .key) refl (c .match .keys155)
 
 returns-156 : tie.Need-returns-156
-unfolding names words code codes find key shifts
-returns-156 c = arm-is (codes words) 82 595573 (c .before .args .key) (c .match .keys156) refl
+unfolding names words code codes key shifts
+returns-156 c = arm-is (λ (k : ℕ). match k (codes words) 0) 595573 (82 ∷ []) (c .before .args .key) refl (c .match .keys156)
 
 returns-157 : tie.Need-returns-157
-unfolding names words code codes find key shifts
-returns-157 c = arm-is (codes words) 173 176626 (c .before .args .key) (c .match .keys157) refl
+unfolding names words code codes key shifts
+returns-157 c = arm-is (λ (k : ℕ). match k (codes words) 0) 176626 (173 ∷ []) (c .before .args .key) refl (c .match .keys157)
 
 returns-158 : tie.Need-returns-158
-unfolding names words code codes find key shifts
-returns-158 c = arm-is (codes words) 119 1719985 (c .before .args .key) (c .match .keys158) refl
+unfolding names words code codes key shifts
+returns-158 c = arm-is (λ (k : ℕ). match k (codes words) 0) 1719985 (119 ∷ []) (c .before .args .key) refl (c .match .keys158)
 
 returns-159 : tie.Need-returns-159
-unfolding names words code codes find key shifts
-returns-159 c = arm-is (codes words) 102 842314224 (c .before .args .key) (c .match .keys159) refl
+unfolding names words code codes key shifts
+returns-159 c = arm-is (λ (k : ℕ). match k (codes words) 0) 842314224 (102 ∷ []) (c .before .args .key) refl (c .match .keys159)
 
 returns-160 : tie.Need-returns-160
-unfolding names words code codes find key shifts
-returns-160 c = arm-is (codes words) 196 5781012048 (c .before .args .key) (c .match .keys160) refl
+unfolding names words code codes key shifts
+returns-160 c = arm-is (λ (k : ℕ). match k (codes words) 0) 5781012048 (196 ∷ []) (c .before .args .key) refl (c .match .keys160)
 
 returns-161 : tie.Need-returns-161
-unfolding names words code codes find key shifts
-returns-161 c = arm-is (codes words) 221 24050 (c .before .args .key) (c .match .keys161) refl
+unfolding names words code codes key shifts
+returns-161 c = arm-is (λ (k : ℕ). match k (codes words) 0) 24050 (221 ∷ []) (c .before .args .key) refl (c .match .keys161)
 
 returns-162 : tie.Need-returns-162
-unfolding names words code codes find key shifts
-returns-162 c = arm-is (codes words) 198 178670 (c .before .args .key) (c .match .keys162) refl
+unfolding names words code codes key shifts
+returns-162 c = arm-is (λ (k : ℕ). match k (codes words) 0) 178670 (198 ∷ []) (c .before .args .key) refl (c .match .keys162)
 
 returns-163 : tie.Need-returns-163
-unfolding names words code codes find key shifts
-returns-163 c = arm-is (codes words) 98 405803 (c .before .args .key) (c .match .keys163) refl
+unfolding names words code codes key shifts
+returns-163 c = arm-is (λ (k : ℕ). match k (codes words) 0) 405803 (98 ∷ []) (c .before .args .key) refl (c .match .keys163)
 
 returns-164 : tie.Need-returns-164
-unfolding names words code codes find key shifts
-returns-164 c = arm-is (codes words) 93 26810033 (c .before .args .key) (c .match .keys164) refl
+unfolding names words code codes key shifts
+returns-164 c = arm-is (λ (k : ℕ). match k (codes words) 0) 26810033 (93 ∷ []) (c .before .args .key) refl (c .match .keys164)
 
 returns-165 : tie.Need-returns-165
-unfolding names words code codes find key shifts
-returns-165 c = arm-is (codes words) 44 497465479853 (c .before .args .key) (c .match .keys165) refl
+unfolding names words code codes key shifts
+returns-165 c = arm-is (λ (k : ℕ). match k (codes words) 0) 497465479853 (44 ∷ []) (c .before .args .key) refl (c .match .keys165)
 
 returns-166 : tie.Need-returns-166
-unfolding names words code codes find key shifts
-returns-166 c = arm-is (codes words) 138 113459 (c .before .args .key) (c .match .keys166) refl
+unfolding names words code codes key shifts
+returns-166 c = arm-is (λ (k : ℕ). match k (codes words) 0) 113459 (138 ∷ []) (c .before .args .key) refl (c .match .keys166)
 
 returns-167 : tie.Need-returns-167
-unfolding names words code codes find key shifts
-returns-167 c = arm-is (codes words) 205 3630689 (c .before .args .key) (c .match .keys167) refl
+unfolding names words code codes key shifts
+returns-167 c = arm-is (λ (k : ℕ). match k (codes words) 0) 3630689 (205 ∷ []) (c .before .args .key) refl (c .match .keys167)
 
 returns-168 : tie.Need-returns-168
-unfolding names words code codes find key shifts
-returns-168 c = arm-is (codes words) 132 674996 (c .before .args .key) (c .match .keys168) refl
+unfolding names words code codes key shifts
+returns-168 c = arm-is (λ (k : ℕ). match k (codes words) 0) 674996 (132 ∷ []) (c .before .args .key) refl (c .match .keys168)
 
 returns-169 : tie.Need-returns-169
-unfolding names words code codes find key shifts
-returns-169 c = arm-is (codes words) 66 11638019 (c .before .args .key) (c .match .keys169) refl
+unfolding names words code codes key shifts
+returns-169 c = arm-is (λ (k : ℕ). match k (codes words) 0) 11638019 (66 ∷ []) (c .before .args .key) refl (c .match .keys169)
 
 returns-170 : tie.Need-returns-170
-unfolding names words code codes find key shifts
-returns-170 c = arm-is (codes words) 180 14982306 (c .before .args .key) (c .match .keys170) refl
+unfolding names words code codes key shifts
+returns-170 c = arm-is (λ (k : ℕ). match k (codes words) 0) 14982306 (180 ∷ []) (c .before .args .key) refl (c .match .keys170)
 
 returns-171 : tie.Need-returns-171
-unfolding names words code codes find key shifts
-returns-171 c = arm-is (codes words) 123 680965603 (c .before .args .key) (c .match .keys171) refl
+unfolding names words code codes key shifts
+returns-171 c = arm-is (λ (k : ℕ). match k (codes words) 0) 680965603 (123 ∷ []) (c .before .args .key) refl (c .match .keys171)
 
 returns-172 : tie.Need-returns-172
-unfolding names words code codes find key shifts
-returns-172 c = arm-is (codes words) 57 381214405106 (c .before .args .key) (c .match .keys172) refl
+unfolding names words code codes key shifts
+returns-172 c = arm-is (λ (k : ℕ). match k (codes words) 0) 381214405106 (57 ∷ []) (c .before .args .key) refl (c .match .keys172)
 
 returns-173 : tie.Need-returns-173
-unfolding names words code codes find key shifts
-returns-173 c = arm-is (codes words) 56 16300950351709780 (c .before .args .key) (c .match .keys173) refl
+unfolding names words code codes key shifts
+returns-173 c = arm-is (λ (k : ℕ). match k (codes words) 0) 16300950351709780 (56 ∷ []) (c .before .args .key) refl (c .match .keys173)
 
 returns-174 : tie.Need-returns-174
-unfolding names words code codes find key shifts
-returns-174 c = arm-is (codes words) 76 559254562 (c .before .args .key) (c .match .keys174) refl
+unfolding names words code codes key shifts
+returns-174 c = arm-is (λ (k : ℕ). match k (codes words) 0) 559254562 (76 ∷ []) (c .before .args .key) refl (c .match .keys174)
 
 returns-175 : tie.Need-returns-175
-unfolding names words code codes find key shifts
-returns-175 c = arm-is (codes words) 21 5989092530 (c .before .args .key) (c .match .keys175) refl
+unfolding names words code codes key shifts
+returns-175 c = arm-is (λ (k : ℕ). match k (codes words) 0) 5989092530 (21 ∷ []) (c .before .args .key) refl (c .match .keys175)
 
 returns-176 : tie.Need-returns-176
-unfolding names words code codes find key shifts
-returns-176 c = arm-is (codes words) 61 12619244 (c .before .args .key) (c .match .keys176) refl
+unfolding names words code codes key shifts
+returns-176 c = arm-is (λ (k : ℕ). match k (codes words) 0) 12619244 (61 ∷ []) (c .before .args .key) refl (c .match .keys176)
 
 returns-177 : tie.Need-returns-177
-unfolding names words code codes find key shifts
-returns-177 c = arm-is (codes words) 159 195204678 (c .before .args .key) (c .match .keys177) refl
+unfolding names words code codes key shifts
+returns-177 c = arm-is (λ (k : ℕ). match k (codes words) 0) 195204678 (159 ∷ []) (c .before .args .key) refl (c .match .keys177)
 
 returns-178 : tie.Need-returns-178
-unfolding names words code codes find key shifts
-returns-178 c = arm-is (codes words) 95 199889590741 (c .before .args .key) (c .match .keys178) refl
+unfolding names words code codes key shifts
+returns-178 c = arm-is (λ (k : ℕ). match k (codes words) 0) 199889590741 (95 ∷ []) (c .before .args .key) refl (c .match .keys178)
 
 returns-179 : tie.Need-returns-179
-unfolding names words code codes find key shifts
-returns-179 c = arm-is (codes words) 121 8507558 (c .before .args .key) (c .match .keys179) refl
+unfolding names words code codes key shifts
+returns-179 c = arm-is (λ (k : ℕ). match k (codes words) 0) 8507558 (121 ∷ []) (c .before .args .key) refl (c .match .keys179)
 
 returns-180 : tie.Need-returns-180
-unfolding names words code codes find key shifts
-returns-180 c = arm-is (codes words) 176 26624513 (c .before .args .key) (c .match .keys180) refl
+unfolding names words code codes key shifts
+returns-180 c = arm-is (λ (k : ℕ). match k (codes words) 0) 26624513 (176 ∷ []) (c .before .args .key) refl (c .match .keys180)
 
 returns-181 : tie.Need-returns-181
-unfolding names words code codes find key shifts
-returns-181 c = arm-is (codes words) 43 4483887268 (c .before .args .key) (c .match .keys181) refl
+unfolding names words code codes key shifts
+returns-181 c = arm-is (λ (k : ℕ). match k (codes words) 0) 4483887268 (43 ∷ []) (c .before .args .key) refl (c .match .keys181)
 
 returns-182 : tie.Need-returns-182
-unfolding names words code codes find key shifts
-returns-182 c = arm-is (codes words) 215 171529715 (c .before .args .key) (c .match .keys182) refl
+unfolding names words code codes key shifts
+returns-182 c = arm-is (λ (k : ℕ). match k (codes words) 0) 171529715 (215 ∷ []) (c .before .args .key) refl (c .match .keys182)
 
 returns-183 : tie.Need-returns-183
-unfolding names words code codes find key shifts
-returns-183 c = arm-is (codes words) 104 693625900 (c .before .args .key) (c .match .keys183) refl
+unfolding names words code codes key shifts
+returns-183 c = arm-is (λ (k : ℕ). match k (codes words) 0) 693625900 (104 ∷ []) (c .before .args .key) refl (c .match .keys183)
 
 returns-184 : tie.Need-returns-184
-unfolding names words code codes find key shifts
-returns-184 c = arm-is (codes words) 248 186080467244 (c .before .args .key) (c .match .keys184) refl
+unfolding names words code codes key shifts
+returns-184 c = arm-is (λ (k : ℕ). match k (codes words) 0) 186080467244 (248 ∷ []) (c .before .args .key) refl (c .match .keys184)
 
 returns-185 : tie.Need-returns-185
-unfolding names words code codes find key shifts
-returns-185 c = arm-is (codes words) 204 5486642 (c .before .args .key) (c .match .keys185) refl
+unfolding names words code codes key shifts
+returns-185 c = arm-is (λ (k : ℕ). match k (codes words) 0) 5486642 (204 ∷ []) (c .before .args .key) refl (c .match .keys185)
 
 returns-186 : tie.Need-returns-186
-unfolding names words code codes find key shifts
-returns-186 c = arm-is (codes words) 50 139742248 (c .before .args .key) (c .match .keys186) refl
+unfolding names words code codes key shifts
+returns-186 c = arm-is (λ (k : ℕ). match k (codes words) 0) 139742248 (50 ∷ []) (c .before .args .key) refl (c .match .keys186)
 
 returns-187 : tie.Need-returns-187
-unfolding names words code codes find key shifts
-returns-187 c = arm-is (codes words) 170 656774 (c .before .args .key) (c .match .keys187) refl
+unfolding names words code codes key shifts
+returns-187 c = arm-is (λ (k : ℕ). match k (codes words) 0) 656774 (170 ∷ []) (c .before .args .key) refl (c .match .keys187)
 
 returns-188 : tie.Need-returns-188
-unfolding names words code codes find key shifts
-returns-188 c = arm-is (codes words) 134 25950696931 (c .before .args .key) (c .match .keys188) refl
+unfolding names words code codes key shifts
+returns-188 c = arm-is (λ (k : ℕ). match k (codes words) 0) 25950696931 (134 ∷ []) (c .before .args .key) refl (c .match .keys188)
 
 returns-189 : tie.Need-returns-189
-unfolding names words code codes find key shifts
-returns-189 c = arm-is (codes words) 63 674416932 (c .before .args .key) (c .match .keys189) refl
+unfolding names words code codes key shifts
+returns-189 c = arm-is (λ (k : ℕ). match k (codes words) 0) 674416932 (63 ∷ []) (c .before .args .key) refl (c .match .keys189)
 
 returns-190 : tie.Need-returns-190
-unfolding names words code codes find key shifts
-returns-190 c = arm-is (codes words) 192 6263810468297 (c .before .args .key) (c .match .keys190) refl
+unfolding names words code codes key shifts
+returns-190 c = arm-is (λ (k : ℕ). match k (codes words) 0) 6263810468297 (192 ∷ []) (c .before .args .key) refl (c .match .keys190)
 
 returns-191 : tie.Need-returns-191
-unfolding names words code codes find key shifts
-returns-191 c = arm-is (codes words) 48 433587191560082728 (c .before .args .key) (c .match .keys191) refl
+unfolding names words code codes key shifts
+returns-191 c = arm-is (λ (k : ℕ). match k (codes words) 0) 433587191560082728 (48 ∷ []) (c .before .args .key) refl (c .match .keys191)
 
 returns-192 : tie.Need-returns-192
-unfolding names words code codes find key shifts
-returns-192 c = arm-is (codes words) 110 787626295 (c .before .args .key) (c .match .keys192) refl
+unfolding names words code codes key shifts
+returns-192 c = arm-is (λ (k : ℕ). match k (codes words) 0) 787626295 (110 ∷ []) (c .before .args .key) refl (c .match .keys192)
 
 returns-193 : tie.Need-returns-193
-unfolding names words code codes find key shifts
-returns-193 c = arm-is (codes words) 87 595663 (c .before .args .key) (c .match .keys193) refl
+unfolding names words code codes key shifts
+returns-193 c = arm-is (λ (k : ℕ). match k (codes words) 0) 595663 (87 ∷ []) (c .before .args .key) refl (c .match .keys193)
 
 returns-194 : tie.Need-returns-194
-unfolding names words code codes find key shifts
-returns-194 c = arm-is (codes words) 242 646642 (c .before .args .key) (c .match .keys194) refl
+unfolding names words code codes key shifts
+returns-194 c = arm-is (λ (k : ℕ). match k (codes words) 0) 646642 (242 ∷ []) (c .before .args .key) refl (c .match .keys194)
 
 returns-195 : tie.Need-returns-195
-unfolding names words code codes find key shifts
-returns-195 c = arm-is (codes words) 160 655015495 (c .before .args .key) (c .match .keys195) refl
+unfolding names words code codes key shifts
+returns-195 c = arm-is (λ (k : ℕ). match k (codes words) 0) 655015495 (160 ∷ []) (c .before .args .key) refl (c .match .keys195)
 
 returns-196 : tie.Need-returns-196
-unfolding names words code codes find key shifts
-returns-196 c = arm-is (codes words) 168 4574632446421 (c .before .args .key) (c .match .keys196) refl
+unfolding names words code codes key shifts
+returns-196 c = arm-is (λ (k : ℕ). match k (codes words) 0) 4574632446421 (168 ∷ []) (c .before .args .key) refl (c .match .keys196)
 
 returns-197 : tie.Need-returns-197
-unfolding names words code codes find key shifts
-returns-197 c = arm-is (codes words) 12 8187420972624 (c .before .args .key) (c .match .keys197) refl
+unfolding names words code codes key shifts
+returns-197 c = arm-is (λ (k : ℕ). match k (codes words) 0) 8187420972624 (12 ∷ []) (c .before .args .key) refl (c .match .keys197)
 
 returns-198 : tie.Need-returns-198
-unfolding names words code codes find key shifts
-returns-198 c = arm-is (codes words) 171 8188069294566 (c .before .args .key) (c .match .keys198) refl
+unfolding names words code codes key shifts
+returns-198 c = arm-is (λ (k : ℕ). match k (codes words) 0) 8188069294566 (171 ∷ []) (c .before .args .key) refl (c .match .keys198)
 
 returns-199 : tie.Need-returns-199
-unfolding names words code codes find key shifts
-returns-199 c = arm-is (codes words) 152 21950450339 (c .before .args .key) (c .match .keys199) refl
+unfolding names words code codes key shifts
+returns-199 c = arm-is (λ (k : ℕ). match k (codes words) 0) 21950450339 (152 ∷ []) (c .before .args .key) refl (c .match .keys199)
 
 returns-200 : tie.Need-returns-200
-unfolding names words code codes find key shifts
-returns-200 c = arm-is (codes words) 209 22820 (c .before .args .key) (c .match .keys200) refl
+unfolding names words code codes key shifts
+returns-200 c = arm-is (λ (k : ℕ). match k (codes words) 0) 22820 (209 ∷ []) (c .before .args .key) refl (c .match .keys200)
 
 returns-201 : tie.Need-returns-201
-unfolding names words code codes find key shifts
-returns-201 c = arm-is (codes words) 247 4589 (c .before .args .key) (c .match .keys201) refl
+unfolding names words code codes key shifts
+returns-201 c = arm-is (λ (k : ℕ). match k (codes words) 0) 4589 (247 ∷ []) (c .before .args .key) refl (c .match .keys201)
 
 returns-202 : tie.Need-returns-202
-unfolding names words code codes find key shifts
-returns-202 c = arm-is (codes words) 8 807025459 (c .before .args .key) (c .match .keys202) refl
+unfolding names words code codes key shifts
+returns-202 c = arm-is (λ (k : ℕ). match k (codes words) 0) 807025459 (8 ∷ []) (c .before .args .key) refl (c .match .keys202)
 
 returns-203 : tie.Need-returns-203
-unfolding names words code codes find key shifts
-returns-203 c = arm-is (codes words) 73 169556 (c .before .args .key) (c .match .keys203) refl
+unfolding names words code codes key shifts
+returns-203 c = arm-is (λ (k : ℕ). match k (codes words) 0) 169556 (73 ∷ []) (c .before .args .key) refl (c .match .keys203)
 
 returns-204 : tie.Need-returns-204
-unfolding names words code codes find key shifts
-returns-204 c = arm-is (codes words) 188 176415119055 (c .before .args .key) (c .match .keys204) refl
+unfolding names words code codes key shifts
+returns-204 c = arm-is (λ (k : ℕ). match k (codes words) 0) 176415119055 (188 ∷ []) (c .before .args .key) refl (c .match .keys204)
 
 returns-205 : tie.Need-returns-205
-unfolding names words code codes find key shifts
-returns-205 c = arm-is (codes words) 183 20583849413 (c .before .args .key) (c .match .keys205) refl
+unfolding names words code codes key shifts
+returns-205 c = arm-is (λ (k : ℕ). match k (codes words) 0) 20583849413 (183 ∷ []) (c .before .args .key) refl (c .match .keys205)
 
 returns-206 : tie.Need-returns-206
-unfolding names words code codes find key shifts
-returns-206 c = arm-is (codes words) 228 18918 (c .before .args .key) (c .match .keys206) refl
+unfolding names words code codes key shifts
+returns-206 c = arm-is (λ (k : ℕ). match k (codes words) 0) 18918 (228 ∷ []) (c .before .args .key) refl (c .match .keys206)
 
 returns-207 : tie.Need-returns-207
-unfolding names words code codes find key shifts
-returns-207 c = arm-is (codes words) 116 673840 (c .before .args .key) (c .match .keys207) refl
+unfolding names words code codes key shifts
+returns-207 c = arm-is (λ (k : ℕ). match k (codes words) 0) 673840 (116 ∷ []) (c .before .args .key) refl (c .match .keys207)
 
 returns-208 : tie.Need-returns-208
-unfolding names words code codes find key shifts
-returns-208 c = arm-is (codes words) 83 6554602524823597 (c .before .args .key) (c .match .keys208) refl
+unfolding names words code codes key shifts
+returns-208 c = arm-is (λ (k : ℕ). match k (codes words) 0) 6554602524823597 (83 ∷ []) (c .before .args .key) refl (c .match .keys208)
 
 returns-209 : tie.Need-returns-209
-unfolding names words code codes find key shifts
-returns-209 c = arm-is (codes words) 166 7996068019 (c .before .args .key) (c .match .keys209) refl
+unfolding names words code codes key shifts
+returns-209 c = arm-is (λ (k : ℕ). match k (codes words) 0) 7996068019 (166 ∷ []) (c .before .args .key) refl (c .match .keys209)
 
 returns-210 : tie.Need-returns-210
-unfolding names words code codes find key shifts
-returns-210 c = arm-is (codes words) 252 21154994 (c .before .args .key) (c .match .keys210) refl
+unfolding names words code codes key shifts
+returns-210 c = arm-is (λ (k : ℕ). match k (codes words) 0) 21154994 (252 ∷ []) (c .before .args .key) refl (c .match .keys210)
 
 returns-211 : tie.Need-returns-211
-unfolding names words code codes find key shifts
-returns-211 c = arm-is (codes words) 211 405798 (c .before .args .key) (c .match .keys211) refl
+unfolding names words code codes key shifts
+returns-211 c = arm-is (λ (k : ℕ). match k (codes words) 0) 405798 (211 ∷ []) (c .before .args .key) refl (c .match .keys211)
 
 returns-212 : tie.Need-returns-212
-unfolding names words code codes find key shifts
-returns-212 c = arm-is (codes words) 96 530067 (c .before .args .key) (c .match .keys212) refl
+unfolding names words code codes key shifts
+returns-212 c = arm-is (λ (k : ℕ). match k (codes words) 0) 530067 (96 ∷ []) (c .before .args .key) refl (c .match .keys212)
 
 returns-213 : tie.Need-returns-213
-unfolding names words code codes find key shifts
-returns-213 c = arm-is (codes words) 150 6334715466535369 (c .before .args .key) (c .match .keys213) refl
+unfolding names words code codes key shifts
+returns-213 c = arm-is (λ (k : ℕ). match k (codes words) 0) 6334715466535369 (150 ∷ []) (c .before .args .key) refl (c .match .keys213)
 
 returns-214 : tie.Need-returns-214
-unfolding names words code codes find key shifts
-returns-214 c = arm-is (codes words) 223 485806607 (c .before .args .key) (c .match .keys214) refl
+unfolding names words code codes key shifts
+returns-214 c = arm-is (λ (k : ℕ). match k (codes words) 0) 485806607 (223 ∷ []) (c .before .args .key) refl (c .match .keys214)
 
 returns-215 : tie.Need-returns-215
-unfolding names words code codes find key shifts
-returns-215 c = arm-is (codes words) 64 146551050015881 (c .before .args .key) (c .match .keys215) refl
+unfolding names words code codes key shifts
+returns-215 c = arm-is (λ (k : ℕ). match k (codes words) 0) 146551050015881 (64 ∷ []) (c .before .args .key) refl (c .match .keys215)
 
 returns-216 : tie.Need-returns-216
-unfolding names words code codes find key shifts
-returns-216 c = arm-is (codes words) 202 675304 (c .before .args .key) (c .match .keys216) refl
+unfolding names words code codes key shifts
+returns-216 c = arm-is (λ (k : ℕ). match k (codes words) 0) 675304 (202 ∷ []) (c .before .args .key) refl (c .match .keys216)
 
 returns-217 : tie.Need-returns-217
-unfolding names words code codes find key shifts
-returns-217 c = arm-is (codes words) 139 4383915 (c .before .args .key) (c .match .keys217) refl
+unfolding names words code codes key shifts
+returns-217 c = arm-is (λ (k : ℕ). match k (codes words) 0) 4383915 (139 ∷ []) (c .before .args .key) refl (c .match .keys217)
 
 returns-218 : tie.Need-returns-218
-unfolding names words code codes find key shifts
-returns-218 c = other-is (139 ∷ 202 ∷ 64 ∷ 223 ∷ 150 ∷ 96 ∷ 211 ∷ 252 ∷ 166 ∷ 83 ∷ 116 ∷ 228 ∷ 183 ∷ 188 ∷ 73 ∷ 8 ∷ 247 ∷ 209 ∷ 152 ∷ 171 ∷ 12 ∷ 168 ∷ 160 ∷ 242 ∷ 87 ∷ 110 ∷ 48 ∷ 192 ∷ 63 ∷ 134 ∷ 170 ∷ 50 ∷ 204 ∷ 248 ∷ 104 ∷ 215 ∷ 43 ∷ 176 ∷ 121 ∷ 95 ∷ 159 ∷ 61 ∷ 21 ∷ 76 ∷ 56 ∷ 57 ∷ 123 ∷ 180 ∷ 66 ∷ 132 ∷ 205 ∷ 138 ∷ 44 ∷ 93 ∷ 98 ∷ 198 ∷ 221 ∷ 196 ∷ 102 ∷ 119 ∷ 173 ∷ 82 ∷ 149 ∷ 69 ∷ 189 ∷ 75 ∷ 94 ∷ 167 ∷ 172 ∷ 241 ∷ 36 ∷ 84 ∷ 250 ∷ 122 ∷ 86 ∷ 210 ∷ 80 ∷ 233 ∷ 65 ∷ 197 ∷ 146 ∷ 140 ∷ 148 ∷ 125 ∷ 118 ∷ 249 ∷ 220 ∷ 51 ∷ 154 ∷ 33 ∷ 206 ∷ 109 ∷ 226 ∷ 47 ∷ 212 ∷ 112 ∷ 213 ∷ 218 ∷ 142 ∷ 124 ∷ 214 ∷ 81 ∷ 101 ∷ 91 ∷ 230 ∷ 68 ∷ 141 ∷ 157 ∷ 169 ∷ 203 ∷ 13 ∷ 238 ∷ 120 ∷ 137 ∷ 5 ∷ 147 ∷ 9 ∷ 70 ∷ 153 ∷ 207 ∷ 177 ∷ 208 ∷ 77 ∷ 224 ∷ 244 ∷ 127 ∷ 74 ∷ 251 ∷ 115 ∷ 156 ∷ 67 ∷ 39 ∷ 133 ∷ 237 ∷ 130 ∷ 113 ∷ 11 ∷ 27 ∷ 243 ∷ 24 ∷ 193 ∷ 19 ∷ 22 ∷ 59 ∷ 253 ∷ 151 ∷ 229 ∷ 129 ∷ 0 ∷ 79 ∷ 191 ∷ 23 ∷ 236 ∷ 181 ∷ 54 ∷ 55 ∷ 186 ∷ 40 ∷ 32 ∷ 25 ∷ 164 ∷ 26 ∷ 162 ∷ 222 ∷ 227 ∷ 165 ∷ 179 ∷ 117 ∷ 131 ∷ 199 ∷ 217 ∷ 195 ∷ 103 ∷ 190 ∷ 178 ∷ 201 ∷ 219 ∷ 99 ∷ 182 ∷ 46 ∷ 144 ∷ 175 ∷ 235 ∷ 200 ∷ 60 ∷ 185 ∷ 92 ∷ 158 ∷ 161 ∷ 231 ∷ 155 ∷ 90 ∷ 31 ∷ 184 ∷ 163 ∷ 62 ∷ 187 ∷ 16 ∷ 128 ∷ 234 ∷ 143 ∷ 78 ∷ 194 ∷ 232 ∷ 225 ∷ 126 ∷ 174 ∷ 2 ∷ 3 ∷ 107 ∷ 58 ∷ 135 ∷ 216 ∷ 89 ∷ 136 ∷ 245 ∷ 145 ∷ []) (c .before .args .key) (c .match .rest) (codes words) refl
+unfolding names words code codes key shifts
+returns-218 c = other-is (map (λ k. k ∷ []) (139 ∷ 202 ∷ 64 ∷ 223 ∷ 150 ∷ 96 ∷ 211 ∷ 252 ∷ 166 ∷ 83 ∷ 116 ∷ 228 ∷ 183 ∷ 188 ∷ 73 ∷ 8 ∷ 247 ∷ 209 ∷ 152 ∷ 171 ∷ 12 ∷ 168 ∷ 160 ∷ 242 ∷ 87 ∷ 110 ∷ 48 ∷ 192 ∷ 63 ∷ 134 ∷ 170 ∷ 50 ∷ 204 ∷ 248 ∷ 104 ∷ 215 ∷ 43 ∷ 176 ∷ 121 ∷ 95 ∷ 159 ∷ 61 ∷ 21 ∷ 76 ∷ 56 ∷ 57 ∷ 123 ∷ 180 ∷ 66 ∷ 132 ∷ 205 ∷ 138 ∷ 44 ∷ 93 ∷ 98 ∷ 198 ∷ 221 ∷ 196 ∷ 102 ∷ 119 ∷ 173 ∷ 82 ∷ 149 ∷ 69 ∷ 189 ∷ 75 ∷ 94 ∷ 167 ∷ 172 ∷ 241 ∷ 36 ∷ 84 ∷ 250 ∷ 122 ∷ 86 ∷ 210 ∷ 80 ∷ 233 ∷ 65 ∷ 197 ∷ 146 ∷ 140 ∷ 148 ∷ 125 ∷ 118 ∷ 249 ∷ 220 ∷ 51 ∷ 154 ∷ 33 ∷ 206 ∷ 109 ∷ 226 ∷ 47 ∷ 212 ∷ 112 ∷ 213 ∷ 218 ∷ 142 ∷ 124 ∷ 214 ∷ 81 ∷ 101 ∷ 91 ∷ 230 ∷ 68 ∷ 141 ∷ 157 ∷ 169 ∷ 203 ∷ 13 ∷ 238 ∷ 120 ∷ 137 ∷ 5 ∷ 147 ∷ 9 ∷ 70 ∷ 153 ∷ 207 ∷ 177 ∷ 208 ∷ 77 ∷ 224 ∷ 244 ∷ 127 ∷ 74 ∷ 251 ∷ 115 ∷ 156 ∷ 67 ∷ 39 ∷ 133 ∷ 237 ∷ 130 ∷ 113 ∷ 11 ∷ 27 ∷ 243 ∷ 24 ∷ 193 ∷ 19 ∷ 22 ∷ 59 ∷ 253 ∷ 151 ∷ 229 ∷ 129 ∷ 0 ∷ 79 ∷ 191 ∷ 23 ∷ 236 ∷ 181 ∷ 54 ∷ 55 ∷ 186 ∷ 40 ∷ 32 ∷ 25 ∷ 164 ∷ 26 ∷ 162 ∷ 222 ∷ 227 ∷ 165 ∷ 179 ∷ 117 ∷ 131 ∷ 199 ∷ 217 ∷ 195 ∷ 103 ∷ 190 ∷ 178 ∷ 201 ∷ 219 ∷ 99 ∷ 182 ∷ 46 ∷ 144 ∷ 175 ∷ 235 ∷ 200 ∷ 60 ∷ 185 ∷ 92 ∷ 158 ∷ 161 ∷ 231 ∷ 155 ∷ 90 ∷ 31 ∷ 184 ∷ 163 ∷ 62 ∷ 187 ∷ 16 ∷ 128 ∷ 234 ∷ 143 ∷ 78 ∷ 194 ∷ 232 ∷ 225 ∷ 126 ∷ 174 ∷ 2 ∷ 3 ∷ 107 ∷ 58 ∷ 135 ∷ 216 ∷ 89 ∷ 136 ∷ 245 ∷ 145 ∷ [])) (c .before .args .key) (c .match .rest) (codes words) 0 refl
 
 pub code-at-spec : {M : Type 1} → statement M
 code-at-spec =

@@ -8,7 +8,8 @@ use borrow.Author.Needs.{needs}
 use borrow.Author.Tests.{le-leb, lt-leb}
 use lib.Dec.{T, leb}
 use lib.ListN.{length, drop, getD, length-map, length-drop}
-use Rattle.keywords.specs.Words.{capitals, upper}
+use Rattle.basics.specs.Case.{toUppercase}
+use Rattle.keywords.specs.Words.{capitals}
 use Rattle.keywords.specs.Table.{capital}
 use Rattle.keywords.specs.Index.{code, wordCode}
 use Rattle.keywords.proofs.Capitals.{capitals-at}
@@ -19,7 +20,7 @@ use Rattle.keywords.proofs.code_of.Tie as tie
 -- a byte that is no letter decides
 no-letter : (w : List ℕ) (i : ℕ) → i < length w → (leb 65 (getD (capitals w) i 0) && leb (getD (capitals w) i 0) 90) ≡ false → 1 ≡ wordCode w
 unfolding wordCode
-no-letter w i h e = rw (no-capital (capitals w) i (rw (length-map w upper) h) e)
+no-letter w i h e = rw (no-capital (capitals w) i (rw (length-map w toUppercase) h) e)
 
 -- nothing is left
 coded-word : (w : List ℕ) {i n : ℕ} → i ≤ 0 → Coded (capitals w) i n → n ≡ wordCode w
@@ -33,7 +34,7 @@ abbrev μ-loop : tie.MeasureT-loop
 μ-loop word code₀ i₀ n i = i
 
 loop-holds : tie.Need-loop-holds Inv-loop μ-loop
-loop-holds c = let w = c .before .args .word .now in (c .before .pre, rw (← length-map w upper) (coded-none (capitals w)))
+loop-holds c = let w = c .before .args .word .now in (c .before .pre, rw (← length-map w toUppercase) (coded-none (capitals w)))
 
 sub-i : tie.Need-sub-i Inv-loop μ-loop
 sub-i c = search needs
@@ -41,7 +42,7 @@ sub-i c = search needs
 shared-slice-read-upper-of : tie.Need-shared-slice-read-upper-of Inv-loop μ-loop
 shared-slice-read-upper-of c =
     let at = c .before .before in
-    omega (arith, at .loop .inv .1 .inside, length-map (at .before .before .args .word .now) upper)
+    omega (arith, at .loop .inv .1 .inside, length-map (at .before .before .args .word .now) toUppercase)
 
 upper-of-requires : tie.Need-upper-of-requires Inv-loop μ-loop
 upper-of-requires c κs = search needs
@@ -51,7 +52,7 @@ returns c =
     let at = c .before .before .before .before in
     let w = at .before .before .args .word .now in
     let i = at .loop .i - 1 in
-    let l = length-map w upper in
+    let l = length-map w toUppercase in
     let h : i < length w = omega (arith, at .loop .inv .1 .inside) in
     no-letter w i h (rw (capitals-at w i h, ← (c .before .upper-of .ensures)) (simp (lt-leb _ _ (c .if1 .taken))))
 
@@ -60,7 +61,7 @@ returns-2 c =
     let at = c .before .before .before .before .before in
     let w = at .before .before .args .word .now in
     let i = at .loop .i - 1 in
-    let l = length-map w upper in
+    let l = length-map w toUppercase in
     let h : i < length w = omega (arith, at .loop .inv .1 .inside) in
     no-letter w i h (rw (capitals-at w i h, ← (c .before .before .upper-of .ensures)) (simp (le-leb _ _ (c .before .if1 .left), lt-leb _ _ (c .if2 .taken))))
 
@@ -68,7 +69,7 @@ mul-code : tie.Need-mul-code Inv-loop μ-loop
 mul-code c =
     let at = c .before .before .before .before .before in
     let w = at .before .before .args .word .now in
-    let l = length-map w upper in
+    let l = length-map w toUppercase in
     omega (arith, coded-fits (capitals w) (c .before .before .before .before .loop-test .taken) (omega (arith, at .loop .inv .0)) (at .loop .inv .1))
 
 sub-code : tie.Need-sub-code Inv-loop μ-loop
@@ -81,7 +82,7 @@ add-code : tie.Need-add-code Inv-loop μ-loop
 add-code c =
     let at = c .before .before .before .before .before in
     let w = at .before .before .args .word .now in
-    let l = length-map w upper in
+    let l = length-map w toUppercase in
     omega (arith, coded-fits (capitals w) (c .before .before .before .before .loop-test .taken) (omega (arith, at .loop .inv .0)) (at .loop .inv .1), c .if2 .left)
 
 loop-less : tie.Need-loop-less Inv-loop μ-loop
@@ -92,7 +93,7 @@ loop-again c =
     let at = c .before .before .before .before .before in
     let w = at .before .before .args .word .now in
     let i = at .loop .i - 1 in
-    let l = length-map w upper in
+    let l = length-map w toUppercase in
     let h : i < length w = omega (arith, at .loop .inv .1 .inside) in (
       at .loop .inv .0,
       coded-more (capitals w) (c .before .before .before .before .loop-test .taken) (c .before .before .upper-of .ensures ∙ sym (capitals-at w i h)) (c .before .if1 .left) (c .if2 .left)

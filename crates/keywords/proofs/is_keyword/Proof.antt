@@ -4,8 +4,9 @@ use Prim.Native.Nat.{ℕ, _%_}
 use lib.Dec.{eqb}
 use native.Mathlib.Omega.{arith}
 use borrow.Author.Needs.{needs}
+use Rattle.basics.specs.Match.{match}
 use Rattle.keywords.specs.Words.{words}
-use Rattle.keywords.specs.Index.{codes, find, wordCode}
+use Rattle.keywords.specs.Index.{codes, wordCode}
 use Rattle.keywords.proofs.Lookup.{no-keyword, keyword-is, other-first}
 use Rattle.keywords.proofs.is_keyword.Statement.{statement}
 use Rattle.keywords.proofs.is_keyword.Tie as tie
@@ -31,7 +32,7 @@ letter-requires c κs = search needs
 returns-3 : tie.Need-returns-3
 returns-3 c =
     let w = c .before .before .before .before .before .before .before .before .args .word .now in
-    let f = c .before .before .before .code-at .ensures ∙ ap (λ (j : ℕ). find j (codes words)) (c .before .before .before .before .key-of .ensures) in
+    let f = c .before .before .before .code-at .ensures ∙ ap (λ (j : ℕ). match j (codes words) 0) (c .before .before .before .before .key-of .ensures) in
     sym (other-first w (omega arith) (λ q. c .if3 .taken (ap (λ (j : ℕ). j % 32) f ∙ q ∙ sym (c .before .letter .ensures .0))))
 
 code-of-requires : tie.Need-code-of-requires
@@ -40,7 +41,7 @@ code-of-requires c κs = search needs
 returns-4 : tie.Need-returns-4
 returns-4 c =
     let w = c .before .before .before .before .before .before .before .before .before .args .word .now in
-    let f = c .before .before .before .before .code-at .ensures ∙ ap (λ (j : ℕ). find j (codes words)) (c .before .before .before .before .before .key-of .ensures) in
+    let f = c .before .before .before .before .code-at .ensures ∙ ap (λ (j : ℕ). match j (codes words) 0) (c .before .before .before .before .before .key-of .ensures) in
     ap (λ (j : ℕ). eqb j (c .before .before .before .before .code-at .result)) (c .code-of .ensures) ∙ ap (λ (j : ℕ). eqb (wordCode w) j) f ∙ keyword-is w (omega arith)
 
 pub is-keyword-spec : {M : Type 1} → statement M

@@ -4,7 +4,8 @@ use mathlib.Core.Path.{sym, _∙_}
 use native.Mathlib.Omega.{arith}
 use borrow.Author.Needs.{needs}
 use lib.ListN.{length-map}
-use Rattle.keywords.specs.Words.{bytes, capitals, upper}
+use Rattle.basics.specs.Case.{toUppercase}
+use Rattle.keywords.specs.Words.{bytes, capitals}
 use Rattle.keywords.proofs.Same.{same-lengths}
 use Rattle.keywords.proofs.is_value_keyword.Statement.{statement}
 use Rattle.keywords.proofs.is_value_keyword.Tie as tie
@@ -18,7 +19,7 @@ is-word-requires c κs = search needs
 returns : tie.Need-returns
 returns c =
     let w = c .before .before .before .before .args .word .now in
-    let l = length-map w upper in
+    let l = length-map w toUppercase in
     let t = same-lengths (capitals w) (bytes "TRUE") (λ e. omega arith) in
     let n = same-lengths (capitals w) (bytes "NULL") (λ e. omega arith) in
     c .is-word .ensures ∙ simp (t, n, or-false)
@@ -26,7 +27,7 @@ returns c =
 returns-2 : tie.Need-returns-2
 returns-2 c =
     let w = c .before .before .before .args .word .now in
-    let l = length-map w upper in
+    let l = length-map w toUppercase in
     let t = same-lengths (capitals w) (bytes "TRUE") (λ e. omega arith) in
     let f = same-lengths (capitals w) (bytes "FALSE") (λ e. omega arith) in
     let n = same-lengths (capitals w) (bytes "NULL") (λ e. omega arith) in
@@ -50,7 +51,7 @@ is-word-requires-3 c κs = search needs
 returns-4 : tie.Need-returns-4
 returns-4 c =
     let w = c .before .before .before .before .before .before .before .before .args .word .now in
-    let l = length-map w upper in
+    let l = length-map w toUppercase in
     let f = same-lengths (capitals w) (bytes "FALSE") (λ e. omega arith) in
     c .is-word3 .ensures ∙ simp (f, sym (c .before .before .before .is-word2 .ensures), c .before .before .if3 .left)
 

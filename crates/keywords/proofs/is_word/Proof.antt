@@ -5,7 +5,8 @@ use native.Mathlib.Omega.{arith}
 use borrow.Author.Tests.{eq-eqb, ne-eqb}
 use borrow.Author.Needs.{needs}
 use lib.ListN.{length, drop, drop-of-length-le, length-map}
-use Rattle.keywords.specs.Words.{same, capitals, upper}
+use Rattle.basics.specs.Case.{toUppercase}
+use Rattle.keywords.specs.Words.{same, capitals}
 use Rattle.keywords.proofs.Same.{same-lengths, same-turn, same-nil}
 use Rattle.keywords.proofs.Capitals.{capitals-at}
 use Rattle.keywords.proofs.is_word.Statement.{statement}
@@ -20,7 +21,7 @@ abbrev μ-loop : tie.MeasureT-loop
 returns : tie.Need-returns Inv-loop μ-loop
 returns c =
     let a = c .before .before .before .args in
-    let l = length-map (a .word .now) upper in
+    let l = length-map (a .word .now) toUppercase in
     sym (same-lengths (capitals (a .word .now)) (a .caps .now) (λ q. c .if1 .taken (sym l ∙ q)))
 
 loop-holds : tie.Need-loop-holds Inv-loop μ-loop
@@ -41,7 +42,7 @@ returns-2 c =
     let a = at .before .before .before .before .args in
     let w = a .word .now in
     let i = at .loop .i in
-    let l = length-map w upper in
+    let l = length-map w toUppercase in
     let t = same-turn (capitals w) (a .caps .now) i (omega arith) (omega arith) in
     sym (at .loop .inv .2 ∙ t ∙ rw (capitals-at w i (omega arith), ← (c .before .before .upper-of .ensures)) (simp (ne-eqb _ _ (c .if2 .taken))))
 
@@ -57,7 +58,7 @@ loop-again c =
     let a = at .before .before .before .before .args in
     let w = a .word .now in
     let i = at .loop .i in
-    let l = length-map w upper in
+    let l = length-map w toUppercase in
     let t = same-turn (capitals w) (a .caps .now) i (omega arith) (omega arith) in (
       omega arith,
       at .loop .inv .1,
@@ -68,7 +69,7 @@ returns-3 : tie.Need-returns-3 Inv-loop μ-loop
 returns-3 c =
     let at = c .before in
     let a = at .before .before .before .before .args in
-    let l = length-map (a .word .now) upper in
+    let l = length-map (a .word .now) toUppercase in
     let hx : length (capitals (a .word .now)) ≤ at .loop .i = omega arith in
     let hy : length (a .caps .now) ≤ at .loop .i = omega arith in
     sym (at .loop .inv .2 ∙ rw (drop-of-length-le (capitals (a .word .now)) hx, drop-of-length-le (a .caps .now) hy) same-nil)

@@ -1,6 +1,6 @@
 -- `context::buffer::to_case` meets its contract, by the tests that lead to each answer. Assumes nothing.
 use borrow.Author.Tests.{le-leb, lt-leb}
-use Rattle.context.specs.Cells.{toUppercase, toLowercase}
+use Rattle.basics.specs.Case.{toUppercase, toLowercase}
 use borrow.Author.Needs.{needs}
 use Rattle.context.proofs.buffer.to_case.Statement.{statement}
 use Rattle.context.proofs.buffer.to_case.Tie as tie

@@ -1,0 +1,3 @@
+-- What several crates define by.
+pub mod Match
+pub mod Case

@@ -1,2 +1,0 @@
--- The laws that the proof of the dispatch cites.
-pub mod KindMatch
