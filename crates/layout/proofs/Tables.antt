@@ -1,4 +1,4 @@
--- The three tables hold of the definition: the course sheet, the refusals' small inputs, and the pairs that show each condition of the
+-- The tables hold of the definition: the course sheet, the small inputs, and the pairs that show each condition of the
 -- masking rule needed. One computed test over each. Assumes nothing.
 use lib.Dec.{T}
 use Rattle.keywords.specs.Names.{names}
@@ -11,22 +11,24 @@ use Rattle.tape.specs.Kinds.{kinds, notCarried}
 use Rattle.tape.specs.Tree.{hasChild, countListItems, copied}
 use Rattle.tape.specs.Tape.{headAt, commandAt, checkOpen, checkToken, checkedAt, readChildren, readTree}
 use Rattle.tape.specs.Call.{firstNonAscii, readInput, readCall}
+use Rattle.tape.specs.SmallInputs.{smallInputs}
 use Rattle.layout.specs.Arms.{seen}
 use Rattle.layout.specs.Tokens.{noSpaceBefore, noSpaceAfter, isLineComment, emitComment, emitToken, emitOther, isOperator}
 use Rattle.layout.specs.Routines.{fileToken, formatFile, queryListToken, formatQueryList, selectStatementToken, formatSelectStatement, selectClauseToken, formatSelectClause, simpleClauseToken, formatSimpleClause, multiItem, listClauseToken, listClauseNode, listClauseArms, formatListClause, joinClauseToken, formatJoinClause, formatSettingsClause, formatWithClause, commaListToken, formatCommaList, inlineCommaListToken, formatInlineCommaList, binaryToken, formatBinaryExpression, unaryToken, formatUnaryExpression, functionCallToken, formatFunctionCall, caseWord, caseToken, formatCaseExpression, whenWord, whenToken, formatWhenClause, subqueryToken, formatSubquery, parenListToken, formatParenList, bracketListToken, formatBracketList, braceListToken, formatBraceList, dataTypeToken, formatDataType, spaceAfter, inlineNode, nameBefore, inlineTightParensToken, formatInlineTightParens, inlineToken, formatInline, formatInlineNoSpaces, passthroughToken, formatPassthrough, alterCommandListToken, formatAlterCommandList, unionToken, formatUnionClause}
 use Rattle.layout.specs.FormatNode.{armsOf, routines, routineOf, formatNode}
 use Rattle.layout.specs.Calls.{formatErrorVerbatim, walk, calls}
 use Rattle.layout.specs.Layout.{doSpacing, step, pieces, written, original, piecesOf, format}
-use Rattle.layout.specs.Outcome.{outcome, laidOut}
+use Rattle.layout.specs.Outcome.{outcome, measured, laidOut}
 use Rattle.layout.specs.CourseSheet.{courseSheet, allRight}
-use Rattle.layout.specs.SmallInputs.{smallInputs, allAnswered}
+use Rattle.layout.specs.SmallInputs.{allBothAnswer, allAnswered, smallLayouts}
 use Rattle.layout.specs.MaskingNeeds.{pairs, needed, all}
 
 pub record Tables : Type 0 where
   pub sheet : T (allRight courseSheet)
-  pub inputs : T (allAnswered smallInputs)
+  pub refusals : T (allBothAnswer smallInputs)
+  pub layouts : T (allAnswered smallLayouts)
   pub conditions : T (all needed pairs)
 
 pub tables : Tables
-unfolding names words same listed isWhiteSpace toUppercase toLowercase tokenText trim trimmedLength writeNewline lead writeToken writeKeyword writeSpace noteSkippedWhitespace takePendingNewline takePendingBlankLine indent dedent writeRaw finish kinds notCarried hasChild countListItems copied headAt commandAt checkOpen checkToken checkedAt readChildren readTree firstNonAscii readInput readCall seen noSpaceBefore noSpaceAfter isLineComment emitComment emitToken emitOther isOperator fileToken formatFile queryListToken formatQueryList selectStatementToken formatSelectStatement selectClauseToken formatSelectClause simpleClauseToken formatSimpleClause multiItem listClauseToken listClauseNode listClauseArms formatListClause joinClauseToken formatJoinClause formatSettingsClause formatWithClause commaListToken formatCommaList inlineCommaListToken formatInlineCommaList binaryToken formatBinaryExpression unaryToken formatUnaryExpression functionCallToken formatFunctionCall caseWord caseToken formatCaseExpression whenWord whenToken formatWhenClause subqueryToken formatSubquery parenListToken formatParenList bracketListToken formatBracketList braceListToken formatBraceList dataTypeToken formatDataType spaceAfter inlineNode nameBefore inlineTightParensToken formatInlineTightParens inlineToken formatInline formatInlineNoSpaces passthroughToken formatPassthrough alterCommandListToken formatAlterCommandList unionToken formatUnionClause armsOf routines routineOf formatNode formatErrorVerbatim walk calls doSpacing step pieces written original piecesOf format outcome laidOut courseSheet smallInputs pairs
-tables = record { sheet = tt; inputs = tt; conditions = tt }
+unfolding names words same listed isWhiteSpace toUppercase toLowercase tokenText trim trimmedLength writeNewline lead writeToken writeKeyword writeSpace noteSkippedWhitespace takePendingNewline takePendingBlankLine indent dedent writeRaw finish kinds notCarried hasChild countListItems copied headAt commandAt checkOpen checkToken checkedAt readChildren readTree firstNonAscii readInput readCall seen noSpaceBefore noSpaceAfter isLineComment emitComment emitToken emitOther isOperator fileToken formatFile queryListToken formatQueryList selectStatementToken formatSelectStatement selectClauseToken formatSelectClause simpleClauseToken formatSimpleClause multiItem listClauseToken listClauseNode listClauseArms formatListClause joinClauseToken formatJoinClause formatSettingsClause formatWithClause commaListToken formatCommaList inlineCommaListToken formatInlineCommaList binaryToken formatBinaryExpression unaryToken formatUnaryExpression functionCallToken formatFunctionCall caseWord caseToken formatCaseExpression whenWord whenToken formatWhenClause subqueryToken formatSubquery parenListToken formatParenList bracketListToken formatBracketList braceListToken formatBraceList dataTypeToken formatDataType spaceAfter inlineNode nameBefore inlineTightParensToken formatInlineTightParens inlineToken formatInline formatInlineNoSpaces passthroughToken formatPassthrough alterCommandListToken formatAlterCommandList unionToken formatUnionClause armsOf routines routineOf formatNode formatErrorVerbatim walk calls doSpacing step pieces written original piecesOf format outcome measured laidOut courseSheet smallLayouts pairs
+tables = record { sheet = tt; refusals = tt; layouts = tt; conditions = tt }

@@ -1,9 +1,10 @@
--- Small inputs and their answers: one for each refusal but 3 and 5, the limits, and the order in which faults decide.
+-- Small inputs and their answers: document 01's table, what else is refused or accepted, and which of several faults decides.
 -- Assumes nothing.
 use Prim.Native.Nat.{ℕ, zero, suc}
 use mathlib.Core.Bool.{Bool, true, _&&_}
 use mathlib.Core.List.{List, [], _∷_, _++_}
 use lib.Dec.{eqb}
+use Rattle.tape.specs.Kinds.{Error, File, SetStatement, BareWord}
 use Rattle.tape.specs.Faults.{number}
 use Rattle.tape.specs.Tree.{Tree}
 use Rattle.tape.specs.Tape.{Read, refused, got}
@@ -30,12 +31,12 @@ hold (s ∷ ss) = told (readCall (s .width) (s .case) (s .text) (s .tape)) (s .n
 abbrev pub sample : List ℕ → List ℕ → ℕ → ℕ → Sample
 sample text tape n p = record { width = 4; case = 1; text = text; tape = tape; number = n; place = p }
 
--- the command c with the kind k and the span from s to e, all below 256
+-- the command c with the kind k and the span from s to e, each below 256
 abbrev pub command : ℕ → ℕ → ℕ → ℕ → List ℕ
 command c k s e = c ∷ k ∷ 0 ∷ s ∷ 0 ∷ 0 ∷ 0 ∷ e ∷ 0 ∷ 0 ∷ 0 ∷ []
 
 abbrev pub file : List ℕ
-file = command 1 1 0 0
+file = command 1 File 0 0
 
 abbrev pub close : List ℕ
 close = 3 ∷ []
@@ -46,35 +47,41 @@ times (suc n) x = x ++ times n x
 
 abbrev pub smallInputs : List Sample
 smallInputs =
-    record { width = 17; case = 2; text = 195 ∷ 169 ∷ []; tape = 4 ∷ []; number = 1; place = 0 }
-    ∷ record { width = 16; case = 2; text = 195 ∷ 169 ∷ []; tape = 4 ∷ []; number = 2; place = 0 }
-    ∷ record { width = 16; case = 0; text = []; tape = file ++ close; number = 0; place = 0 }
-    ∷ sample (195 ∷ 169 ∷ []) (4 ∷ []) 4 0
-    ∷ sample (97 ∷ 127 ∷ 128 ∷ []) (4 ∷ []) 4 2
+    -- document 01's table, but for 3 and 5, which are too long to write out, and 13, which needs a layout
+    record { width = 17; case = 1; text = []; tape = []; number = 1; place = 0 }
+    ∷ record { width = 4; case = 2; text = []; tape = []; number = 2; place = 0 }
+    ∷ sample (195 ∷ 169 ∷ []) [] 4 0
     ∷ sample [] (4 ∷ []) 6 0
-    ∷ sample [] (0 ∷ []) 6 0
     ∷ sample [] (1 ∷ 0 ∷ 0 ∷ []) 7 0
-    ∷ sample [] (2 ∷ []) 7 0
     ∷ sample [] (1 ∷ 255 ∷ 255 ∷ 0 ∷ 0 ∷ 0 ∷ 0 ∷ 0 ∷ 0 ∷ 0 ∷ 0 ∷ []) 8 0
+    ∷ sample [] (command 1 SetStatement 0 0) 9 0
+    ∷ sample [] (file ++ command 2 BareWord 0 1) 10 11
+    ∷ sample [] (times 65 file) 11 704
+    ∷ sample [] (3 ∷ []) 12 0
+    -- what else each refuses, and what is accepted beside it
+    ∷ record { width = 16; case = 0; text = []; tape = file ++ close; number = 0; place = 0 }
+    ∷ sample (97 ∷ 127 ∷ 128 ∷ []) [] 4 2
+    ∷ sample [] (0 ∷ []) 6 0
+    ∷ sample [] (2 ∷ []) 7 0
     ∷ sample [] (1 ∷ 2 ∷ 1 ∷ 0 ∷ 0 ∷ 0 ∷ 0 ∷ 0 ∷ 0 ∷ 0 ∷ 0 ∷ []) 8 0
     ∷ sample [] (1 ∷ 1 ∷ 1 ∷ 0 ∷ 0 ∷ 0 ∷ 0 ∷ 0 ∷ 0 ∷ 0 ∷ 0 ∷ 3 ∷ []) 0 0
-    ∷ sample [] (command 1 14 0 1) 9 0
-    ∷ sample [] (file ++ command 2 14 0 0 ++ close) 0 0
-    ∷ sample [] (file ++ command 2 1 0 1 ++ close) 10 11
-    ∷ sample (97 ∷ []) (file ++ command 2 1 0 1 ++ close) 0 0
-    ∷ sample (97 ∷ []) (file ++ command 2 1 1 0 ++ close) 10 11
-    ∷ sample [] (command 1 0 1 1 ++ close) 10 0
-    ∷ sample [] (command 1 0 1 0 ++ close) 0 0
-    ∷ sample [] (times 64 file ++ times 64 close) 0 0
-    ∷ sample [] (times 65 file) 11 704
-    ∷ sample [] (times 64 file ++ command 1 14 0 1) 9 704
-    ∷ sample [] (times 64 file ++ command 1 1 0 1) 10 704
+    ∷ sample [] (file ++ command 2 SetStatement 0 0 ++ close) 0 0
+    ∷ sample (97 ∷ []) (file ++ command 2 File 0 1 ++ close) 0 0
+    ∷ sample (97 ∷ []) (file ++ command 2 File 1 0 ++ close) 10 11
+    ∷ sample [] (command 1 Error 1 1 ++ close) 10 0
+    ∷ sample [] (command 1 Error 1 0 ++ close) 0 0
     ∷ sample [] [] 12 0
-    ∷ sample [] (3 ∷ []) 12 0
-    ∷ sample [] (command 2 255 0 1) 12 0
     ∷ sample [] file 12 11
+    ∷ sample [] (file ++ close ++ close) 12 12
+    -- which of several faults decides
+    ∷ record { width = 17; case = 2; text = 195 ∷ 169 ∷ []; tape = 4 ∷ []; number = 1; place = 0 }
+    ∷ record { width = 16; case = 2; text = 195 ∷ 169 ∷ []; tape = 4 ∷ []; number = 2; place = 0 }
+    ∷ sample (195 ∷ 169 ∷ []) (4 ∷ []) 4 0
+    ∷ sample [] (command 1 SetStatement 0 1) 9 0
+    ∷ sample [] (times 64 file ++ command 1 SetStatement 0 1) 9 704
+    ∷ sample [] (times 64 file ++ command 1 File 0 1) 10 704
+    ∷ sample [] (command 2 255 0 1) 12 0
     ∷ sample [] (file ++ close ++ 4 ∷ []) 6 12
     ∷ sample [] (file ++ close ++ 1 ∷ []) 7 12
     ∷ sample [] (file ++ close ++ command 1 255 0 1) 12 12
-    ∷ sample [] (file ++ close ++ close) 12 12
     ∷ []
