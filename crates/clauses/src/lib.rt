@@ -16,10 +16,11 @@ use tokens::emit_comment;
 use tokens::emit_other;
 use tokens::emit_token;
 use tokens::emit_uncommented;
+use tokens::is_trivia;
 use tokens::no_space_after;
 use tokens::no_space_before;
-use tokens::note;
 use tokens::space_if;
+use tokens::trivia_token;
 use tokens::write_word;
 ghost use mathlib.Core.Path.{_≡_};
 ghost use mathlib.Core.Bool.{cond, not, _&&_};
@@ -195,19 +196,8 @@ pub fn simple_clause_token(
     requires { ⌜ TokenReady 4 (now source) config token ctx ⌝ }
     ensures { λ r. ⌜ TokenDone config (now (source .entry)) simpleClauseToken local token ctx (now (out .entry)) r (now (out .exit)) ⌝ }
 {
-    if token.kind == syntax_kind::WHITESPACE {
-        let a = note(source, config, out, ctx, token);
-        return Arm {
-            context: a,
-            local: local,
-        };
-    }
-    if token.kind == syntax_kind::COMMENT {
-        let a = emit_comment(source, config, out, ctx, token);
-        return Arm {
-            context: a,
-            local: local,
-        };
+    if is_trivia(token.kind) {
+        return trivia_token(source, config, out, ctx, local, token);
     }
     let a = space_if(ctx, space_wanted(local.flag, token.kind));
     let b = emit_token(source, config, out, a, token);
@@ -359,19 +349,8 @@ pub fn join_clause_token(
     requires { ⌜ TokenReady 4 (now source) config token ctx ⌝ }
     ensures { λ r. ⌜ TokenDone config (now (source .entry)) joinClauseToken local token ctx (now (out .entry)) r (now (out .exit)) ⌝ }
 {
-    if token.kind == syntax_kind::WHITESPACE {
-        let a = note(source, config, out, ctx, token);
-        return Arm {
-            context: a,
-            local: local,
-        };
-    }
-    if token.kind == syntax_kind::COMMENT {
-        let a = emit_comment(source, config, out, ctx, token);
-        return Arm {
-            context: a,
-            local: local,
-        };
+    if is_trivia(token.kind) {
+        return trivia_token(source, config, out, ctx, local, token);
     }
     if token.kind == syntax_kind::BARE_WORD {
         let a = space_if(ctx, local.flag);

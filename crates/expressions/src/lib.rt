@@ -15,11 +15,13 @@ use tokens::emit_other;
 use tokens::emit_token;
 use tokens::emit_uncommented;
 use tokens::is_operator;
+use tokens::is_trivia;
 use tokens::name_before;
 use tokens::no_space_before;
 use tokens::note;
 use tokens::space_after;
 use tokens::space_if;
+use tokens::trivia_token;
 use tokens::write_text;
 use tokens::write_word;
 ghost use mathlib.Core.Path.{_≡_};
@@ -429,19 +431,8 @@ pub fn inline_tight_parens_token(
     requires { ⌜ TokenReady 4 (now source) config token ctx ⌝ }
     ensures { λ r. ⌜ TokenDone config (now (source .entry)) inlineTightParensToken local token ctx (now (out .entry)) r (now (out .exit)) ⌝ }
 {
-    if token.kind == syntax_kind::WHITESPACE {
-        let a = note(source, config, out, ctx, token);
-        return Arm {
-            context: a,
-            local: local,
-        };
-    }
-    if token.kind == syntax_kind::COMMENT {
-        let a = emit_comment(source, config, out, ctx, token);
-        return Arm {
-            context: a,
-            local: local,
-        };
+    if is_trivia(token.kind) {
+        return trivia_token(source, config, out, ctx, local, token);
     }
     let prev = local.prev;
     let a = space_if(ctx, space_between_tight(token.kind, prev));
@@ -466,19 +457,8 @@ pub fn inline_token(
     requires { ⌜ TokenReady 4 (now source) config token ctx ⌝ }
     ensures { λ r. ⌜ TokenDone config (now (source .entry)) inlineToken local token ctx (now (out .entry)) r (now (out .exit)) ⌝ }
 {
-    if token.kind == syntax_kind::WHITESPACE {
-        let a = note(source, config, out, ctx, token);
-        return Arm {
-            context: a,
-            local: local,
-        };
-    }
-    if token.kind == syntax_kind::COMMENT {
-        let a = emit_comment(source, config, out, ctx, token);
-        return Arm {
-            context: a,
-            local: local,
-        };
+    if is_trivia(token.kind) {
+        return trivia_token(source, config, out, ctx, local, token);
     }
     let prev = local.prev;
     let a = space_if(ctx, space_between(token.kind, prev));

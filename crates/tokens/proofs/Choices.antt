@@ -4,9 +4,11 @@ use mathlib.Core.Path.{_≡_, refl, sym, ap, _∙_}
 use mathlib.Core.Bool.{Bool, true, false, cond, not, _||_, false≢true}
 use mathlib.Core.List.{List, [], _∷_, _++_, map}
 use lib.Dec.{eqb, ltb}
+use native.Mathlib.Omega.{arith}
 use borrow.Author.Tests.{ne-eqb}
 use Rattle.basics.specs.Match.{among}
 use Rattle.keywords.specs.Words.{isWord}
+use Rattle.context.specs.declared.FormatConfig.{FormatConfig}
 use Rattle.context.specs.declared.FormatterContext.{FormatterContext}
 use Rattle.context.proofs.Writes.{spent-none}
 use Rattle.context.specs.Cells.{Text, tokenText}
@@ -17,7 +19,9 @@ use Rattle.layout.specs.declared.Local.{Local}
 use Rattle.layout.specs.Arms.{Spacing, newline, space, indent, dedent, Act, spacing, text, keyword, Seen, seen}
 use Rattle.layout.specs.Tokens.{noteSkippedWhitespace, emitComment, emitOther, emitToken, isOperator}
 use Rattle.layout.specs.Routines.{flagged, keywordSpace, spaceIf, spaced, orElse, binaryToken, listClauseNode, formatUnionClause, multiItem, caseWord, whenWord}
-use Rattle.tokens.specs.Promise.{Silent, Spaced, emitTrivia}
+use Rattle.tokens.specs.declared.Arm.{Arm}
+use Rattle.tokens.specs.Promise.{Silent, Spaced, Acted, TokenDone, TriviaDone, emitTrivia, isTrivia}
+use Rattle.tokens.proofs.Runs.{acted}
 
 -- ── spacing that writes no byte
 
@@ -61,25 +65,55 @@ module _ (l : Local) (t : Seen) where
 
 -- white space or a comment, and any other token
 module _ (source : Text) (token : Head) where
-  pub other-trivia : (eqb (token .kind) Whitespace || eqb (token .kind) Comment) ≡ true
-      → emitOther (seen source token) ≡ emitTrivia (eqb (token .kind) Whitespace) (tokenText source (token .start) (token .end))
-  unfolding emitOther seen
-  other-trivia e = go (eqb (token .kind) Whitespace) (eqb (token .kind) Comment) e
+  or-else-trivia : (l : Local) (x : Local × List Act) → isTrivia (token .kind) ≡ true
+      → orElse l (seen source token) x ≡ (l, emitTrivia (eqb (token .kind) Whitespace) (tokenText source (token .start) (token .end)))
+  unfolding seen
+  or-else-trivia l x e = go (eqb (token .kind) Whitespace) (eqb (token .kind) Comment) e
     where
-      go : (p q : Bool) → (p || q) ≡ true → cond p (noteSkippedWhitespace (cond (p || q || eqb (token .kind) BareWord) (tokenText source (token .start) (token .end)) [])) (cond q (emitComment (cond (p || q || eqb (token .kind) BareWord) (tokenText source (token .start) (token .end)) [])) (emitToken (seen source token)))
-          ≡ emitTrivia p (tokenText source (token .start) (token .end))
+      bytes : Bool → List ℕ
+      bytes read = cond read (tokenText source (token .start) (token .end)) []
+
+      go : (p q : Bool) → (p || q) ≡ true
+          → cond p (l, noteSkippedWhitespace (bytes (p || q || eqb (token .kind) BareWord))) (cond q (l, emitComment (bytes (p || q || eqb (token .kind) BareWord))) x)
+          ≡ (l, emitTrivia p (tokenText source (token .start) (token .end)))
       go true q u = refl
       go false true u = refl
       go false false u = absurd (false≢true u)
 
-  pub other-token : (eqb (token .kind) Whitespace || eqb (token .kind) Comment) ≡ false → emitOther (seen source token) ≡ emitToken (seen source token)
-  unfolding emitOther seen
-  other-token e = go (eqb (token .kind) Whitespace) (eqb (token .kind) Comment) e _ _ _
+  or-else-other : (l : Local) (x : Local × List Act) → isTrivia (token .kind) ≡ false → orElse l (seen source token) x ≡ x
+  unfolding seen
+  or-else-other l x e = go (eqb (token .kind) Whitespace) (eqb (token .kind) Comment) e _ _
     where
-      go : (p q : Bool) → (p || q) ≡ false → (x y z : List Act) → cond p x (cond q y z) ≡ z
+      go : (p q : Bool) → (p || q) ≡ false → (y z : Local × List Act) → cond p y (cond q z x) ≡ x
       go true q u = absurd (false≢true (sym u))
       go false true u = absurd (false≢true (sym u))
-      go false false u = λ x y z. refl
+      go false false u = λ y z. refl
+
+  pub other-trivia : isTrivia (token .kind) ≡ true
+      → emitOther (seen source token) ≡ emitTrivia (eqb (token .kind) Whitespace) (tokenText source (token .start) (token .end))
+  other-trivia e = sym (or-else-acts (flagged false) (seen source token)) ∙ ap (λ (x : Local × List Act). x .1) (or-else-trivia (flagged false) _ e)
+
+  pub other-token : isTrivia (token .kind) ≡ false → emitOther (seen source token) ≡ emitToken (seen source token)
+  other-token e = sym (or-else-acts (flagged false) (seen source token)) ∙ ap (λ (x : Local × List Act). x .1) (or-else-other (flagged false) _ e)
+
+-- the same in a routine with local variables
+module _ {config : FormatConfig} {source : Text} {token : Head} {l : Local} {c : FormatterContext} {xs ys : List ℕ} where
+  pub trivia-done : {r : FormatterContext} → isTrivia (token .kind) ≡ true
+      → Acted 3 config source token (emitTrivia (eqb (token .kind) Whitespace) (tokenText source (token .start) (token .end))) c xs r ys
+      → TriviaDone config source l token c xs (record { context = r; local = l }) ys
+  trivia-done e d =
+      record {
+        all =
+            λ other.
+            let w = or-else-trivia source token l (other l (seen source token)) e in
+            record { acted = acted 4 _ (omega arith) (ap (λ (x : Local × List Act). x .1) w) d; local = sym (ap (λ (x : Local × List Act). x .0) w) };
+      }
+
+  pub other-done : {a : Arm} (other : Local → Seen → Local × List Act) → isTrivia (token .kind) ≡ false → TokenDone config source other l token c xs a ys
+      → TokenDone config source (λ k t. orElse k t (other k t)) l token c xs a ys
+  other-done other e d =
+      let w = or-else-other source token l (other l (seen source token)) e in
+      record { acted = acted 4 _ (omega arith) (ap (λ (x : Local × List Act). x .1) w) (d .acted); local = d .local ∙ sym (ap (λ (x : Local × List Act). x .0) w) }
 
 other-w : isOperator Whitespace ≡ false
 unfolding isOperator

@@ -1,9 +1,10 @@
 -- What the functions of this crate ask and promise. Assumes nothing: these are definitions.
 use Prim.Native.Nat.{ℕ, _≤_}
 use mathlib.Core.Path.{_≡_}
-use mathlib.Core.Bool.{Bool, cond}
+use mathlib.Core.Bool.{Bool, cond, _||_}
 use mathlib.Core.List.{List, [], _∷_, map}
 use lib.ListN.{length}
+use lib.Dec.{eqb}
 use Rattle.basics.specs.Match.{match}
 use Rattle.context.specs.Cells.{Text}
 use Rattle.context.specs.Store.{Store, Room, Spent}
@@ -14,6 +15,7 @@ use Rattle.tape.specs.declared.Head.{Head}
 use Rattle.layout.specs.declared.Local.{Local}
 use Rattle.layout.specs.Arms.{Spacing, Act, Seen, seen}
 use Rattle.layout.specs.Tokens.{noteSkippedWhitespace, emitComment, emitToken}
+use Rattle.layout.specs.Routines.{orElse}
 use Rattle.layout.specs.Calls.{Call, on}
 use Rattle.layout.specs.Run.{runSpacing, run}
 use Rattle.tokens.specs.declared.Arm.{Arm}
@@ -51,9 +53,17 @@ pub record TokenDone (config : FormatConfig) (source : Text) (atToken : Local �
   pub acted : Acted 4 config source token ((atToken l (seen source token)) .1) c xs (a .context) ys
   pub local : a .local ≡ (atToken l (seen source token)) .0
 
+-- white space or a comment was dealt with, whatever the routine does at other tokens
+pub record TriviaDone (config : FormatConfig) (source : Text) (l : Local) (token : Head) (c : FormatterContext) (xs : List ℕ) (a : Arm) (ys : List ℕ) : Type 0 where
+  pub all : (other : Local → Seen → Local × List Act) → TokenDone config source (λ k t. orElse k t (other k t)) l token c xs a ys
+
 -- the arms of a routine without a comment arm, but for its own
 unfoldable pub emitUncommented : Seen → List Act
 emitUncommented t = match (t .kind) ((Kinds.Whitespace, noteSkippedWhitespace (t .bytes)) ∷ []) (emitToken t)
+
+-- white space or a comment
+abbrev pub isTrivia : ℕ → Bool
+isTrivia k = eqb k Kinds.Whitespace || eqb k Kinds.Comment
 
 -- white space, or a comment
 abbrev pub emitTrivia : Bool → List ℕ → List Act

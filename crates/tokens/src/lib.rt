@@ -9,7 +9,7 @@ use layout::PrevKind;
 use tape::Head;
 use tape::syntax_kind;
 ghost use mathlib.Core.Path.{_≡_};
-ghost use mathlib.Core.Bool.{not, _&&_, _||_};
+ghost use mathlib.Core.Bool.{not, true, _&&_};
 ghost use mathlib.Core.List.{[], _∷_};
 ghost use Prim.Native.Nat.{_≤_};
 ghost use lib.ListN.{length};
@@ -17,12 +17,12 @@ ghost use Rattle.context.specs.Store.{Room};
 ghost use lib.Dec.{eqb};
 ghost use Rattle.context.specs.Cells.{tokenText};
 ghost use Rattle.keywords.specs.Words.{isKeyword, isValueKeyword};
-ghost use Rattle.tape.specs.Kinds.{BareWord, Comment, Whitespace};
+ghost use Rattle.tape.specs.Kinds.{BareWord, Whitespace};
 ghost use Rattle.layout.specs.Arms.{blankLine, blankLineBeforeComment, keyword, lineOrSpace, seen, text};
 ghost use Rattle.layout.specs.Calls.{formatErrorVerbatim};
 ghost use Rattle.layout.specs.Routines.{nameBefore, spaceAfter, spaceIf};
 ghost use Rattle.layout.specs.Tokens.{emitComment, emitOther, emitToken, isLineComment, isOperator, noSpaceAfter, noSpaceBefore, noteSkippedWhitespace};
-ghost use Rattle.tokens.specs.Promise.{Acted, Ran, Silent, Spaced, TokenReady, emitTrivia, emitUncommented};
+ghost use Rattle.tokens.specs.Promise.{Acted, Ran, Silent, Spaced, TokenReady, TriviaDone, emitTrivia, emitUncommented, isTrivia};
 
 // After a token: the context, and the routine's local variables.
 pub struct Arm {
@@ -273,13 +273,32 @@ pub fn emit_trivia(
     emit_comment(source, config, out, ctx, token)
 }
 
-fn is_trivia(kind: u16) -> bool
-    ensures { λ r. ⌜ r ≡ (eqb kind Whitespace || eqb kind Comment) ⌝ }
+pub fn is_trivia(kind: u16) -> bool
+    ensures { λ r. ⌜ r ≡ isTrivia kind ⌝ }
 {
     if kind == syntax_kind::WHITESPACE {
         return true;
     }
     kind == syntax_kind::COMMENT
+}
+
+// White space and comments in a routine with local variables, which stay as they are.
+pub fn trivia_token(
+    source: &[u8],
+    config: FormatConfig,
+    out: &mut [u8],
+    ctx: FormatterContext,
+    local: Local,
+    token: Head,
+) -> Arm
+    requires { ⌜ TokenReady 3 (now source) config token ctx × (isTrivia (token .kind) ≡ true) ⌝ }
+    ensures { λ r. ⌜ TriviaDone config (now (source .entry)) local token ctx (now (out .entry)) r (now (out .exit)) ⌝ }
+{
+    let a = emit_trivia(source, config, out, ctx, token);
+    Arm {
+        context: a,
+        local: local,
+    }
 }
 
 // The arms that most routines share: white space, comments, and any other token.

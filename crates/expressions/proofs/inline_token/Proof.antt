@@ -1,34 +1,26 @@
 -- `inline_token` meets its contract. Assumes nothing.
 use borrow.Author.Needs.{needs}
 use native.Mathlib.Omega.{arith}
-use mathlib.Core.Path.{refl}
-use borrow.Author.Tests.{ne-eqb}
-use Rattle.tokens.proofs.Choices.{as-spaced, spaced-as}
+use mathlib.Core.Path.{refl, sym, _∙_}
+use Rattle.tokens.proofs.Choices.{as-spaced, spaced-as, other-done}
 use Rattle.tokens.proofs.Runs.{acted, as-acts, then}
 use Rattle.layout.specs.Arms.{seen}
 use Rattle.layout.specs.Routines.{inlineToken}
 use Rattle.expressions.proofs.inline_token.Statement.{statement}
 use Rattle.expressions.proofs.inline_token.Tie as tie
 
-note-requires : tie.Need-note-requires
-note-requires c κs = search needs
+is-trivia-requires : tie.Need-is-trivia-requires
+is-trivia-requires c κs = search needs
+
+trivia-token-requires : tie.Need-trivia-token-requires
+trivia-token-requires c κs = (search needs, sym (c .before .before .is-trivia .ensures) ∙ c .before .if1 .taken)
 
 same-length : tie.Need-same-length
 same-length c = search needs
 
 returns : tie.Need-returns
-unfolding inlineToken seen
-returns c = record { acted = acted 4 _ (omega arith) (rw (c .before .before .before .before .if1 .taken)) (c .before .before .note .ensures); local = rw (c .before .before .before .before .if1 .taken) }
-
-emit-comment-requires : tie.Need-emit-comment-requires
-emit-comment-requires c κs = search needs
-
-same-length-2 : tie.Need-same-length-2
-same-length-2 c = search needs
-
-returns-2 : tie.Need-returns-2
-unfolding inlineToken seen
-returns-2 c = record { acted = acted 4 _ (omega arith) (rw (c .before .before .before .before .if2 .taken)) (c .before .before .emit-comment .ensures); local = rw (c .before .before .before .before .if2 .taken) }
+unfolding inlineToken
+returns c = c .before .before .trivia-token .ensures .all _
 
 space-between-requires : tie.Need-space-between-requires
 space-between-requires c κs = search needs
@@ -39,25 +31,28 @@ space-if-requires c κs = search needs
 emit-token-requires : tie.Need-emit-token-requires
 emit-token-requires c κs = search needs
 
-same-length-3 : tie.Need-same-length-3
-same-length-3 c = search needs
+same-length-2 : tie.Need-same-length-2
+same-length-2 c = search needs
 
-returns-3 : tie.Need-returns-3
+returns-2 : tie.Need-returns-2
 unfolding inlineToken seen
-returns-3 c = record { acted = acted 4 _ (omega arith) (rw (ne-eqb _ _ (c .before .before .before .before .before .before .before .before .if1 .left), ne-eqb _ _ (c .before .before .before .before .before .before .if2 .left)) (spaced-as _ _ _ (c .before .before .before .before .before .space-between .ensures))) (then (as-acts (as-spaced (c .before .before .before .before .space-if .ensures))) (c .before .before .emit-token .ensures)); local = rw (ne-eqb _ _ (c .before .before .before .before .before .before .before .before .if1 .left), ne-eqb _ _ (c .before .before .before .before .before .before .if2 .left)) refl }
+returns-2 c =
+    other-done _ (sym (c .before .before .before .before .before .before .before .is-trivia .ensures) ∙ c .before .before .before .before .before .before .if1 .left)
+    (record {
+      acted = acted 4 _ (omega arith) (spaced-as _ _ _ (c .before .before .before .before .before .space-between .ensures)) (then (as-acts (as-spaced (c .before .before .before .before .space-if .ensures))) (c .before .before .emit-token .ensures));
+      local = refl;
+    })
 
 pub inline-token-spec : {M : Type 1} → statement M
 inline-token-spec =
     tie.close
     (tie.spec
-    note-requires
+    is-trivia-requires
+    trivia-token-requires
     same-length
     returns
-    emit-comment-requires
-    same-length-2
-    returns-2
     space-between-requires
     space-if-requires
     emit-token-requires
-    same-length-3
-    returns-3)
+    same-length-2
+    returns-2)
