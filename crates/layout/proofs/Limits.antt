@@ -1,5 +1,5 @@
 -- The limits of a whole call: what both calls answer at each, and one past it.
-use Prim.Native.Nat.{ℕ, _≤_, _<_}
+use Prim.Native.Nat.{ℕ, _+_, _*_, _≤_, _<_}
 use native.Mathlib.Omega.{arith}
 use mathlib.Core.Path.{_≡_, refl, ap}
 use mathlib.Core.List.{List, [], _++_}
@@ -9,11 +9,11 @@ use Rattle.context.specs.Context.{writeNewline, takePendingBlankLine, finish}
 use Rattle.context.specs.Trim.{trim}
 use Rattle.tape.specs.declared.Fault.{Fault}
 use Rattle.tape.specs.Faults.{number}
-use Rattle.tape.specs.Tree.{hasChild, countListItems, copied}
-use Rattle.tape.specs.Tape.{refused, headAt}
+use Rattle.tape.specs.Tree.{Tree, hasChild, countListItems, copied}
+use Rattle.tape.specs.Tape.{refused, got, headAt}
 use Rattle.tape.specs.Call.{readCall}
 use Rattle.tape.specs.SmallInputs.{file, close}
-use Rattle.tape.proofs.Limits.{nested, text-accepted, text-refused, tape-refused, nodes-accepted, nodes-refused}
+use Rattle.tape.proofs.Limits.{manyWords, nested, text-accepted, text-refused, tape-accepted, tape-refused, nodes-accepted, nodes-refused}
 use Rattle.layout.specs.Routines.{formatFile}
 use Rattle.layout.specs.FormatNode.{armsOf, routines, routineOf, formatNode}
 use Rattle.layout.specs.Calls.{walk, calls}
@@ -31,6 +31,12 @@ pub refused-answered : (v : Version) (width case : ℕ) (text tape : List ℕ) {
 unfolding outcome measured laidOut
 refused-answered v width case text tape e = record { measuring = rw e; laying-out = λ space. rw e }
 
+-- one that is accepted is measured
+accepted-measured : (v : Version) (width case : ℕ) (text tape : List ℕ) {t : Tree} {p : ℕ} → readCall width case text tape ≡ got t p
+    → (measured (outcome v width case text tape)) .number ≡ 0
+unfolding outcome measured
+accepted-measured v width case text tape e = rw e
+
 empty-answered : (o : Outcome) → o ≡ laid [] → Answered o 0 0
 unfolding measured laidOut
 empty-answered o e = record { measuring = rw e; laying-out = λ space. rw (e, le-leb 0 (length space) (omega arith)) }
@@ -44,7 +50,10 @@ text-laid-out n h = empty-answered _ (ap (λ r. ofRead r (format original (confi
 pub text-too-long : (n : ℕ) (tape : List ℕ) → 262144 < n → Answered (outcome original 4 1 (replicate n 32) tape) 3 0
 text-too-long n tape h = refused-answered original 4 1 (replicate n 32) tape (text-refused n tape h)
 
--- ── the tape: 262,144 bytes; n closes
+-- ── the tape: 262,144 bytes; k words in three nodes, n closes
+
+pub tape-measured : (k : ℕ) → 36 + 11 * k ≤ 262144 → (measured (outcome original 4 1 [] (manyWords k))) .number ≡ 0
+tape-measured k h = accepted-measured original 4 1 [] (manyWords k) (tape-accepted k h)
 
 pub tape-too-long : (n : ℕ) → 262144 < n → Answered (outcome original 4 1 [] (replicate n 3)) 5 0
 tape-too-long n h = refused-answered original 4 1 [] (replicate n 3) (tape-refused n h)
