@@ -5,7 +5,7 @@ use Prim.Native.Nat.{ℕ, zero, suc, _+_, _-_, _≤_, _<_}
 use native.Mathlib.Omega.{arith}
 use native.Mathlib.Numerals.{add-one}
 use mathlib.Core.Path.{_≡_, refl, sym, ap, _∙_, subst}
-use mathlib.Core.Bool.{Bool, true, false, _||_}
+use mathlib.Core.Bool.{Bool, true, false, _||_, or-false}
 use mathlib.Core.List.{List}
 use lib.ListN.{length}
 use lib.Dec.{eqb}
@@ -61,10 +61,6 @@ endVerdict (faulty f) p = Refused f p
 endVerdict opens p = Refused NotOneRoot p
 endVerdict isToken p = Refused NotOneRoot p
 endVerdict closes p = Refused NotOneRoot p
-
-or-false : (a : Bool) → a || false ≡ a
-or-false true = refl
-or-false false = refl
 
 on-end : (tape : List ℕ) (h : Head) (r : Read Children)
     → verdict (andThen r (λ kids p. byEnd (commandAt tape p) (record { head = h; kids = kids }) p))
