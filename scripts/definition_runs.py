@@ -122,7 +122,7 @@ use mathlib.Core.List.{List, [], _∷_, _++_}
 use lib.Dec.{T, eqb}
 USES
 use Rattle.layout.specs.declared.Answer.{Answer}
-use Rattle.layout.specs.Outcome.{Outcome, measured, Result}
+use Rattle.layout.specs.Outcome.{Outcome, Result}
 use Rattle.layout.specs.CourseSheet.{lowBytes}
 
 abbrev is : Answer → ℕ → ℕ → Bool
@@ -145,7 +145,7 @@ every (b ∷ bs) = b && every bs
 pub answered : T (every (
 ROWS
     []))
-UNFOLDING measured
+UNFOLDING
 answered = tt
 """
 
