@@ -1,5 +1,5 @@
 -- The desk's program: how a job is read, and what is printed for it. Assumes nothing.
-use Prim.Native.Nat.{ℕ, zero, suc, _+_, _*_, _-_, _/_, _%_}
+use Prim.Native.Nat.{ℕ, zero, suc, _+_, _-_, _/_, _%_}
 use mathlib.Core.Bool.{Bool, cond, not, _&&_}
 use mathlib.Core.List.{List, [], _∷_, _++_}
 use lib.ListN.{length, getD, take, drop}
@@ -7,6 +7,7 @@ use lib.Dec.{leb, ltb, eqb}
 use Rattle.context.specs.Cells.{bytesOf}
 use Rattle.keywords.specs.Words.{bytes}
 use Rattle.tape.specs.Faults.{number}
+use Rattle.tape.specs.Tape.{u32At}
 use Rattle.layout.specs.Layout.{original}
 use Rattle.layout.specs.Outcome.{Outcome, refusal, laid, outcome}
 use Rattle.desk_job.specs.declared.Header.{Header}
@@ -16,9 +17,9 @@ use Rattle.desk_job.specs.declared.Header.the-variants.{Refused, Accepte
 unfoldable pub hasCommand : List ℕ → ℕ → ℕ → ℕ → Bool
 hasCommand job at end command = leb end (length job) && eqb (getD job at 0) command
 
--- the text's length, low byte first, stands at 5, and the text begins at 9
+-- the text's length stands at 5, and the text begins at 9
 unfoldable pub textEnd : List ℕ → ℕ
-textEnd job = 9 + getD job 5 0 + 256 * getD job 6 0 + 65536 * getD job 7 0 + 16777216 * getD job 8 0
+textEnd job = 9 + u32At job 5
 
 -- `more`: the input goes on after the job's bytes; a text cut short is its command cut short
 unfoldable pub readHeader : Bool → List ℕ → Header

@@ -2,6 +2,7 @@
 pub mod write;
 
 use formatter::layout;
+use tape::commands::u32_at;
 use write::put_all;
 use write::put_decimal;
 ghost use mathlib.Core.Path.{_≡_};
@@ -40,11 +41,7 @@ fn text_end(job: &[u8]) -> usize
     requires { ⌜ 9 ≤ length (now job) ⌝ }
     ensures { λ r. ⌜ r ≡ textEnd (now (job .entry)) ⌝ }
 {
-    9
-        + job[5] as usize
-        + 256 * (job[6] as usize)
-        + 65536 * (job[7] as usize)
-        + 16777216 * (job[8] as usize)
+    9 + u32_at(job, 5) as usize
 }
 
 // `more`: whether the input goes on after the job's bytes.

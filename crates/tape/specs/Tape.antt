@@ -17,10 +17,10 @@ use Rattle.tape.specs.Tree.{Children, done, token, node, Tree, hasError}
 
 -- the number of two, of four bytes at a place, low byte first
 abbrev pub u16At : List ℕ → ℕ → ℕ
-u16At tape p = getD tape p 0 + 256 * getD tape (p + 1) 0
+u16At bytes p = getD bytes p 0 + 256 * getD bytes (p + 1) 0
 
 abbrev pub u32At : List ℕ → ℕ → ℕ
-u32At tape p = u16At tape p + 65536 * u16At tape (p + 2)
+u32At bytes p = u16At bytes p + 65536 * u16At bytes (p + 2)
 
 -- the operands of the open or the token at p
 unfoldable pub headAt : List ℕ → ℕ → Head

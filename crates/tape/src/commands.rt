@@ -9,18 +9,20 @@ ghost use lib.ListN.{length};
 ghost use Rattle.tape.specs.Kinds.{notCarried};
 ghost use Rattle.tape.specs.Tape.{u16At, u32At, headAt, checkOpen, checkToken};
 
-pub(crate) fn u16_at(tape: &[u8], at: usize) -> u16
-    requires { ⌜ at + 2 ≤ length (now tape) ⌝ }
-    ensures { λ r. ⌜ r ≡ u16At (now (tape .entry)) at ⌝ }
+// The number of two bytes at a place, for the tape and for what stores numbers in the same way.
+pub fn u16_at(bytes: &[u8], at: usize) -> u16
+    requires { ⌜ at + 2 ≤ length (now bytes) ⌝ }
+    ensures { λ r. ⌜ r ≡ u16At (now (bytes .entry)) at ⌝ }
 {
-    tape[at] as u16 + 256 * (tape[at + 1] as u16)
+    bytes[at] as u16 + 256 * (bytes[at + 1] as u16)
 }
 
-fn u32_at(tape: &[u8], at: usize) -> u32
-    requires { ⌜ at + 4 ≤ length (now tape) ⌝ }
-    ensures { λ r. ⌜ r ≡ u32At (now (tape .entry)) at ⌝ }
+// The same of four bytes.
+pub fn u32_at(bytes: &[u8], at: usize) -> u32
+    requires { ⌜ at + 4 ≤ length (now bytes) ⌝ }
+    ensures { λ r. ⌜ r ≡ u32At (now (bytes .entry)) at ⌝ }
 {
-    u16_at(tape, at) as u32 + 65536 * (u16_at(tape, at + 2) as u32)
+    u16_at(bytes, at) as u32 + 65536 * (u16_at(bytes, at + 2) as u32)
 }
 
 // The operands of the open or the token at `at`, which must be whole.
