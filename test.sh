@@ -6,22 +6,29 @@
 #     sh test.sh quick    for every day: proves what changed, tries no must-fail edit, and runs the rest
 set -eu
 cd "$(dirname "$0")"
+case ${1:-} in
+'' | quick) ;;
+*)
+    echo "usage: sh test.sh [quick]"
+    exit 2
+    ;;
+esac
 
-# Runs a command. The first that fails is named in the last line.
+# Runs a command. Where it fails, the last line says so.
 run() {
     "$@" || { echo "FAILED: $*"; exit 1; }
 }
 
-# Proves everything from nothing. The last line of rt ci is kept for the end, unless it tells of a failure.
+# Proves everything from nothing, and keeps rt's last line for the end.
 prove_from_nothing() {
     kept=$(mktemp -d)
     trap 'rm -rf "$kept"' EXIT
     { rt ci && : >"$kept/passed"; } | tee "$kept/printed" | sed '$d'
     verdict=$(tail -n 1 "$kept/printed")
-    [ -f "$kept/passed" ] || { echo "$verdict"; exit 1; }
+    [ -f "$kept/passed" ] || { echo "$verdict"; echo "FAILED: rt ci"; exit 1; }
 }
 
-# A comparison with the source needs it, so it is asked for before anything that takes long.
+# The source is asked for first: a run that compares nothing with it is no pass, unless the caller wants it so.
 compared=yes
 if ! cargo run --offline --quiet --manifest-path rust/Cargo.toml --bin oracle source; then
     compared=no
@@ -31,21 +38,15 @@ if ! cargo run --offline --quiet --manifest-path rust/Cargo.toml --bin oracle so
     fi
 fi
 
-case ${1:-} in
-'') prove_from_nothing ;;
-quick)
+if [ "${1:-}" = quick ]; then
     run rt check
-    verdict='quick: passed, with no must-fail edit tried; the verdict is that of `sh test.sh`'
-    ;;
-*)
-    echo "usage: sh test.sh [quick]"
-    exit 2
-    ;;
-esac
-
+    verdict="quick: passed; no must-fail edit was tried, and the verdict is that of \`sh test.sh\`"
+else
+    prove_from_nothing
+fi
 run sh scripts/static_libraries.sh
-for program in scripts/*_runs.sh; do
-    run sh "$program"
+for stored in scripts/*_runs.sh; do
+    run sh "$stored"
 done
 run cargo test --offline --quiet --manifest-path rust/Cargo.toml --workspace
 run sh scripts/examples.sh
