@@ -18,7 +18,7 @@
  *
  * Nothing of this is asked beforehand: the calls check it, and what is wrong is refused. The caller answers for the memory alone:
  *
- *   - each pointer is valid for its length, and not null, even where the length is 0
+ *   - each pointer is valid for its length; at length 0 it may be null, since nothing is read or written through it
  *   - `out` overlaps neither `text` nor `tape`; during the call nobody else touches `out` or writes to the other two
  *
  * What comes out

@@ -1,17 +1,20 @@
 #!/bin/sh
-# Proves the two libraries that C and Rust link and writes them to target/staticlib. In a copy of the crates, so that it can run beside
-# another rt: two of them in one target/ would write over each other's files.
+# Writes the two libraries that C and Rust link to target/staticlib. One that is there already, made from its crate as it was last proved,
+# stays: `rt staticlib` proves the crate once more. Needs `rt check` first.
 set -eu
 cd "$(dirname "$0")/.."
-copy=target/libraries
-rm -rf "$copy"
-mkdir -p "$copy/target" target/staticlib
-cp -R crates crates.txt "$copy"
-for proved in rlib stamp; do
-    if [ -d "target/$proved" ]; then cp -R "target/$proved" "$copy/target"; fi
-done
+
+# What a library was made from, and what it is.
+made() { # NAME
+    cat "target/stamp/$1" && sha256sum "target/staticlib/lib$1.a"
+}
+
 for library in keywords formatter; do
-    (cd "$copy" && rt staticlib "$library")
-    cp "$copy/target/staticlib/lib$library.a" target/staticlib
+    kept=target/staticlib/$library.made
+    if made "$library" 2>/dev/null | cmp -s - "$kept"; then
+        echo "static library $library: made before"
+    else
+        rt staticlib "$library"
+        made "$library" >"$kept"
+    fi
 done
-rm -rf "$copy"

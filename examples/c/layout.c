@@ -118,15 +118,17 @@ static void print_layout(const char *query, const struct tape *tape)
     if (answer.number != QDESK_ACCEPTED) {
         return;
     }
-    /* One byte more, since an empty layout needs none and `out` may not be null. */
-    uint8_t *out = (uint8_t *)malloc(answer.value + 1);
-    if (out == NULL) {
+    /* An empty layout needs no space: malloc may then return null, and `out` may be null. */
+    uint8_t *out = (uint8_t *)malloc(answer.value);
+    if (out == NULL && answer.value > 0) {
         fputs("layout: no memory\n", stderr);
         exit(1);
     }
     answer = lay_out(query, tape, out, answer.value);
     print_answer("laying out", answer);
-    printf("\n%.*s\n", (int)answer.value, (const char *)out);
+    putchar('\n');
+    fwrite(out, 1, answer.value, stdout);
+    putchar('\n');
     free(out);
 }
 

@@ -91,23 +91,6 @@ pub fn missing() -> Option<&'static str> {
     None
 }
 
-/// Whether a comparison may run; where not, says so in one line that the test runner does not swallow.
-pub fn at_hand_for(test: &str) -> bool {
-    says_skipped(test, missing())
-}
-
-/// The same for a test that needs the libraries alone.
-pub fn library_at_hand_for(test: &str) -> bool {
-    says_skipped(test, (!AT_HAND).then_some(HINT))
-}
-
-fn says_skipped(test: &str, missing: Option<&str>) -> bool {
-    use std::io::Write;
-    let Some(missing) = missing else { return true };
-    let _ = std::io::stderr().write_all(format!("skipped {test}: {missing}\n").as_bytes());
-    false
-}
-
 /// The middle one of the times.
 pub fn median(mut times: Vec<f64>) -> f64 {
     times.sort_by(f64::total_cmp);

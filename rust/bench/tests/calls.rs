@@ -6,7 +6,7 @@ use oracle::cases::Class;
 const SEED: u64 = 20;
 
 fn cases(test: &str, class: Class, count: u64) {
-    if !bench::at_hand_for(test) {
+    if !oracle::source::at_hand_for(test) {
         return;
     }
     for index in 0..count {

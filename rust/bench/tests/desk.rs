@@ -10,7 +10,9 @@ const SEED: u64 = 30;
 const JOBS: u64 = 2_000;
 
 fn program() -> PathBuf {
-    PathBuf::from(env!("CARGO_MANIFEST_DIR")).join("../../target/bin/desk")
+    let program = PathBuf::from(env!("CARGO_MANIFEST_DIR")).join("../../target/bin/desk");
+    assert!(program.is_file(), "target/bin/desk is not at hand: run `rt check desk` in the repository");
+    program
 }
 
 /// What the program prints for the job.
@@ -24,35 +26,14 @@ fn printed(job: &[u8]) -> Vec<u8> {
     output.stdout
 }
 
-/// Whether a test may run; where not, says so in one line that the test runner does not swallow.
-fn may_run(test: &str, needs_source: bool) -> bool {
-    let skipped = |why: &str| {
-        let _ = std::io::stderr().write_all(format!("skipped {test}: {why}\n").as_bytes());
-        false
-    };
-    if !program().is_file() {
-        return skipped("target/bin/desk is not at hand: run `rt check desk` in the repository");
-    }
-    if needs_source && !oracle::source::AT_HAND {
-        return skipped(oracle::source::HINT);
-    }
-    true
-}
-
 #[test]
 fn the_documents_job() {
-    if !may_run("the_documents_job", false) {
-        return;
-    }
     let job = [0x10, 4, 0x11, 1, 0x12, 1, 0, 0, 0, b'a', 1, 0, 0, 0, 0, 0, 0, 1, 0, 0, 0, 3];
     assert_eq!(printed(&job), b"a\n");
 }
 
 #[test]
 fn fourteen_at_each_of_its_places() {
-    if !may_run("fourteen_at_each_of_its_places", false) {
-        return;
-    }
     let header = [0x10, 4, 0x11, 1, 0x12, 0, 0, 0, 0];
     for (job, place) in [(&header[..1], 0), (&header[..3], 2), (&header[..8], 4)] {
         assert_eq!(printed(job), format!("refused 14 at {place}\n").into_bytes());
@@ -63,7 +44,7 @@ fn fourteen_at_each_of_its_places() {
 
 #[test]
 fn generated_jobs() {
-    if !may_run("generated_jobs", true) {
+    if !oracle::source::at_hand_for("generated_jobs") {
         return;
     }
     for index in 0..JOBS {

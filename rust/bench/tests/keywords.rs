@@ -13,7 +13,7 @@ fn compare(word: &[u8]) {
 
 #[test]
 fn every_word_of_at_most_two_bytes() {
-    if !bench::at_hand_for("every_word_of_at_most_two_bytes") {
+    if !source::at_hand_for("every_word_of_at_most_two_bytes") {
         return;
     }
     compare(&[]);
@@ -27,7 +27,7 @@ fn every_word_of_at_most_two_bytes() {
 
 #[test]
 fn every_entry_in_every_mix_of_cases() {
-    if !bench::at_hand_for("every_entry_in_every_mix_of_cases") {
+    if !source::at_hand_for("every_entry_in_every_mix_of_cases") {
         return;
     }
     for word in source::keywords() {
@@ -40,7 +40,7 @@ fn every_entry_in_every_mix_of_cases() {
 
 #[test]
 fn every_entry_with_one_byte_changed_removed_or_added() {
-    if !bench::at_hand_for("every_entry_with_one_byte_changed_removed_or_added") {
+    if !source::at_hand_for("every_entry_with_one_byte_changed_removed_or_added") {
         return;
     }
     for word in source::keywords() {
@@ -62,7 +62,7 @@ fn every_entry_with_one_byte_changed_removed_or_added() {
 
 #[test]
 fn random_words() {
-    if !bench::at_hand_for("random_words") {
+    if !source::at_hand_for("random_words") {
         return;
     }
     let mut random = Random::of(1, 0, 0);
@@ -80,10 +80,6 @@ fn random_words() {
 /// The port takes any bytes: one above 127 is no letter.
 #[test]
 fn a_byte_above_127_makes_no_keyword() {
-    if !bench::AT_HAND {
-        bench::at_hand_for("a_byte_above_127_makes_no_keyword");
-        return;
-    }
     for byte in 128..=255 {
         for word in [[byte, b'Y'], [b'B', byte]] {
             assert!(!bench::is_keyword(&word), "{word:?}");

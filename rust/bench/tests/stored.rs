@@ -7,9 +7,6 @@ const LIST: &[u8] = include_bytes!("../../../vectors/vectors.bin");
 
 #[test]
 fn the_stored_list() {
-    if !bench::library_at_hand_for("the_stored_list") {
-        return;
-    }
     let records = read(LIST).expect("a whole list");
     assert!(!records.is_empty());
     for (place, record) in records.iter().enumerate() {

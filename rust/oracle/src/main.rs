@@ -14,6 +14,7 @@ const USAGE: &str = "usage: oracle case SEED CLASS INDEX            prints a cas
        oracle arms                             prints the arms of the source's routines, which vectors name
        oracle job < FILE                       answers a job as the desk's program does
        oracle stored < FILE                    writes the stored list of the calls that FILE names, a line each
+       oracle source                           says whether the source is at hand, which all of these need
 CLASS is parser, wild, damaged, jobs, masked, limits or small; the others are numbers from 0 to 2^64-1";
 
 fn main() -> ExitCode {
@@ -35,6 +36,7 @@ fn run(arguments: &[&str]) -> Result<Vec<u8>, String> {
         ["case", seed, class, index] => print_case(seed, class, index).map(String::into_bytes),
         ["vectors", seed, class, first, count] => print_vectors(seed, class, first, count).map(String::into_bytes),
         ["arms"] => print_arms().map(String::into_bytes),
+        ["source"] => source_at_hand().map(|()| b"the source is at hand\n".to_vec()),
         _ => Err(USAGE.to_string()),
     }
 }

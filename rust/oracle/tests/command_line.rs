@@ -43,6 +43,15 @@ fn a_bad_call_gets_a_message_and_status_2() {
     assert_bad_call(&["vectors", "0", "parser", "18446744073709551615", "1"], "pass the last index");
     assert_bad_call(&["arms", "parser"], "usage: oracle");
     assert_bad_call(&["stored", "file"], "usage: oracle");
+    assert_bad_call(&["source", "file"], "usage: oracle");
+}
+
+#[test]
+fn the_source_is_asked_for() {
+    needs_source!();
+    let output = oracle(&["source"], b"");
+    assert!(output.status.success());
+    assert_eq!(output.stdout, b"the source is at hand\n");
 }
 
 #[test]

@@ -30,8 +30,8 @@ extern "C" {
 }
 
 pub fn measure(text: &[u8], tape: &[u8], width: u64, case: u64) -> Answer {
-    // SAFETY: the function asks nothing of the bytes and numbers. Both pointers come from slices, so they are not null, even where a
-    // length is 0, and valid for reads of their lengths throughout the call; the function keeps neither.
+    // SAFETY: the function asks nothing of the bytes and numbers. Both pointers come from slices, so they are valid for reads of their
+    // lengths throughout the call; the function keeps neither.
     unsafe { qdesk_measure(text.as_ptr(), text.len(), tape.as_ptr(), tape.len(), width, case) }
 }
 

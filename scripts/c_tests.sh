@@ -1,0 +1,36 @@
+#!/bin/sh
+# Compiles and runs the C tests (tests/c) as C and as C++, without and with the compiler's checks of addresses and undefined behaviour, where
+# it has them. Needs scripts/static_libraries.sh first.
+set -eu
+cd "$(dirname "$0")/.."
+built=target/c_tests
+checks='-fsanitize=address,undefined -fno-sanitize-recover=all'
+mkdir -p "$built"
+echo 'int main(void) { return 0; }' >"$built/empty.c"
+runs=0
+
+# Compiles the test by this compiler with these words, and runs it.
+try() { # NAME COMPILER WORDS...
+    name=$1 compiler=$2
+    shift 2
+    "$compiler" "$@" -Wall -Wextra -Wpedantic -Werror -Iinclude "tests/c/$name.c" -x none target/staticlib/libformatter.a -o "$built/$name"
+    ASAN_OPTIONS=detect_leaks=0 "$built/$name"
+    runs=$((runs + 1))
+}
+
+# The same without and with the checks.
+try_both() { # NAME COMPILER WORDS...
+    try "$@"
+    # shellcheck disable=SC2086
+    if "$2" $checks "$built/empty.c" -o "$built/empty" 2>"$built/empty.log"; then
+        try "$@" $checks
+    else
+        echo "C tests: $2 has no $checks"
+    fi
+}
+
+for test in tests/c/*.c; do
+    try_both "$(basename "$test" .c)" "${CC:-cc}" -std=c11
+    try_both "$(basename "$test" .c)" "${CXX:-c++}" -x c++ -std=c++11
+done
+echo "C tests: $runs runs passed"
