@@ -1,5 +1,6 @@
 -- The three tables hold of the definition: the course sheet, the refusals' small inputs, and the pairs that show each condition of the
 -- masking rule needed. One computed test over each. Assumes nothing.
+use mathlib.Core.Bool.{_&&_}
 use lib.Dec.{T}
 use Rattle.keywords.specs.Names.{names}
 use Rattle.keywords.specs.Words.{words, same, listed}
@@ -16,16 +17,17 @@ use Rattle.layout.specs.Routines.{fileToken, formatFile, queryListToken,
 use Rattle.layout.specs.FormatNode.{armsOf, routines, routineOf, formatNode}
 use Rattle.layout.specs.Calls.{formatErrorVerbatim, walk, calls}
 use Rattle.layout.specs.Layout.{doSpacing, step, pieces, written, original, piecesOf, format}
-use Rattle.layout.specs.Outcome.{outcome, laidOut}
+use Rattle.layout.specs.Outcome.{outcome, measured, laidOut}
 use Rattle.layout.specs.CourseSheet.{courseSheet, allRight}
 use Rattle.layout.specs.SmallInputs.{smallInputs, allAnswered}
-use Rattle.layout.specs.MaskingNeeds.{pairs, needed, all}
+use Rattle.layout.specs.MaskingNeeds.{pairs, allNeeded, masked, meets, maskedLayouts}
 
 pub record Tables : Type 0 where
   pub sheet : T (allRight courseSheet)
   pub inputs : T (allAnswered smallInputs)
-  pub conditions : T (all needed pairs)
+  pub conditions : T (allNeeded pairs)
+  pub met : T (meets masked && maskedLayouts)
 
 pub tables : Tables
-unfolding names words same listed isWhiteSpace toUppercase toLowercase tokenText trim trimmedLength writeNewline lead writeToken writeKeyword writeSpace noteSkippedWhitespace takePendingNewline takePendingBlankLine indent dedent writeRaw finish kinds notCarried hasChild countListItems copied headAt commandAt checkOpen checkToken checkedAt readChildren readTree firstNonAscii readInput readCall seen noSpaceBefore noSpaceAfter isLineComment emitComment emitToken emitOther isOperator fileToken formatFile queryListToken formatQueryList selectStatementToken formatSelectStatement selectClauseToken formatSelectClause simpleClauseToken formatSimpleClause multiItem listClauseToken listClauseNode listClauseArms formatListClause joinClauseToken formatJoinClause formatSettingsClause formatWithClause commaListToken formatCommaList inlineCommaListToken formatInlineCommaList binaryToken formatBinaryExpression unaryToken formatUnaryExpression functionCallToken formatFunctionCall caseWord caseToken formatCaseExpression whenWord whenToken formatWhenClause subqueryToken formatSubquery parenListToken formatParenList bracketListToken formatBracketList braceListToken formatBraceList dataTypeToken formatDataType spaceAfter inlineNode nameBefore inlineTightParensToken formatInlineTightParens inlineToken formatInline formatInlineNoSpaces passthroughToken formatPassthrough alterCommandListToken formatAlterCommandList unionToken formatUnionClause armsOf routines routineOf formatNode formatErrorVerbatim walk calls doSpacing step pieces written original piecesOf format outcome laidOut courseSheet smallInputs pairs
-tables = record { sheet = tt; inputs = tt; conditions = tt }
+unfolding names words same listed isWhiteSpace toUppercase toLowercase tokenText trim trimmedLength writeNewline lead writeToken writeKeyword writeSpace noteSkippedWhitespace takePendingNewline takePendingBlankLine indent dedent writeRaw finish kinds notCarried hasChild countListItems copied headAt commandAt checkOpen checkToken checkedAt readChildren readTree firstNonAscii readInput readCall seen noSpaceBefore noSpaceAfter isLineComment emitComment emitToken emitOther isOperator fileToken formatFile queryListToken formatQueryList selectStatementToken formatSelectStatement selectClauseToken formatSelectClause simpleClauseToken formatSimpleClause multiItem listClauseToken listClauseNode listClauseArms formatListClause joinClauseToken formatJoinClause formatSettingsClause formatWithClause commaListToken formatCommaList inlineCommaListToken formatInlineCommaList binaryToken formatBinaryExpression unaryToken formatUnaryExpression functionCallToken formatFunctionCall caseWord caseToken formatCaseExpression whenWord whenToken formatWhenClause subqueryToken formatSubquery parenListToken formatParenList bracketListToken formatBracketList braceListToken formatBraceList dataTypeToken formatDataType spaceAfter inlineNode nameBefore inlineTightParensToken formatInlineTightParens inlineToken formatInline formatInlineNoSpaces passthroughToken formatPassthrough alterCommandListToken formatAlterCommandList unionToken formatUnionClause armsOf routines routineOf formatNode formatErrorVerbatim walk calls doSpacing step pieces written original piecesOf format outcome laidOut courseSheet smallInputs pairs masked measured
+tables = record { sheet = tt; inputs = tt; conditions = tt; met = tt }
