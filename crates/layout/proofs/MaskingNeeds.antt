@@ -14,11 +14,11 @@ use Rattle.tape.specs.Tape.{Read, refused, got, readTree}
 use Rattle.tape.specs.Call.{readInput, readCall}
 use Rattle.layout.specs.Layout.{original}
 use Rattle.layout.specs.Outcome.{outcome}
-use Rattle.layout.specs.Masking.{Differ, MaskedPair}
-use Rattle.layout.specs.MaskingTests.{Condition, sameLength, asciiTexts, noNewline, inSomeToken, strictlyInside, inQuotes, notCopied, noWhiteSpaceEnd, Asks, holds}
-use Rattle.layout.specs.MaskingNeeds.{Pair, space, Claim, claimed, conditions, ofTree, allHold, meets, masked, maskedLayouts, Broken, number, needed, allNeeded, pairs, Needed, EachNeeded}
+use Rattle.layout.specs.Masking.{Differ, MaskedPair, MaskedPairForLayout}
+use Rattle.layout.specs.MaskingTests.{Condition, sameLength, asciiTexts, noNewline, inSomeToken, strictlyInside, inQuotes, notCopied, noWhiteSpaceEnd, Asks, holds, holdsForLayout}
+use Rattle.layout.specs.MaskingNeeds.{Pair, space, Claim, claimed, conditions, ofTree, allHold, meets, masked, meetsForLayout, maskedForLayout, Broken, number, needed, allNeeded, pairs, Needed, EachNeeded}
 use Rattle.layout.proofs.TwoCalls.{demand-3}
-use Rattle.layout.proofs.MaskingTests.{asked, says}
+use Rattle.layout.proofs.MaskingTests.{asked, asked-for-layout, says}
 use Rattle.layout.proofs.Tables.{tables}
 
 -- ── from the tests to the rule's words
@@ -52,27 +52,21 @@ of-tree f r t p u e = subst (λ (x : Read Tree). T (ofTree f x)) e u
 
 -- ── the pair that meets all conditions
 
-module _ (x : Pair) (u : T (meets x)) where
-  abbrev f : Tree → Bool
-  f = allHold (λ c. false) (x .first) (x .second) conditions
+-- what the tree that was read gives, whichever it is
+of-some : {A : Type 0} (f : Tree → Bool) (r : Read Tree) → T (ofTree f r) → ((t : Tree) → T (f t) → A) → A
+of-some f (refused y p) v g = absurd v
+of-some f (got t p) v g = g t v
 
+module _ (x : Pair) where
   abbrev call : Read Tree
   call = readCall 4 1 (x .first) (x .tape)
 
-  -- what the tree that was read gives, whichever it is
-  of-some : {A : Type 0} → ((t : Tree) → T (f t) → A) → A
-  of-some {A = A} g = go call u
-    where
-      go : (r : Read Tree) → T (ofTree f r) → A
-      go (refused y p) v = absurd v
-      go (got t p) v = g t v
-
-  meets-pair : MaskedPair 4 1 (x .first) (x .second) (x .tape)
-  meets-pair =
+  meets-pair : T (meets x) → MaskedPair 4 1 (x .first) (x .second) (x .tape)
+  meets-pair u =
       record {
-        sameLength = of-some (λ t v. asks t v sameLength);
-        asciiA = of-some (λ t v. asks t v asciiTexts .0);
-        asciiB = of-some (λ t v. asks t v asciiTexts .1);
+        sameLength = of-some f call u (λ t v. asks t v sameLength);
+        asciiA = of-some f call u (λ t v. asks t v asciiTexts .0);
+        asciiB = of-some f call u (λ t v. asks t v asciiTexts .1);
         rule =
             λ t p e.
             let v = of-tree f call t p u e in
@@ -86,11 +80,42 @@ module _ (x : Pair) (u : T (meets x)) where
             };
       }
     where
+      f : Tree → Bool
+      f = allHold (λ c. false) (x .first) (x .second) conditions
+
       asks : (t : Tree) → T (f t) → (c : Condition) → Asks c (x .first) (x .second) t
       asks t v c = all-asked (λ d. false) (x .first) (x .second) t v c refl
 
+  meets-pair-for-layout : T (meetsForLayout x) → MaskedPairForLayout 4 1 (x .first) (x .second) (x .tape)
+  meets-pair-for-layout u =
+      record {
+        sameLength = of-some f call u (λ t v. asked (x .first) (x .second) t sameLength (and-l (l t) (a t) (and-l (l t && a t) (h t) v)));
+        asciiA = of-some f call u (λ t v. ascii t v .0);
+        asciiB = of-some f call u (λ t v. ascii t v .1);
+        rule = λ t p e. asked-for-layout (x .first) (x .second) t (and-r (l t && a t) (h t) (of-tree f call t p u e));
+      }
+    where
+      l : Tree → Bool
+      l t = holds (x .first) (x .second) t sameLength
+
+      a : Tree → Bool
+      a t = holds (x .first) (x .second) t asciiTexts
+
+      h : Tree → Bool
+      h t = holdsForLayout (x .first) (x .second) t
+
+      f : Tree → Bool
+      f t = (l t && a t) && h t
+
+      ascii : (t : Tree) → T (f t) → Asks asciiTexts (x .first) (x .second) t
+      ascii t v = asked (x .first) (x .second) t asciiTexts (and-r (l t) (a t) (and-l (l t && a t) (h t) v))
+
 pub met : MaskedPair 4 1 (masked .first) (masked .second) (masked .tape)
-met = meets-pair masked (and-l (meets masked) maskedLayouts (tables .met))
+met = meets-pair masked (and-l (meets masked) (meetsForLayout maskedForLayout) (tables .met))
+
+-- the layout needs less, which another pair meets
+pub met-for-layout : MaskedPairForLayout 4 1 (maskedForLayout .first) (maskedForLayout .second) (maskedForLayout .tape)
+met-for-layout = meets-pair-for-layout maskedForLayout (and-r (meets masked) (meetsForLayout maskedForLayout) (tables .met))
 
 -- the two calls on it
 pub worked : Claim masked

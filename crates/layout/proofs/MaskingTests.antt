@@ -2,7 +2,7 @@
 use Prim.Native.Nat.{ℕ, zero, suc, _+_, _-_, _≤_, _<_}
 use native.Mathlib.Omega.{arith}
 use mathlib.Core.Path.{_≡_, refl, sym, _∙_, subst, ap}
-use mathlib.Core.Bool.{Bool, true, false, not, _&&_, _||_}
+use mathlib.Core.Bool.{Bool, true, false, not, cond, _&&_, _||_}
 use mathlib.Core.List.{List, [], _∷_}
 use lib.ListN.{length, getD, List·getD-eq-default}
 use lib.Dec.{T, T-not, not-T, eqb, leb, ltb, leb→le, ltb→lt, eqb→eq, eqb-refl, le→leb, lt→ltb}
@@ -17,8 +17,8 @@ use Rattle.tape.specs.Tree.{Children, done, token, node, Tree, copied, EachToke
 use Rattle.tape.specs.Call.{firstNonAscii}
 use Rattle.layout.specs.declared.Answer.{Answer}
 use Rattle.layout.specs.Outcome.{Outcome, measured, laidOut}
-use Rattle.layout.specs.Masking.{SomeToken, here, afterToken, within, afterNode, quoted, Holds, StrictlyInside, Differ, EndsInWhiteSpace, cellsAfter, SameLines, AlikeByLines}
-use Rattle.layout.specs.MaskingTests.{Condition, sameLength, asciiTexts, noNewline, inSomeToken, strictlyInside, inQuotes, notCopied, noWhiteSpaceEnd, Asks, eachToken, someToken, eachCopiedBelow, eachMasked, holdsPlace, isNowhere, holds, sameAnswer, cellLike, cellsLike, bothOrNeither, sameLines, alikeByLines}
+use Rattle.layout.specs.Masking.{SomeToken, here, afterToken, within, afterNode, OfCopied, EachReachedBelow, EachReachedCopy, quoted, Holds, StrictlyInside, Differ, EndsInWhiteSpace, MaskedForLayout, cellsAfter, SameLines, AlikeByLines}
+use Rattle.layout.specs.MaskingTests.{Condition, sameLength, asciiTexts, noNewline, inSomeToken, strictlyInside, inQuotes, notCopied, noWhiteSpaceEnd, Asks, eachToken, someToken, eachCopiedBelow, eachReachedBelow, eachMasked, holdsPlace, endsInWhiteSpace, isNowhere, holds, reachedHold, holdsForLayout, sameAnswer, cellLike, cellsLike, bothOrNeither, sameLines, alikeByLines}
 
 -- ── a test that says yes gives the condition
 
@@ -60,6 +60,25 @@ each-copied P f g (node h kids rest) t =
       each-copied P f g rest (and-r y z u),
     )
 
+of-copied : (t : Bool) (A B : Type 0) (x y : Bool) → (T x → A) → (T y → B) → T (cond t x y) → OfCopied t A B
+of-copied true A B x y f g u = f u
+of-copied false A B x y f g u = g u
+
+module _ (P : Head → Type 0) (f : Head → Bool) (g : (h : Head) → T (f h) → P h) where
+  each-reached : (c : Children) → T (eachReachedBelow f c) → EachReachedBelow P c
+  each-reached done t = tt
+  each-reached (token h rest) t = each-reached rest t
+  each-reached (node h kids rest) t =
+      let x = cond (copied (h .kind) kids) (f h) (eachReachedBelow f kids) in
+      let y = eachReachedBelow f rest in (
+        of-copied (copied (h .kind) kids) (P h) (EachReachedBelow P kids) (f h) (eachReachedBelow f kids) (g h) (each-reached kids) (and-l x y t),
+        each-reached rest (and-r x y t),
+      )
+
+  each-reached-copy : (t : Tree) → T (cond (copied (t .head .kind) (t .kids)) (f (t .head)) (eachReachedBelow f (t .kids))) → EachReachedCopy P t
+  each-reached-copy t =
+      of-copied (copied (t .head .kind) (t .kids)) (P (t .head)) (EachReachedBelow P (t .kids)) (f (t .head)) (eachReachedBelow f (t .kids)) (g (t .head)) (each-reached (t .kids))
+
 module _ (a b : Text) where
   each-masked : (f : ℕ → Bool) (n : ℕ) → T (eachMasked a b f n) → (p : ℕ) → p < n → Differ a b p → T (f p)
   each-masked f zero t p h d = absurd (omega arith)
@@ -93,6 +112,10 @@ module _ (a b : Text) where
 
   place-held : (p : ℕ) (h : Head) → T (holdsPlace p h) → Holds p h
   place-held p h t = (leb→le (h .start) p (and-l (leb (h .start) p) (ltb p (h .end)) t), ltb→lt p (h .end) (and-r (leb (h .start) p) (ltb p (h .end)) t))
+
+  no-white-space-end : (h : Head) → T (not (endsInWhiteSpace a h)) → EndsInWhiteSpace a h → ⊥
+  no-white-space-end h n e =
+      T-not (endsInWhiteSpace a h) n (and-i (ltb (h .start) (h .end)) (isWhiteSpace (getD a (h .end - 1) 0)) (lt→ltb (h .start) (h .end) (e .0)) (e .1))
 
   not-ten : (n : ℕ) → T (not (eqb n 10)) → n ≡ 10 → ⊥
   not-ten n t e = T-not (eqb n 10) t (rw e tt)
@@ -130,13 +153,33 @@ module _ (a b : Text) where
         each-copied (λ h. Holds p h → ⊥) (λ h. not (holdsPlace p h)) (λ h n i. T-not (holdsPlace p h) n (holds-place p h i)) (t .kids) (and-r x y v),
       )
   asked t noWhiteSpaceEnd u =
-      each-token (λ h. T (quoted h) → EndsInWhiteSpace a h → ⊥) (λ h. not (quoted h) || not (ltb (h .start) (h .end) && isWhiteSpace (getD a (h .end - 1) 0)))
-      (λ h v q e.
-      let x = ltb (h .start) (h .end) in
-      let y = isWhiteSpace (getD a (h .end - 1) 0) in
-      T-not (x && y) (if-so (quoted h) (not (x && y)) v q) (and-i x y (lt→ltb (h .start) (h .end) (e .0)) (e .1)))
+      each-token (λ h. T (quoted h) → EndsInWhiteSpace a h → ⊥) (λ h. not (quoted h) || not (endsInWhiteSpace a h))
+      (λ h v q. no-white-space-end h (if-so (quoted h) (not (endsInWhiteSpace a h)) v q))
       (t .kids)
       u
+
+  pub asked-for-layout : (t : Tree) → T (holdsForLayout a b t) → MaskedForLayout a b t
+  asked-for-layout t u =
+      let x = holds a b t strictlyInside in
+      let y = holds a b t inQuotes in
+      let f : ℕ → Bool = λ p. reachedHold p t in
+      let g : ℕ → Bool = λ p. eachToken (λ h. not (holdsPlace p h) || not (endsInWhiteSpace a h)) (t .kids) in
+      let z = eachMasked a b f (length a + length b) in
+      let w = eachMasked a b g (length a + length b) in
+      let uxy = and-l (x && y) (z && w) u in
+      let uzw = and-r (x && y) (z && w) u in
+      record {
+        strictlyInside = asked t strictlyInside (and-l x y uxy);
+        inQuotes = asked t inQuotes (and-r x y uxy);
+        notCopied =
+            λ p d. each-reached-copy (λ h. Holds p h → ⊥) (λ h. not (holdsPlace p h)) (λ h n i. T-not (holdsPlace p h) n (holds-place p h i)) t (at-masked f (and-l z w uzw) p d);
+        noWhiteSpaceEnd =
+            λ p d.
+            each-token (λ h. Holds p h → EndsInWhiteSpace a h → ⊥) (λ h. not (holdsPlace p h) || not (endsInWhiteSpace a h))
+            (λ h v k. no-white-space-end h (if-so (holdsPlace p h) (not (endsInWhiteSpace a h)) v (holds-place p h k)))
+            (t .kids)
+            (at-masked g (and-r z w uzw) p d);
+      }
 
   -- ── where the claim holds its test says yes
 

@@ -20,14 +20,15 @@ use Rattle.layout.specs.Layout.{doSpacing, step, pieces, written, origin
 use Rattle.layout.specs.Outcome.{outcome, measured, laidOut}
 use Rattle.layout.specs.CourseSheet.{courseSheet, allRight}
 use Rattle.layout.specs.SmallInputs.{smallInputs, allAnswered}
-use Rattle.layout.specs.MaskingNeeds.{pairs, allNeeded, masked, meets, maskedLayouts}
+use Rattle.layout.specs.MaskingNeeds.{pairs, allNeeded, masked, meets, maskedForLayout, meetsForLayout, maskedLayouts}
 
 pub record Tables : Type 0 where
   pub sheet : T (allRight courseSheet)
   pub inputs : T (allAnswered smallInputs)
   pub conditions : T (allNeeded pairs)
-  pub met : T (meets masked && maskedLayouts)
+  pub met : T (meets masked && meetsForLayout maskedForLayout)
+  pub layouts : T maskedLayouts
 
 pub tables : Tables
-unfolding names words same listed isWhiteSpace toUppercase toLowercase tokenText trim trimmedLength writeNewline lead writeToken writeKeyword writeSpace noteSkippedWhitespace takePendingNewline takePendingBlankLine indent dedent writeRaw finish kinds notCarried hasChild countListItems copied headAt commandAt checkOpen checkToken checkedAt readChildren readTree firstNonAscii readInput readCall seen noSpaceBefore noSpaceAfter isLineComment emitComment emitToken emitOther isOperator fileToken formatFile queryListToken formatQueryList selectStatementToken formatSelectStatement selectClauseToken formatSelectClause simpleClauseToken formatSimpleClause multiItem listClauseToken listClauseNode listClauseArms formatListClause joinClauseToken formatJoinClause formatSettingsClause formatWithClause commaListToken formatCommaList inlineCommaListToken formatInlineCommaList binaryToken formatBinaryExpression unaryToken formatUnaryExpression functionCallToken formatFunctionCall caseWord caseToken formatCaseExpression whenWord whenToken formatWhenClause subqueryToken formatSubquery parenListToken formatParenList bracketListToken formatBracketList braceListToken formatBraceList dataTypeToken formatDataType spaceAfter inlineNode nameBefore inlineTightParensToken formatInlineTightParens inlineToken formatInline formatInlineNoSpaces passthroughToken formatPassthrough alterCommandListToken formatAlterCommandList unionToken formatUnionClause armsOf routines routineOf formatNode formatErrorVerbatim walk calls doSpacing step pieces written original piecesOf format outcome laidOut courseSheet smallInputs pairs masked measured
-tables = record { sheet = tt; inputs = tt; conditions = tt; met = tt }
+unfolding names words same listed isWhiteSpace toUppercase toLowercase tokenText trim trimmedLength writeNewline lead writeToken writeKeyword writeSpace noteSkippedWhitespace takePendingNewline takePendingBlankLine indent dedent writeRaw finish kinds notCarried hasChild countListItems copied headAt commandAt checkOpen checkToken checkedAt readChildren readTree firstNonAscii readInput readCall seen noSpaceBefore noSpaceAfter isLineComment emitComment emitToken emitOther isOperator fileToken formatFile queryListToken formatQueryList selectStatementToken formatSelectStatement selectClauseToken formatSelectClause simpleClauseToken formatSimpleClause multiItem listClauseToken listClauseNode listClauseArms formatListClause joinClauseToken formatJoinClause formatSettingsClause formatWithClause commaListToken formatCommaList inlineCommaListToken formatInlineCommaList binaryToken formatBinaryExpression unaryToken formatUnaryExpression functionCallToken formatFunctionCall caseWord caseToken formatCaseExpression whenWord whenToken formatWhenClause subqueryToken formatSubquery parenListToken formatParenList bracketListToken formatBracketList braceListToken formatBraceList dataTypeToken formatDataType spaceAfter inlineNode nameBefore inlineTightParensToken formatInlineTightParens inlineToken formatInline formatInlineNoSpaces passthroughToken formatPassthrough alterCommandListToken formatAlterCommandList unionToken formatUnionClause armsOf routines routineOf formatNode formatErrorVerbatim walk calls doSpacing step pieces written original piecesOf format outcome laidOut courseSheet smallInputs pairs masked maskedForLayout measured
+tables = record { sheet = tt; inputs = tt; conditions = tt; met = tt; layouts = tt }

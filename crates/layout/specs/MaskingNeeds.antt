@@ -18,7 +18,7 @@ use Rattle.layout.specs.Layout.{original}
 use Rattle.layout.specs.Outcome.{Outcome, outcome}
 use Rattle.layout.specs.Masking.{AlikeByLines}
 use Rattle.layout.specs.CourseSheet.{root, tok, nod, tapeOf, isLaidOut}
-use Rattle.layout.specs.MaskingTests.{Condition, sameLength, asciiTexts, noNewline, inSomeToken, strictlyInside, inQuotes, notCopied, noWhiteSpaceEnd, Asks, holds, alikeByLines}
+use Rattle.layout.specs.MaskingTests.{Condition, sameLength, asciiTexts, noNewline, inSomeToken, strictlyInside, inQuotes, notCopied, noWhiteSpaceEnd, Asks, holds, holdsForLayout, alikeByLines}
 
 -- a pair of texts on a tape, which is called with width 4 and upper case in a space of 64 bytes
 pub record Pair : Type 0 where
@@ -78,11 +78,31 @@ masked =
           done));
     }
 
+-- what the layout needs is less: a masked place that lies in no token, a quoted token that ends in white space and holds none, and below a node
+-- that is copied as typed another that holds a masked place
+abbrev pub meetsForLayout : Pair → Bool
+meetsForLayout x = ofTree (λ t. (holds (x .first) (x .second) t sameLength && holds (x .first) (x .second) t asciiTexts) && holdsForLayout (x .first) (x .second) t) (readCall 4 1 (x .first) (x .tape))
+
+unfoldable pub maskedForLayout : Pair
+maskedForLayout =
+    record {
+      first = bytes "eq'a''b' ";
+      second = bytes "e*'*''b' ";
+      tape =
+          tapeOf
+          (root Kinds.File 0 9
+          (nod Kinds.FromClause 0 1 (nod Kinds.Error 0 1 (nod Kinds.Error 2 5 done done) done)
+          (nod Kinds.ColumnReference 2 5 (tok Kinds.StringToken 2 5 done)
+          (nod Kinds.ColumnReference 5 9 (tok Kinds.StringToken 5 9 done) done))));
+    }
+
 -- the layouts of both texts
 abbrev pub maskedLayouts : Bool
 maskedLayouts =
-    isLaidOut (bytes "SELECT\n    `ab`,\n    'cd'\nwhere  x\n") (outcome original 4 1 (masked .first) (masked .tape))
-    && isLaidOut (bytes "SELECT\n    `**`,\n    '**'\nwhere  x\n") (outcome original 4 1 (masked .second) (masked .tape))
+    (isLaidOut (bytes "SELECT\n    `ab`,\n    'cd'\nwhere  x\n") (outcome original 4 1 (masked .first) (masked .tape))
+    && isLaidOut (bytes "SELECT\n    `**`,\n    '**'\nwhere  x\n") (outcome original 4 1 (masked .second) (masked .tape)))
+    && (isLaidOut (bytes "e\n\n'a'\n\n'b'\n") (outcome original 4 1 (maskedForLayout .first) (maskedForLayout .tape))
+    && isLaidOut (bytes "e\n\n'*'\n\n'b'\n") (outcome original 4 1 (maskedForLayout .second) (maskedForLayout .tape)))
 
 -- ── pairs that meet all conditions but one
 

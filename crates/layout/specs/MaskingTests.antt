@@ -1,7 +1,7 @@
 -- What the masking rule asks and says, as tests that can be computed. That they are the rule's own words is proofs/MaskingTests.
 use Prim.Native.Nat.{ℕ, zero, suc, _+_, _-_}
 use mathlib.Core.Path.{_≡_}
-use mathlib.Core.Bool.{Bool, true, false, not, _&&_, _||_}
+use mathlib.Core.Bool.{Bool, true, false, not, cond, _&&_, _||_}
 use mathlib.Core.List.{List, [], _∷_}
 use lib.ListN.{length, getD}
 use lib.Dec.{T, eqb, leb, ltb}
@@ -48,6 +48,12 @@ eachCopiedBelow f done = true
 eachCopiedBelow f (token h rest) = eachCopiedBelow f rest
 eachCopiedBelow f (node h kids rest) = (not (copied (h .kind) kids) || f h) && (eachCopiedBelow f kids && eachCopiedBelow f rest)
 
+-- of each node that the layout copies, among the children and below
+abbrev pub eachReachedBelow : (Head → Bool) → Children → Bool
+eachReachedBelow f done = true
+eachReachedBelow f (token h rest) = eachReachedBelow f rest
+eachReachedBelow f (node h kids rest) = cond (copied (h .kind) kids) (f h) (eachReachedBelow f kids) && eachReachedBelow f rest
+
 -- f holds of each place below n where the texts differ
 abbrev pub eachMasked : Text → Text → (ℕ → Bool) → ℕ → Bool
 eachMasked a b f zero = true
@@ -55,6 +61,9 @@ eachMasked a b f (suc n) = (eqb (getD a n 0) (getD b n 0) || f n) && eachMasked 
 
 abbrev pub holdsPlace : ℕ → Head → Bool
 holdsPlace p h = leb (h .start) p && ltb p (h .end)
+
+abbrev pub endsInWhiteSpace : Text → Head → Bool
+endsInWhiteSpace a h = ltb (h .start) (h .end) && isWhiteSpace (getD a (h .end - 1) 0)
 
 abbrev pub isNowhere : Place → Bool
 isNowhere Nowhere = true
@@ -72,7 +81,17 @@ holds a b t notCopied =
     eachMasked a b
     (λ p. (not (copied (t .head .kind) (t .kids)) || not (holdsPlace p (t .head))) && eachCopiedBelow (λ h. not (holdsPlace p h)) (t .kids))
     (length a + length b)
-holds a b t noWhiteSpaceEnd = eachToken (λ h. not (quoted h) || not (ltb (h .start) (h .end) && isWhiteSpace (getD a (h .end - 1) 0))) (t .kids)
+holds a b t noWhiteSpaceEnd = eachToken (λ h. not (quoted h) || not (endsInWhiteSpace a h)) (t .kids)
+
+-- what the layout needs, as in `MaskedForLayout`
+abbrev pub reachedHold : ℕ → Tree → Bool
+reachedHold p t = cond (copied (t .head .kind) (t .kids)) (not (holdsPlace p (t .head))) (eachReachedBelow (λ h. not (holdsPlace p h)) (t .kids))
+
+abbrev pub holdsForLayout : Text → Text → Tree → Bool
+holdsForLayout a b t =
+    (holds a b t strictlyInside && holds a b t inQuotes)
+    && (eachMasked a b (λ p. reachedHold p t) (length a + length b)
+    && eachMasked a b (λ p. eachToken (λ h. not (holdsPlace p h) || not (endsInWhiteSpace a h)) (t .kids)) (length a + length b))
 
 -- ── the claim's test
 
