@@ -41,7 +41,6 @@ use Rattle.formatter.proofs.RoutineLaws.{USED}
 use Rattle.formatter.proofs.Walks.{USED}
 use Rattle.formatter.specs.Promise.{always}
 use Rattle.layout.specs.FormatNode.{armsOf}
-use Rattle.layout.specs.MaskingNeeds.{all}
 use Rattle.layout.specs.Routines.{USED}
 use Rattle.layout.specs.declared.Routine.the-variants as the-variants
 """

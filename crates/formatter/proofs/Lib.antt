@@ -3,4 +3,3 @@ pub mod Walks
 pub mod RoutineLaws
 pub mod Copied
 pub mod Entries
-pub mod Pairs

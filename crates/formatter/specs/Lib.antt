@@ -1,4 +1,3 @@
 -- What the routines, the dispatch and the calls ask and promise.
 pub mod Promise
 pub mod Entry
-pub mod Pair

@@ -1,6 +1,5 @@
 // Measuring and laying out: `format` of mod.rs, from bytes to an answer and a filled space.
 mod format;
-pub mod pair;
 
 use context::FormatConfig;
 use context::FormatterContext;
@@ -21,12 +20,6 @@ ghost use Rattle.formatter.specs.Entry.{Fills, LaysOut, Measures, Ready,
 pub(crate) struct Walk {
     pub at: usize,
     pub context: FormatterContext,
-}
-
-// The answers of two calls (`pair`).
-pub struct Answers {
-    pub first: Answer,
-    pub second: Answer,
 }
 
 // The trimmed length of the layout: a walk that writes nothing.

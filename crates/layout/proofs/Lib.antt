@@ -1,8 +1,9 @@
 -- The laws about the definition, and the tables computed.
-pub mod Masking
+pub mod MaskedLayouts
 pub mod TwoCalls
-pub mod WorkedPair
+pub mod MaskingTests
 pub mod Origins
 pub mod Tables
 pub mod Limits
+pub mod MaskingNeeds
 pub mod Running

@@ -2,7 +2,7 @@
 use Prim.Native.Nat.{ℕ, zero, suc, _+_, _-_, _*_, _≤_, _<_}
 use native.Mathlib.Omega.{arith}
 use native.Mathlib.Nat.{add-zero}
-use mathlib.Core.Path.{_≡_, refl, sym, ap, _∙_}
+use mathlib.Core.Path.{_≡_, refl, sym, ap, subst, _∙_}
 use mathlib.Core.Bool.{Bool, true, false, cond, not, _&&_, and-false}
 use mathlib.Core.List.{List, [], _∷_, _++_, map}
 use lib.ListN.{length, getD, take, drop, replicate, length-take}
@@ -10,16 +10,20 @@ use lib.Seq.{getD-drop, getD-take}
 use lib.Dec.{leb}
 use borrow.Author.Tests.{leb-true, le-leb, lt-leb}
 use Rattle.basics.specs.Case.{toUppercase, toLowercase}
-use Rattle.context.specs.Cells.{Text, Origin, made, from, Cell, fresh, toCase, tokenText, copiedFrom, spanCells, cellInCase, isWhiteSpace}
+use Rattle.context.specs.Cells.{Text, Origin, made, from, Cell, fresh, fixed, toCase, tokenText, copiedFrom, spanCells, cellInCase, isWhiteSpace}
 use Rattle.context.specs.Trim.{trimCons, trim}
 use Rattle.context.specs.Context.{Step, newState, writeNewline, lead, writeToken, writeKeyword, writeRaw, takePendingNewline, takePendingBlankLine, writeSpace, endLine, cellIsWhiteSpace, finish}
 use Rattle.context.specs.declared.FormatConfig.{FormatConfig}
 use Rattle.context.specs.declared.State.{State}
 use Rattle.tape.specs.Tree.{Tree}
+use Rattle.tape.specs.Tape.{Read, refused, got}
+use Rattle.tape.specs.Call.{readCall}
 use Rattle.layout.specs.Arms.{Spacing, newline, space, indent, dedent, note, blankLine, blankLineBeforeComment, lineOrSpace, spacing, text, keyword, sign}
 use Rattle.layout.specs.Calls.{Call, apart, on, raw, calls}
 use Rattle.layout.specs.Layout.{silent, newlineIf, doSpacing, step, pieces, written, original, piecesOf, format}
+use Rattle.layout.specs.Outcome.{ofRead, configOf, outcome}
 use Rattle.layout.specs.Origins.{ComesFrom, AllComeFrom}
+use Rattle.layout.specs.Masking.{fittedCells, cellsAfter}
 
 -- ── a change of case changes letters alone
 
@@ -175,3 +179,27 @@ module _ (t : Text) where
   origins config tree =
       let X = written (pieces config t (calls (original .pick) t tree) newState) in
       all-end (trim cellIsWhiteSpace X) (all-trim X (all-written config (calls (original .pick) t tree) newState))
+
+  all-fixed : (xs : List ℕ) → All (fixed xs)
+  all-fixed [] = tt
+  all-fixed (x ∷ xs) = (tt, all-fixed xs)
+
+  -- of the whole output space after a call
+  pub origins-after : (width case : ℕ) (tape before : List ℕ) → AllComeFrom t (cellsAfter (outcome original width case t tape) before)
+  unfolding outcome
+  origins-after width case tape before = go (readCall width case t tape)
+    where
+      fit : (x : Bool) (cs : List Cell) → All cs → All (fittedCells x cs before)
+      fit true cs k = all-append cs (fixed (drop (length cs) before)) k (all-fixed (drop (length cs) before))
+      fit false cs k = all-fixed before
+
+      go : (r : Read Tree) → All (cellsAfter (ofRead r (format original (configOf width case) t)) before)
+      go (refused f p) = all-fixed before
+      go (got tree p) =
+          let cs = format original (configOf width case) t tree in fit (leb (length cs) (length before)) cs (origins (configOf width case) tree)
+
+  -- at each place
+  pub comes-from : (cs : List Cell) → AllComeFrom t cs → (i p : ℕ) → (getD cs i (fresh 0)) .origin ≡ from p → toLowercase ((getD cs i (fresh 0)) .byte) ≡ toLowercase (getD t p 0)
+  comes-from [] k i p e = absurd (let z : _≡_ {A = ℕ} 0 1 = cc in omega arith)
+  comes-from (c ∷ cs) k zero p e = subst (ComesFrom t c) e (k .0)
+  comes-from (c ∷ cs) k (suc i) p e = comes-from cs (k .1) i p e

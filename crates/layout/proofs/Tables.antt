@@ -1,5 +1,6 @@
 -- The tables hold of the definition: the course sheet, the small inputs, and the pairs that show each condition of the
 -- masking rule needed. One computed test over each. Assumes nothing.
+use mathlib.Core.Bool.{_&&_}
 use lib.Dec.{T}
 use Rattle.keywords.specs.Names.{names}
 use Rattle.keywords.specs.Words.{words, same, listed}
@@ -21,14 +22,16 @@ use Rattle.layout.specs.Layout.{doSpacing, step, pieces, written, origin
 use Rattle.layout.specs.Outcome.{outcome, measured, laidOut}
 use Rattle.layout.specs.CourseSheet.{courseSheet, allRight}
 use Rattle.layout.specs.SmallInputs.{allBothAnswer, allAnswered, smallLayouts}
-use Rattle.layout.specs.MaskingNeeds.{pairs, needed, all}
+use Rattle.layout.specs.MaskingNeeds.{pairs, allNeeded, masked, meets, maskedForLayout, meetsForLayout, maskedLayouts}
 
 pub record Tables : Type 0 where
   pub sheet : T (allRight courseSheet)
   pub refusals : T (allBothAnswer smallInputs)
   pub layouts : T (allAnswered smallLayouts)
-  pub conditions : T (all needed pairs)
+  pub conditions : T (allNeeded pairs)
+  pub met : T (meets masked && meetsForLayout maskedForLayout)
+  pub masked : T maskedLayouts
 
 pub tables : Tables
-unfolding names words same listed isWhiteSpace toUppercase toLowercase tokenText trim trimmedLength writeNewline lead writeToken writeKeyword writeSpace noteSkippedWhitespace takePendingNewline takePendingBlankLine indent dedent writeRaw finish kinds notCarried hasChild countListItems copied headAt commandAt checkOpen checkToken checkedAt readChildren readTree firstNonAscii readInput readCall seen noSpaceBefore noSpaceAfter isLineComment emitComment emitToken emitOther isOperator fileToken formatFile queryListToken formatQueryList selectStatementToken formatSelectStatement selectClauseToken formatSelectClause simpleClauseToken formatSimpleClause multiItem listClauseToken listClauseNode listClauseArms formatListClause joinClauseToken formatJoinClause formatSettingsClause formatWithClause commaListToken formatCommaList inlineCommaListToken formatInlineCommaList binaryToken formatBinaryExpression unaryToken formatUnaryExpression functionCallToken formatFunctionCall caseWord caseToken formatCaseExpression whenWord whenToken formatWhenClause subqueryToken formatSubquery parenListToken formatParenList bracketListToken formatBracketList braceListToken formatBraceList dataTypeToken formatDataType spaceAfter inlineNode nameBefore inlineTightParensToken formatInlineTightParens inlineToken formatInline formatInlineNoSpaces passthroughToken formatPassthrough alterCommandListToken formatAlterCommandList unionToken formatUnionClause armsOf routines routineOf formatNode formatErrorVerbatim walk calls doSpacing step pieces written original piecesOf format outcome measured laidOut courseSheet smallLayouts pairs
-tables = record { sheet = tt; refusals = tt; layouts = tt; conditions = tt }
+unfolding names words same listed isWhiteSpace toUppercase toLowercase tokenText trim trimmedLength writeNewline lead writeToken writeKeyword writeSpace noteSkippedWhitespace takePendingNewline takePendingBlankLine indent dedent writeRaw finish kinds notCarried hasChild countListItems copied headAt commandAt checkOpen checkToken checkedAt readChildren readTree firstNonAscii readInput readCall seen noSpaceBefore noSpaceAfter isLineComment emitComment emitToken emitOther isOperator fileToken formatFile queryListToken formatQueryList selectStatementToken formatSelectStatement selectClauseToken formatSelectClause simpleClauseToken formatSimpleClause multiItem listClauseToken listClauseNode listClauseArms formatListClause joinClauseToken formatJoinClause formatSettingsClause formatWithClause commaListToken formatCommaList inlineCommaListToken formatInlineCommaList binaryToken formatBinaryExpression unaryToken formatUnaryExpression functionCallToken formatFunctionCall caseWord caseToken formatCaseExpression whenWord whenToken formatWhenClause subqueryToken formatSubquery parenListToken formatParenList bracketListToken formatBracketList braceListToken formatBraceList dataTypeToken formatDataType spaceAfter inlineNode nameBefore inlineTightParensToken formatInlineTightParens inlineToken formatInline formatInlineNoSpaces passthroughToken formatPassthrough alterCommandListToken formatAlterCommandList unionToken formatUnionClause armsOf routines routineOf formatNode formatErrorVerbatim walk calls doSpacing step pieces written original piecesOf format outcome measured laidOut courseSheet smallLayouts pairs masked maskedForLayout
+tables = record { sheet = tt; refusals = tt; layouts = tt; conditions = tt; met = tt; masked = tt }

@@ -1,6 +1,6 @@
--- The masking rule for two calls, from entry to exit: refusals, answers and output spaces. Assumes nothing.
+-- The masking rule for two calls, from entry to exit: refusals, answers and output spaces.
 use Prim.Native.Nat.{ℕ, zero, suc}
-use mathlib.Core.Path.{_≡_, refl, sym, ap, _∙_, subst}
+use mathlib.Core.Path.{_≡_, refl, sym, ap, _∙_, subst, subst₂}
 use mathlib.Core.Bool.{Bool, true, false}
 use mathlib.Core.List.{List, [], _∷_, _++_}
 use lib.ListN.{length, getD, drop}
@@ -16,15 +16,24 @@ use Rattle.tape.proofs.Trees.{tokens-fit}
 use Rattle.tape.proofs.Acceptance.{accepted-call, same-reading}
 use Rattle.layout.specs.Layout.{Version, original, format}
 use Rattle.layout.specs.Outcome.{Outcome, refusal, laid, ofRead, configOf, outcome, measured, fitted, laidOut}
-use Rattle.layout.specs.Masking.{MaskedPair, fittedCells, cellsAfter, Alike}
-use Rattle.layout.proofs.Masking.{Steady, original-steady, masking}
+use Rattle.layout.specs.Masking.{MaskedPair, MaskedPairForLayout, fittedCells, cellsAfter, SameLines, Alike, AlikeByLines}
+use Rattle.layout.proofs.MaskedLayouts.{KeepsAlike, original-keeps-alike, masking, masked-for-layout, masked-lines}
+
+-- the cells after a call are the space after it
+pub cells-after : (x : Outcome) (space : List ℕ) → bytesOf (cellsAfter x space) ≡ (laidOut x space) .space
+unfolding laidOut
+cells-after (refusal f p) space = bytes-fixed space
+cells-after (laid cs) space = go (leb (length cs) (length space))
+  where
+    go : (t : Bool) → bytesOf (fittedCells t cs space) ≡ (fitted t cs space) .space
+    go true = bytes-append cs (fixed (drop (length cs) space)) ∙ ap (λ (r : List ℕ). bytesOf cs ++ r) (bytes-fixed (drop (length cs) space))
+    go false = bytes-fixed space
 
 -- ── two lists of cells that are alike
 
 module _ (a b : Text) where
   -- line for line: where newlines stand at the same places of both texts, they do in both outputs
-  pub like-lines : ((p : ℕ) → eqb (getD a p 0) 10 ≡ eqb (getD b p 0) 10) → (X Y : List Cell) → Like a b X Y
-      → (i : ℕ) → eqb (getD (bytesOf X) i 0) 10 ≡ eqb (getD (bytesOf Y) i 0) 10
+  like-lines : SameLines a b → (X Y : List Cell) → Like a b X Y → SameLines (bytesOf X) (bytesOf Y)
   like-lines w [] [] h i = refl
   like-lines w [] (y ∷ ys) h i = absurd h
   like-lines w (x ∷ xs) [] h i = absurd h
@@ -47,14 +56,15 @@ module _ (a b : Text) where
   alike : (x y : Outcome) → OutcomesLike x y → (space : List ℕ) → Alike a b x y space
   unfolding measured laidOut
   alike (refusal f p) (refusal g q) h space =
-      record { measures = rw (h .0, h .1); answers = rw (h .0, h .1); spaces = like-self a b (fixed space) }
+      record { measures = rw (h .0, h .1); answers = rw (h .0, h .1); spaces = like-self a b (fixed space); lines = λ w i. refl }
   alike (refusal f p) (laid ds) h space = absurd h
   alike (laid cs) (refusal g q) h space = absurd h
   alike (laid cs) (laid ds) h space =
       record {
         measures = rw l;
         answers = rw l (same-answer (leb (length ds) (length space)));
-        spaces = rw l (same-space (leb (length ds) (length space)));
+        spaces = spaces;
+        lines = λ w. subst₂ SameLines (cells-after (laid cs) space) (cells-after (laid ds) space) (like-lines w (cellsAfter (laid cs) space) (cellsAfter (laid ds) space) spaces);
       }
     where
       l : length cs ≡ length ds
@@ -68,42 +78,55 @@ module _ (a b : Text) where
       same-space true = rw l (like-append a b cs ds (fixed (drop (length ds) space)) (fixed (drop (length ds) space)) h (like-self a b (fixed (drop (length ds) space))))
       same-space false = like-self a b (fixed space)
 
--- the cells after a call are the space after it
-pub cells-after : (x : Outcome) (space : List ℕ) → bytesOf (cellsAfter x space) ≡ (laidOut x space) .space
-unfolding laidOut
-cells-after (refusal f p) space = bytes-fixed space
-cells-after (laid cs) space = go (leb (length cs) (length space))
-  where
-    go : (t : Bool) → bytesOf (fittedCells t cs space) ≡ (fitted t cs space) .space
-    go true = bytes-append cs (fixed (drop (length cs) space)) ∙ ap (λ (r : List ℕ). bytesOf cs ++ r) (bytes-fixed (drop (length cs) space))
-    go false = bytes-fixed space
+      spaces : Like a b (cellsAfter (laid cs) space) (cellsAfter (laid ds) space)
+      spaces = rw l (same-space (leb (length ds) (length space)))
 
 -- ── the rule
 
 got-same : {t u : Tree} {p q : ℕ} → got t p ≡ got u q → t ≡ u
 got-same e = cc
 
-module _ (width case : ℕ) (a b : Text) (tape : List ℕ) (m : MaskedPair width case a b tape) where
-  outcomes-like : (v : Version) → Steady a b (m .sameLength) v → OutcomesLike a b (outcome v width case a tape) (outcome v width case b tape)
-  unfolding outcome
-  outcomes-like v st =
-      rw (← (same-reading width case a b tape (m .sameLength) (m .asciiA) (m .asciiB))) (go (readCall width case a tape) refl)
+module _ (width case : ℕ) (a b : Text) (tape : List ℕ) where
+  module _ (m : MaskedPairForLayout width case a b tape) where
+    outcomes-like : (v : Version) → KeepsAlike a b (m .sameLength) v → OutcomesLike a b (outcome v width case a tape) (outcome v width case b tape)
+    unfolding outcome
+    outcomes-like v keeps =
+        rw (← (same-reading width case a b tape (m .sameLength) (m .asciiA) (m .asciiB))) (go (readCall width case a tape) refl)
+      where
+        go : (r : Read Tree) → readCall width case a tape ≡ r
+            → OutcomesLike a b (ofRead r (format v (configOf width case) a)) (ofRead r (format v (configOf width case) b))
+        go (refused f p) e = (refl, refl)
+        go (got t p) e =
+            let k = accepted-call width case a tape (ap verdict e) in
+            let u = k .accepted .tree in
+            let same : u ≡ t = got-same (sym (k .read) ∙ e) in
+            let spans = tokens-fit (length a) tape 11 (u .kids) (k .accepted .kids) in
+            let l = masking a b (m .sameLength) v keeps (configOf width case) u spans (m .rule u (length tape) (k .read)) in
+            subst (λ (x : Tree). Like a b (format v (configOf width case) a x) (format v (configOf width case) b x)) same l
+
+    pub masking-rule : (v : Version) → KeepsAlike a b (m .sameLength) v → (space : List ℕ)
+        → Alike a b (outcome v width case a tape) (outcome v width case b tape) space
+    masking-rule v keeps space = alike a b _ _ (outcomes-like v keeps) space
+
+    -- of the source's layout
+    pub masking-original : (space : List ℕ) → Alike a b (outcome original width case a tape) (outcome original width case b tape) space
+    masking-original = masking-rule original (original-keeps-alike a b (m .sameLength))
+
+  -- demand 3's own conditions ask for more, so that the rule follows
+  pub pair-for-layout : MaskedPair width case a b tape → MaskedPairForLayout width case a b tape
+  pair-for-layout m =
+      record { sameLength = m .sameLength; asciiA = m .asciiA; asciiB = m .asciiB; rule = λ t p e. masked-for-layout a b t (m .rule t p e) }
+
+  -- the texts need not have their newlines at the same places where the call is refused: nothing is written then
+  pub demand-3 : MaskedPair width case a b tape → (space : List ℕ)
+      → AlikeByLines a b (outcome original width case a tape) (outcome original width case b tape) space
+  unfolding outcome laidOut
+  demand-3 m space = record { alike = k; lines = go (readCall width case a tape) refl }
     where
+      k : Alike a b (outcome original width case a tape) (outcome original width case b tape) space
+      k = masking-original (pair-for-layout m) space
+
       go : (r : Read Tree) → readCall width case a tape ≡ r
-          → OutcomesLike a b (ofRead r (format v (configOf width case) a)) (ofRead r (format v (configOf width case) b))
-      go (refused f p) e = (refl, refl)
-      go (got t p) e =
-          let k = accepted-call width case a tape (ap verdict e) in
-          let u = k .accepted .tree in
-          let same : u ≡ t = got-same (sym (k .read) ∙ e) in
-          let spans = tokens-fit (length a) tape 11 (u .kids) (k .accepted .kids) in
-          let l = masking a b (m .sameLength) v st (configOf width case) u spans (m .masked u (length tape) (k .read)) in
-          subst (λ (x : Tree). Like a b (format v (configOf width case) a x) (format v (configOf width case) b x)) same l
-
-  pub masking-rule : (v : Version) → Steady a b (m .sameLength) v → (space : List ℕ)
-      → Alike a b (outcome v width case a tape) (outcome v width case b tape) space
-  masking-rule v st space = alike a b _ _ (outcomes-like v st) space
-
-  -- of the source's layout
-  pub masking-original : (space : List ℕ) → Alike a b (outcome original width case a tape) (outcome original width case b tape) space
-  masking-original = masking-rule original (original-steady a b (m .sameLength))
+          → SameLines ((laidOut (outcome original width case a tape) space) .space) ((laidOut (outcome original width case b tape) space) .space)
+      go (refused f p) e = λ i. rw (← (same-reading width case a b tape (m .sameLength) (m .asciiA) (m .asciiB)), e) refl
+      go (got t p) e = k .lines (masked-lines a b t (m .rule t p e))

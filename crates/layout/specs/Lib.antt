@@ -11,4 +11,5 @@ pub mod CourseSheet
 pub mod SmallInputs
 pub mod Origins
 pub mod Masking
+pub mod MaskingTests
 pub mod MaskingNeeds

@@ -1,5 +1,4 @@
--- The masking rule of document 01: what it asks of two texts and a tree, and what it says of two calls. A place is an offset in the
--- text. Assumes nothing.
+-- The masking rule, demand 3: what it asks of two texts and a tree, and what it says of two calls. A place is an offset in the text.
 use Prim.Native.Nat.{ℕ, suc, _-_, _≤_, _<_}
 use mathlib.Core.Path.{_≡_}
 use mathlib.Core.Bool.{Bool, true, false, _||_}
@@ -11,7 +10,7 @@ use Rattle.context.specs.Alike.{Like}
 use Rattle.tape.specs.declared.Head.{Head}
 use Rattle.tape.specs.declared.Place.the-variants.{Nowhere}
 use Rattle.tape.specs.Kinds.{StringToken, QuotedIdentifier}
-use Rattle.tape.specs.Tree.{Children, token, node, Tree, copied, EachToken, EachNode}
+use Rattle.tape.specs.Tree.{Children, done, token, node, Tree, copied, EachToken, EachNode}
 use Rattle.tape.specs.Tape.{got}
 use Rattle.tape.specs.Call.{firstNonAscii, readCall}
 use Rattle.layout.specs.Outcome.{Outcome, refusal, laid, measured, laidOut}
@@ -26,8 +25,21 @@ pub data SomeToken (P : Head → Type 0) : Children → Type 0 where
   afterNode : {h : Head} {kids rest : Children} → SomeToken P rest → SomeToken P (node h kids rest)
 
 -- P holds of each node copied as typed
-abbrev pub EachCopied : (Head → Type 0) → Children → Type 0
-EachCopied P = EachNode (λ h kids. T (copied (h .kind) kids) → P h)
+abbrev pub EachCopied : (Head → Type 0) → Tree → Type 0
+EachCopied P t = (T (copied (t .head .kind) (t .kids)) → P (t .head)) × EachNode (λ h kids. T (copied (h .kind) kids) → P h) (t .kids)
+
+-- P holds of each node that the layout copies: what lies below such a node is not reached
+abbrev pub OfCopied : Bool → Type 0 → Type 0 → Type 0
+OfCopied true A B = A
+OfCopied false A B = B
+
+abbrev pub EachReachedBelow : (Head → Type 0) → Children → Type 0
+EachReachedBelow P done = Unit {0}
+EachReachedBelow P (token h rest) = EachReachedBelow P rest
+EachReachedBelow P (node h kids rest) = OfCopied (copied (h .kind) kids) (P h) (EachReachedBelow P kids) × EachReachedBelow P rest
+
+abbrev pub EachReachedCopy : (Head → Type 0) → Tree → Type 0
+EachReachedCopy P t = OfCopied (copied (t .head .kind) (t .kids)) (P (t .head)) (EachReachedBelow P (t .kids))
 
 -- ── places
 
@@ -43,6 +55,7 @@ Holds p h = (h .start ≤ p) × (p < h .end)
 abbrev pub StrictlyInside : ℕ → Head → Type 0
 StrictlyInside p h = (h .start < p) × (suc p < h .end)
 
+-- a masked place: the texts differ there
 abbrev pub Differ : Text → Text → ℕ → Type 0
 Differ a b p = getD a p 0 ≡ getD b p 0 → ⊥
 
@@ -50,22 +63,44 @@ Differ a b p = getD a p 0 ≡ getD b p 0 → ⊥
 abbrev pub EndsInWhiteSpace : Text → Head → Type 0
 EndsInWhiteSpace t h = (h .start < h .end) × T (isWhiteSpace (getD t (h .end - 1) 0))
 
--- ── what the rule asks
+-- ── what demand 3 asks of a tree
 
--- where the texts differ, each token that holds the place is quoted and holds it strictly inside, some token does, and no node that is
--- copied as typed holds it; no quoted token ends in white space
+-- each masked place holds a newline in neither text, lies in some token, strictly inside each token that holds it, all of them quoted, and in
+-- no node copied as typed; no quoted token ends in white space. That is asked of the first text: the last place of a token is not masked
 pub record Masked (a b : Text) (t : Tree) : Type 0 where
+  pub noNewline : (p : ℕ) → Differ a b p → (getD a p 0 ≡ 10 → ⊥) × (getD b p 0 ≡ 10 → ⊥)
   pub inSomeToken : (p : ℕ) → Differ a b p → SomeToken (Holds p) (t .kids)
-  pub inQuotes : (p : ℕ) → Differ a b p → EachToken (λ h. Holds p h → StrictlyInside p h × T (quoted h)) (t .kids)
-  pub notCopied : (p : ℕ) → Differ a b p → (T (copied (t .head .kind) (t .kids)) → Holds p (t .head) → ⊥) × EachCopied (λ h. Holds p h → ⊥) (t .kids)
-  pub solidEnds : EachToken (λ h. T (quoted h) → EndsInWhiteSpace a h → ⊥) (t .kids)
+  pub strictlyInside : (p : ℕ) → Differ a b p → EachToken (λ h. Holds p h → StrictlyInside p h) (t .kids)
+  pub inQuotes : (p : ℕ) → Differ a b p → EachToken (λ h. Holds p h → T (quoted h)) (t .kids)
+  pub notCopied : (p : ℕ) → Differ a b p → EachCopied (λ h. Holds p h → ⊥) t
+  pub noWhiteSpaceEnd : EachToken (λ h. T (quoted h) → EndsInWhiteSpace a h → ⊥) (t .kids)
 
--- two ASCII texts of one length; only where 1 to 12 do not refuse does the rule ask more
-pub record MaskedPair (width case : ℕ) (a b : Text) (tape : List ℕ) : Type 0 where
+-- ── what the layout needs of a tree
+
+-- Less is enough: a masked place need not lie in some token, of the nodes copied as typed only those count that the layout copies, and only a
+-- token that holds a masked place must not end in white space
+pub record MaskedForLayout (a b : Text) (t : Tree) : Type 0 where
+  pub strictlyInside : (p : ℕ) → Differ a b p → EachToken (λ h. Holds p h → StrictlyInside p h) (t .kids)
+  pub inQuotes : (p : ℕ) → Differ a b p → EachToken (λ h. Holds p h → T (quoted h)) (t .kids)
+  pub notCopied : (p : ℕ) → Differ a b p → EachReachedCopy (λ h. Holds p h → ⊥) t
+  pub noWhiteSpaceEnd : (p : ℕ) → Differ a b p → EachToken (λ h. Holds p h → EndsInWhiteSpace a h → ⊥) (t .kids)
+
+-- ── what is asked of two texts and a tape
+
+-- two ASCII texts of one length; only where 1 to 12 do not refuse is the tree asked for more
+pub record TextsUnder (Rule : Text → Text → Tree → Type 0) (width case : ℕ) (a b : Text) (tape : List ℕ) : Type 0 where
   pub sameLength : length a ≡ length b
   pub asciiA : firstNonAscii 0 a ≡ Nowhere
   pub asciiB : firstNonAscii 0 b ≡ Nowhere
-  pub masked : (t : Tree) (p : ℕ) → readCall width case a tape ≡ got t p → Masked a b t
+  pub rule : (t : Tree) (p : ℕ) → readCall width case a tape ≡ got t p → Rule a b t
+
+-- demand 3's own words
+abbrev pub MaskedPair : ℕ → ℕ → Text → Text → List ℕ → Type 0
+MaskedPair = TextsUnder Masked
+
+-- what the layout needs
+abbrev pub MaskedPairForLayout : ℕ → ℕ → Text → Text → List ℕ → Type 0
+MaskedPairForLayout = TextsUnder MaskedForLayout
 
 -- ── what the rule says
 
@@ -78,6 +113,10 @@ abbrev pub cellsAfter : Outcome → List ℕ → List Cell
 cellsAfter (refusal f p) space = fixed space
 cellsAfter (laid cs) space = fittedCells (leb (length cs) (length space)) cs space
 
+-- newlines stand at the same places
+abbrev pub SameLines : List ℕ → List ℕ → Type 0
+SameLines xs ys = (i : ℕ) → eqb (getD xs i 0) 10 ≡ eqb (getD ys i 0) 10
+
 -- two calls on one tape, for the texts a and b, that end in x and y; both layout calls are lent the same space
 pub record Alike (a b : Text) (x y : Outcome) (space : List ℕ) : Type 0 where
   -- measuring: equal answers
@@ -85,3 +124,10 @@ pub record Alike (a b : Text) (x y : Outcome) (space : List ℕ) : Type 0 where
   -- laying out: equal answers; each byte has the same origin, and is the same wherever that is none or a place where the texts agree
   pub answers : (laidOut x space) .answer ≡ (laidOut y space) .answer
   pub spaces : Like a b (cellsAfter x space) (cellsAfter y space)
+  -- line for line, where newlines stand at the same places of both texts
+  pub lines : SameLines a b → SameLines ((laidOut x space) .space) ((laidOut y space) .space)
+
+-- the same under demand 3's own conditions, which give the newlines of the texts: the layouts go line for line
+pub record AlikeByLines (a b : Text) (x y : Outcome) (space : List ℕ) : Type 0 where
+  pub alike : Alike a b x y space
+  pub lines : SameLines ((laidOut x space) .space) ((laidOut y space) .space)

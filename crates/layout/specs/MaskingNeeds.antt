@@ -1,120 +1,162 @@
--- Each condition of the masking rule is needed: for each a small pair of texts that meets all the others and breaks the claim. That a
--- masked place lies in some token is not among them: the theorem does without it. That it lies strictly inside is, since the rule looks
--- at the ends of the first text's tokens alone. Assumes nothing.
-use Prim.Native.Nat.{ℕ, zero, suc, _-_}
-use mathlib.Core.Bool.{Bool, true, false, not, cond, _&&_, _||_}
-use mathlib.Core.List.{List, [], _∷_, _++_}
-use lib.ListN.{length, getD}
-use lib.Dec.{eqb, leb, ltb}
+-- The masking rule's conditions can be met, by a pair of texts on a tape of bytes, and each is needed: for each a small pair that meets all
+-- the others and breaks the claim. Two things are not needed in this layout: that a masked place lies in some token, which
+-- `MaskedForLayout` leaves out, and of "strictly inside" the half about a token's first place; the last place is (the fifth pair).
+use Prim.Native.Nat.{ℕ}
+use Prim.Native.String.{String}
+use mathlib.Core.Path.{_≡_}
+use mathlib.Core.Bool.{Bool, true, false, not, _&&_, _||_}
+use mathlib.Core.List.{List, [], _∷_}
+use lib.ListN.{length, replicate}
+use lib.Dec.{eqb}
 use Rattle.keywords.specs.Words.{bytes}
-use Rattle.context.specs.Cells.{Text, Origin, made, from, Cell, isWhiteSpace}
+use Rattle.context.specs.Cells.{Text}
 use Rattle.tape.specs.Kinds
-use Rattle.tape.specs.declared.Head.{Head}
-use Rattle.tape.specs.Tree.{Children, done, token, node, Tree, copied}
-use Rattle.tape.specs.Faults.{number}
+use Rattle.tape.specs.Tree.{Children, done, Tree}
+use Rattle.tape.specs.Tape.{Read, refused, got, readTree}
+use Rattle.tape.specs.Call.{readCall}
 use Rattle.layout.specs.Layout.{original}
-use Rattle.layout.specs.Outcome.{Outcome, refusal, laid, outcome}
-use Rattle.layout.specs.Masking.{quoted}
-use Rattle.layout.specs.CourseSheet.{root, tok, tapeOf}
+use Rattle.layout.specs.Outcome.{Outcome, outcome}
+use Rattle.layout.specs.Masking.{AlikeByLines}
+use Rattle.layout.specs.CourseSheet.{root, tok, nod, tapeOf, isLaidOut}
+use Rattle.layout.specs.MaskingTests.{Condition, sameLength, asciiTexts, noNewline, inSomeToken, strictlyInside, inQuotes, notCopied, noWhiteSpaceEnd, Asks, holds, holdsForLayout, alikeByLines}
 
--- ── the conditions as tests
+-- a pair of texts on a tape, which is called with width 4 and upper case in a space of 64 bytes
+pub record Pair : Type 0 where
+  pub first : Text
+  pub second : Text
+  pub tape : List ℕ
 
-abbrev pub all : {A : Type 0} → (A → Bool) → List A → Bool
-all f [] = true
-all f (x ∷ xs) = f x && all f xs
+abbrev pub space : List ℕ
+space = replicate 64 0
 
--- the places below n where the texts differ
-abbrev pub differing : Text → Text → ℕ → List ℕ
-differing a b zero = []
-differing a b (suc n) = differing a b n ++ cond (eqb (getD a n 0) (getD b n 0)) [] (n ∷ [])
+-- the two calls are alike, line for line
+abbrev pub Claim : Pair → Type 0
+Claim x = AlikeByLines (x .first) (x .second) (outcome original 4 1 (x .first) (x .tape)) (outcome original 4 1 (x .second) (x .tape)) space
 
-abbrev pub tokens : Children → List Head
-tokens done = []
-tokens (token h rest) = h ∷ tokens rest
-tokens (node h kids rest) = tokens kids ++ tokens rest
-
-abbrev pub copiedBelow : Children → List Head
-copiedBelow done = []
-copiedBelow (token h rest) = copiedBelow rest
-copiedBelow (node h kids rest) = cond (copied (h .kind) kids) (h ∷ []) [] ++ (copiedBelow kids ++ copiedBelow rest)
-
-abbrev pub copiedNodes : Tree → List Head
-copiedNodes t = cond (copied (t .head .kind) (t .kids)) (t .head ∷ []) [] ++ copiedBelow (t .kids)
-
--- where p lies within h, b holds
-abbrev pub whereHeld : ℕ → Head → Bool → Bool
-whereHeld p h b = not (leb (h .start) p && ltb p (h .end)) || b
-
-abbrev pub ascii : Text → Bool
-ascii = all (λ x. leb x 127)
-
-pub data Condition : Type 0 where
-  sameLength asciiTexts inQuotes strictlyInside notCopied solidEnds : Condition
+abbrev pub claimed : Pair → Bool
+claimed x = alikeByLines (x .first) (x .second) (outcome original 4 1 (x .first) (x .tape)) (outcome original 4 1 (x .second) (x .tape)) space
 
 abbrev pub conditions : List Condition
-conditions = sameLength ∷ asciiTexts ∷ inQuotes ∷ strictlyInside ∷ notCopied ∷ solidEnds ∷ []
+conditions = sameLength ∷ asciiTexts ∷ noNewline ∷ inSomeToken ∷ strictlyInside ∷ inQuotes ∷ notCopied ∷ noWhiteSpaceEnd ∷ []
 
-abbrev pub holds : Text → Text → Tree → Condition → Bool
-holds a b t sameLength = eqb (length a) (length b)
-holds a b t asciiTexts = ascii a && ascii b
-holds a b t inQuotes = all (λ p. all (λ h. whereHeld p h (quoted h)) (tokens (t .kids))) (differing a b (length a))
-holds a b t strictlyInside = all (λ p. all (λ h. whereHeld p h (ltb (h .start) p && ltb (suc p) (h .end))) (tokens (t .kids))) (differing a b (length a))
-holds a b t notCopied = all (λ p. all (λ h. whereHeld p h false) (copiedNodes t)) (differing a b (length a))
-holds a b t solidEnds = all (λ h. not (quoted h && ltb (h .start) (h .end) && isWhiteSpace (getD a (h .end - 1) 0))) (tokens (t .kids))
+-- f holds of what was read
+abbrev pub ofTree : (Tree → Bool) → Read Tree → Bool
+ofTree f (refused x p) = false
+ofTree f (got t p) = f t
 
--- ── the claim as a test
+-- each condition holds of the texts and the tree, but for those left out
+abbrev pub allHold : (Condition → Bool) → Text → Text → List Condition → Tree → Bool
+allHold leftOut a b [] t = true
+allHold leftOut a b (c ∷ cs) t = (leftOut c || holds a b t c) && allHold leftOut a b cs t
 
-abbrev pub agrees : Text → Text → Cell → Cell → Origin → Origin → Bool
-agrees a b x y made made = eqb (x .byte) (y .byte)
-agrees a b x y made (from q) = false
-agrees a b x y (from p) made = false
-agrees a b x y (from p) (from q) = eqb p q && (not (eqb (getD a p 0) (getD b p 0)) || eqb (x .byte) (y .byte))
+-- ── a pair that meets all conditions
 
-abbrev pub cellsAlike : Text → Text → List Cell → List Cell → Bool
-cellsAlike a b [] [] = true
-cellsAlike a b [] (y ∷ ys) = false
-cellsAlike a b (x ∷ xs) [] = false
-cellsAlike a b (x ∷ xs) (y ∷ ys) = agrees a b x y (x .origin) (y .origin) && cellsAlike a b xs ys
+-- the call reads a tree, and all conditions hold
+abbrev pub meets : Pair → Bool
+meets x = ofTree (allHold (λ c. false) (x .first) (x .second) conditions) (readCall 4 1 (x .first) (x .tape))
 
-abbrev pub alike : Text → Text → Outcome → Outcome → Bool
-alike a b (refusal f p) (refusal g q) = eqb (number f) (number g) && eqb p q
-alike a b (refusal f p) (laid ds) = false
-alike a b (laid cs) (refusal g q) = false
-alike a b (laid cs) (laid ds) = cellsAlike a b cs ds
+-- a quoted name and a string below nested nodes, and a WHERE clause that is copied as typed, since it holds an Error node
+unfoldable pub masked : Pair
+masked =
+    record {
+      first = bytes "select `ab`,'cd' where  x";
+      second = bytes "select `**`,'**' where  x";
+      tape =
+          tapeOf
+          (root Kinds.File 0 25
+          (nod Kinds.SelectStatement 0 25
+          (nod Kinds.SelectClause 0 16
+          (tok Kinds.BareWord 0 6
+          (tok Kinds.Whitespace 6 7
+          (nod Kinds.ColumnList 7 16
+          (nod Kinds.ColumnReference 7 11 (tok Kinds.QuotedIdentifier 7 11 done)
+          (tok Kinds.Comma 11 12
+          (nod Kinds.ColumnReference 12 16 (tok Kinds.StringToken 12 16 done) done)))
+          done)))
+          (tok Kinds.Whitespace 16 17
+          (nod Kinds.WhereClause 17 25 (tok Kinds.BareWord 17 22 (tok Kinds.Whitespace 22 24 (nod Kinds.Error 24 25 (tok Kinds.BareWord 24 25 done) done))) done)))
+          done));
+    }
 
--- ── the pairs
+-- what the layout needs is less: a masked place that lies in no token, a quoted token that ends in white space and holds none, and below a node
+-- that is copied as typed another that holds a masked place
+abbrev pub meetsForLayout : Pair → Bool
+meetsForLayout x = ofTree (λ t. (holds (x .first) (x .second) t sameLength && holds (x .first) (x .second) t asciiTexts) && holdsForLayout (x .first) (x .second) t) (readCall 4 1 (x .first) (x .tape))
 
-pub record Pair : Type 0 where
+unfoldable pub maskedForLayout : Pair
+maskedForLayout =
+    record {
+      first = bytes "eq'a''b' ";
+      second = bytes "e*'*''b' ";
+      tape =
+          tapeOf
+          (root Kinds.File 0 9
+          (nod Kinds.FromClause 0 1 (nod Kinds.Error 0 1 (nod Kinds.Error 2 5 done done) done)
+          (nod Kinds.ColumnReference 2 5 (tok Kinds.StringToken 2 5 done)
+          (nod Kinds.ColumnReference 5 9 (tok Kinds.StringToken 5 9 done) done))));
+    }
+
+-- the layouts of both texts
+abbrev pub maskedLayouts : Bool
+maskedLayouts =
+    (isLaidOut (bytes "SELECT\n    `ab`,\n    'cd'\nwhere  x\n") (outcome original 4 1 (masked .first) (masked .tape))
+    && isLaidOut (bytes "SELECT\n    `**`,\n    '**'\nwhere  x\n") (outcome original 4 1 (masked .second) (masked .tape)))
+    && (isLaidOut (bytes "e\n\n'a'\n\n'b'\n") (outcome original 4 1 (maskedForLayout .first) (maskedForLayout .tape))
+    && isLaidOut (bytes "e\n\n'*'\n\n'b'\n") (outcome original 4 1 (maskedForLayout .second) (maskedForLayout .tape)))
+
+-- ── pairs that meet all conditions but one
+
+pub record Broken : Type 0 where
   pub without : Condition
-  pub first : List ℕ
-  pub second : List ℕ
-  pub tree : Tree
+  pub pair : Pair
 
-abbrev pub index : Condition → ℕ
-index sameLength = 0
-index asciiTexts = 1
-index inQuotes = 2
-index strictlyInside = 3
-index notCopied = 4
-index solidEnds = 5
+abbrev pub number : Condition → ℕ
+number sameLength = 0
+number asciiTexts = 1
+number noNewline = 2
+number inSomeToken = 3
+number strictlyInside = 4
+number inQuotes = 5
+number notCopied = 6
+number noWhiteSpaceEnd = 7
 
--- every condition but one holds, that one does not, and nor does the claim
-abbrev pub needed : Pair → Bool
+-- a tree is read, every other condition holds of it, and the claim does not hold
+abbrev pub needed : Broken → Bool
 needed x =
-    let call : Text → Outcome = λ t. outcome original 4 1 t (tapeOf (x .tree)) in
-    all (λ c. cond (eqb (index c) (index (x .without))) (not (holds (x .first) (x .second) (x .tree) c)) (holds (x .first) (x .second) (x .tree) c)) conditions
-    && not (alike (x .first) (x .second) (call (x .first)) (call (x .second)))
+    ofTree (allHold (λ c. eqb (number c) (number (x .without))) (x .pair .first) (x .pair .second) conditions) (readTree (length (x .pair .first)) (x .pair .tape))
+    && not (claimed (x .pair))
 
-unfoldable pub pairs : List Pair
+abbrev pub allNeeded : List Broken → Bool
+allNeeded [] = true
+allNeeded (x ∷ xs) = needed x && allNeeded xs
+
+abbrev pub pair : Condition → List ℕ → List ℕ → ℕ → Children → Broken
+pair c first second kind kids = record { without = c; pair = record { first = first; second = second; tape = tapeOf (root kind 0 2 kids) } }
+
+unfoldable pub pairs : List Broken
 pairs =
-    -- a word of two bytes, of which the first text has one
-    record { without = sameLength; first = bytes "a"; second = bytes "ab"; tree = root Kinds.ColumnReference 0 2 (tok Kinds.BareWord 0 2 done) } ∷
-    record { without = asciiTexts; first = 39 ∷ 200 ∷ 39 ∷ []; second = bytes "'a'"; tree = root Kinds.ColumnReference 0 3 (tok Kinds.StringToken 0 3 done) } ∷
+    -- a byte 0 more, which the token holds
+    pair sameLength (39 ∷ 97 ∷ 39 ∷ 0 ∷ []) (bytes "'a'") Kinds.ColumnReference (tok Kinds.StringToken 0 4 done)
+    ∷ pair asciiTexts (39 ∷ 200 ∷ 39 ∷ []) (bytes "'a'") Kinds.ColumnReference (tok Kinds.StringToken 0 3 done)
+    -- a line more
+    ∷ pair noNewline (bytes "'\n'") (bytes "'a'") Kinds.ColumnReference (tok Kinds.StringToken 0 3 done)
     -- a keyword, and none
-    record { without = inQuotes; first = bytes "set"; second = bytes "sat"; tree = root Kinds.ColumnReference 0 3 (tok Kinds.BareWord 0 3 done) } ∷
-    -- a quoted token of one byte
-    record { without = strictlyInside; first = bytes "a"; second = bytes " "; tree = root Kinds.ColumnReference 0 1 (tok Kinds.StringToken 0 1 done) } ∷
+    ∷ pair inQuotes (bytes "set") (bytes "sat") Kinds.ColumnReference (tok Kinds.BareWord 0 3 done)
+    -- the last place of a quoted token
+    ∷ pair strictlyInside (bytes "ab") (bytes "a ") Kinds.ColumnReference (tok Kinds.StringToken 0 2 done)
     -- an Error node that ends within a quoted token
-    record { without = notCopied; first = bytes "'a'"; second = bytes "' '"; tree = root Kinds.Error 0 2 (tok Kinds.StringToken 0 3 done) } ∷
-    record { without = solidEnds; first = bytes "ab "; second = bytes "a  "; tree = root Kinds.ColumnReference 0 3 (tok Kinds.StringToken 0 3 done) } ∷
-    []
+    ∷ pair notCopied (bytes "'a'") (bytes "' '") Kinds.Error (tok Kinds.StringToken 0 3 done)
+    ∷ pair noWhiteSpaceEnd (bytes "ab ") (bytes "a  ") Kinds.ColumnReference (tok Kinds.StringToken 0 3 done)
+    ∷ []
+
+-- what the table says of a pair, in the rule's own words
+pub record Needed (x : Broken) : Type 0 where
+  pub tree : Tree
+  pub place : ℕ
+  pub read : readTree (length (x .pair .first)) (x .pair .tape) ≡ got tree place
+  pub others : (c : Condition) → (number c ≡ number (x .without) → ⊥) → Asks c (x .pair .first) (x .pair .second) tree
+  pub broken : Claim (x .pair) → ⊥
+
+abbrev pub EachNeeded : List Broken → Type 0
+EachNeeded [] = Unit {0}
+EachNeeded (x ∷ xs) = Needed x × EachNeeded xs

@@ -3,7 +3,6 @@ use borrow.Author.Needs.{needs}
 use mathlib.Core.Bool.{Bool, _&&_}
 use mathlib.Core.Path.{_∙_, ap, sym}
 use borrow.Author.Tests.{eq-eqb, ne-eqb}
-use Rattle.layout.specs.MaskingNeeds.{all}
 use Rattle.tape.specs.Tree.{severalListItems}
 use Rattle.clauses.proofs.several_items.Statement.{statement}
 use Rattle.clauses.proofs.several_items.Tie as tie

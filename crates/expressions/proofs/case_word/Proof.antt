@@ -7,7 +7,6 @@ use lib.ListN.{length}
 use Rattle.tokens.proofs.Choices.{case-acts}
 use Rattle.tokens.proofs.Runs.{acted, as-acts, did-dedent, did-indent, did-newline, did-space, text-fits, then}
 use Rattle.keywords.specs.Words.{isWord}
-use Rattle.layout.specs.Masking.{within}
 use Rattle.expressions.proofs.case_word.Statement.{statement}
 use Rattle.expressions.proofs.case_word.Tie as tie
 

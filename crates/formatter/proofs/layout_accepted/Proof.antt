@@ -4,7 +4,6 @@ use native.Mathlib.Omega.{arith}
 use Rattle.formatter.proofs.Entries.{laid-done, laid-none, laid-short}
 use Rattle.formatter.specs.Entry.{allCells}
 use Rattle.layout.specs.Layout.{format}
-use Rattle.layout.specs.MaskingNeeds.{all}
 use Rattle.formatter.proofs.layout_accepted.Statement.{statement}
 use Rattle.formatter.proofs.layout_accepted.Tie as tie
 

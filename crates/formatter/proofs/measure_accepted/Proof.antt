@@ -3,7 +3,6 @@ use borrow.Author.Needs.{needs}
 use Rattle.formatter.proofs.Entries.{measured-none, measured-some}
 use Rattle.formatter.specs.Entry.{allCells}
 use Rattle.layout.specs.Layout.{format}
-use Rattle.layout.specs.MaskingNeeds.{all}
 use Rattle.formatter.proofs.measure_accepted.Statement.{statement}
 use Rattle.formatter.proofs.measure_accepted.Tie as tie
 

@@ -13,7 +13,6 @@ use Rattle.formatter.proofs.RoutineLaws.{case-after, case-kept, list-kn
 use Rattle.formatter.proofs.Walks.{Loop, child-at, clean-node, copy-ready, left-pos, loop-first, loop-fits, loop-last, node-by, node-copied, node-next, node-ready, opened-at, scanned-as, side-ready, token-next, token-ready}
 use Rattle.formatter.specs.Promise.{always}
 use Rattle.layout.specs.FormatNode.{armsOf}
-use Rattle.layout.specs.MaskingNeeds.{all}
 use Rattle.layout.specs.Routines.{flagged, formatAlterCommandList, formatBinaryExpression, formatBraceList, formatBracketList, formatCaseExpression, formatCommaList, formatDataType, formatFile, formatFunctionCall, formatInline, formatInlineCommaList, formatInlineNoSpaces, formatInlineTightParens, formatJoinClause, formatListClause, formatParenList, formatPassthrough, formatQueryList, formatSelectClause, formatSelectStatement, formatSettingsClause, formatSimpleClause, formatSubquery, formatUnaryExpression, formatUnionClause, formatWhenClause, formatWithClause, inlineNode, listClauseArms, spaceAfter, spaceIf, unionToken}
 use Rattle.layout.specs.declared.Routine.the-variants as the-variants
 use Prim.Native.Nat.{ℕ, _<_}

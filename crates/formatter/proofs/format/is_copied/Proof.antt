@@ -2,7 +2,6 @@
 use borrow.Author.Needs.{needs}
 use mathlib.Core.Path.{_∙_}
 use Rattle.formatter.proofs.Copied.{copied-error, copied-list, copied-other}
-use Rattle.layout.specs.MaskingNeeds.{all}
 use Rattle.formatter.proofs.format.is_copied.Statement.{statement}
 use Rattle.formatter.proofs.format.is_copied.Tie as tie
 

@@ -1,13 +1,13 @@
 -- The masking rule for the definition of the layout: two texts that differ as it allows give the same calls, and outputs that are
--- alike. Assumes nothing.
-use Prim.Native.Nat.{ℕ, _-_, _≤_, _<_}
+-- alike.
+use Prim.Native.Nat.{ℕ, zero, suc, _+_, _-_, _≤_, _<_}
 use native.Mathlib.Omega.{arith}
 use mathlib.Core.Path.{_≡_, refl, sym, ap, _∙_, subst}
 use mathlib.Core.Bool.{Bool, true, false, cond}
 use mathlib.Core.List.{List, [], _∷_, _++_, map}
 use lib.ListN.{length, getD}
-use lib.Dec.{T, T-not, eqb, leb, ltb, eqb→eq}
-use borrow.Author.Tests.{eqb-true, eqb-false, ltb-true, ltb-false}
+use lib.Dec.{T, eqb, leb, eqb→eq}
+use borrow.Author.Tests.{eqb-true, eqb-false, ne-eqb}
 use Rattle.context.specs.Cells.{Text, Cell, isWhiteSpace, tokenText, bytesOf, spanCells, copiedFrom}
 use Rattle.context.specs.Trim.{trimmedLength}
 use Rattle.context.specs.Context.{Piece, newState, lastByte, cellIsWhiteSpace, writeToken, writeKeyword}
@@ -19,28 +19,12 @@ use Rattle.context.proofs.Trimming.{trimmed-append}
 use Rattle.context.proofs.Masking.{like-self, like-append, like-length, span-like, keyword-like, trimmed-like, finish-like}
 use Rattle.tape.specs.Kinds.{StringToken, QuotedIdentifier}
 use Rattle.tape.specs.declared.Head.{Head}
-use Rattle.tape.specs.Tree.{Children, done, token, node, Tree, countListItems, copied, EachToken}
+use Rattle.tape.specs.Tree.{Children, done, token, node, Tree, countListItems, copied, EachToken, EachNode}
 use Rattle.layout.specs.declared.Local.{Local}
 use Rattle.layout.specs.Arms.{Spacing, Act, spacing, text, keyword, sign, isRead, seen, Arms}
 use Rattle.layout.specs.Calls.{Call, apart, on, raw, formatErrorVerbatim, walk, calls}
 use Rattle.layout.specs.Layout.{step, pieces, written, Version, original, piecesOf, format}
-use Rattle.layout.specs.Masking.{EachCopied, quoted, Holds, StrictlyInside, Differ, EndsInWhiteSpace, Masked}
-
--- what the theorem needs of `Masked`: a place need not lie in some token, and of the nodes copied as typed only those count that the layout
--- copies, and not those below them
-abbrev OfCopied : Bool → Type 0 → Type 0 → Type 0
-OfCopied true A B = A
-OfCopied false A B = B
-
-abbrev EachReached : (Head → Type 0) → Children → Type 0
-EachReached P done = Unit {0}
-EachReached P (token h rest) = EachReached P rest
-EachReached P (node h kids rest) = OfCopied (copied (h .kind) kids) (P h) (EachReached P kids) × EachReached P rest
-
-record MaskedAsRead (a b : Text) (t : Tree) : Type 0 where
-  inQuotes : (p : ℕ) → Differ a b p → EachToken (λ h. Holds p h → StrictlyInside p h × T (quoted h)) (t .kids)
-  notCopied : (p : ℕ) → Differ a b p → OfCopied (copied (t .head .kind) (t .kids)) (Holds p (t .head) → ⊥) (EachReached (λ h. Holds p h → ⊥) (t .kids))
-  solidEnds : EachToken (λ h. T (quoted h) → EndsInWhiteSpace a h → ⊥) (t .kids)
+use Rattle.layout.specs.Masking.{OfCopied, EachReachedBelow, EachReachedCopy, quoted, Holds, StrictlyInside, Differ, EndsInWhiteSpace, Masked, MaskedForLayout, SameLines}
 
 -- the tokens are those of a checked tape over a text of so many bytes
 abbrev pub TokenSpans : ℕ → Children → Type 0
@@ -53,6 +37,10 @@ stable x y f = go (eqb x y) refl
     go : (t : Bool) → eqb x y ≡ t → x ≡ y
     go true e = eqb-true x y e
     go false e = absurd (f (eqb-false x y e))
+
+of-copy : (t : Bool) (A B : Type 0) → (T t → A) → B → OfCopied t A B
+of-copy true A B f y = f tt
+of-copy false A B f y = y
 
 -- a quoted token is not read
 quoted-unread : (h : Head) → T (quoted h) → isRead (h .kind) ≡ false
@@ -71,40 +59,40 @@ module _ (a b : Text) (sameLength : length a ≡ length b) where
 
   -- ── what a masked pair gives of each token, and of each node that is copied
 
-  record FineToken (h : Head) : Type 0 where
-    sight : seen a h ≡ seen b h
+  record TokenAlike (h : Head) : Type 0 where
+    seenSame : seen a h ≡ seen b h
     trims : trimmed (spanCells a (h .start) (h .end)) ≡ trimmed (spanCells b (h .start) (h .end))
 
   abbrev SameSpan : ℕ → ℕ → Type 0
   SameSpan s e = tokenText a s e ≡ tokenText b s e
 
-  abbrev FineCopy : Head → Type 0
-  FineCopy h = SameSpan (h .start) (h .end)
+  abbrev CopyAlike : Head → Type 0
+  CopyAlike h = SameSpan (h .start) (h .end)
 
   -- ── the calls are equal
 
   module _ (pick : ℕ → Children → Arms) where
-    walk-same : (c : Children) → EachToken FineToken c → (r : Arms) (l : Local) → walk pick a r l c ≡ walk pick b r l c
+    walk-same : (c : Children) → EachToken TokenAlike c → (r : Arms) (l : Local) → walk pick a r l c ≡ walk pick b r l c
     unfolding walk
     walk-same done w r l = refl
-    walk-same (token h rest) w r l = rw (w .0 .sight, walk-same rest (w .1) r ((r .atToken l (seen b h)) .0))
+    walk-same (token h rest) w r l = rw (w .0 .seenSame, walk-same rest (w .1) r ((r .atToken l (seen b h)) .0))
     walk-same (node h kids rest) w r l =
         rw (walk-same kids (w .0) (pick (h .kind) kids) ((pick (h .kind) kids) .begin), walk-same rest (w .1) r ((r .atNode l (h .kind) (countListItems kids)) .0))
 
-    calls-same : (t : Tree) → EachToken FineToken (t .kids) → calls pick a t ≡ calls pick b t
+    calls-same : (t : Tree) → EachToken TokenAlike (t .kids) → calls pick a t ≡ calls pick b t
     unfolding calls
     calls-same t w = rw (walk-same (t .kids) w (pick (t .head .kind) (t .kids)) ((pick (t .head .kind) (t .kids)) .begin))
 
   -- ── each call is on a token of the tree, or copies a node that is copied as typed
 
-  abbrev FineCall : Call → Type 0
-  FineCall (apart x) = Unit {0}
-  FineCall (on h x) = FineToken h
-  FineCall (raw s e) = SameSpan s e
+  abbrev CallAlike : Call → Type 0
+  CallAlike (apart x) = Unit {0}
+  CallAlike (on h x) = TokenAlike h
+  CallAlike (raw s e) = SameSpan s e
 
   Every : List Call → Type 0
   Every [] = Unit {0}
-  Every (c ∷ cs) = FineCall c × Every cs
+  Every (c ∷ cs) = CallAlike c × Every cs
 
   every-append : (x y : List Call) → Every x → Every y → Every (x ++ y)
   unfolding Every
@@ -116,12 +104,12 @@ module _ (a b : Text) (sameLength : length a ≡ length b) where
   every-apart [] = tt
   every-apart (x ∷ xs) = (tt, every-apart xs)
 
-  every-on : (h : Head) → FineToken h → (xs : List Act) → Every (map (on h) xs)
+  every-on : (h : Head) → TokenAlike h → (xs : List Act) → Every (map (on h) xs)
   unfolding Every
   every-on h w [] = tt
   every-on h w (x ∷ xs) = (w, every-on h w xs)
 
-  every-verbatim : (h : Head) → FineCopy h → Every (formatErrorVerbatim h)
+  every-verbatim : (h : Head) → CopyAlike h → Every (formatErrorVerbatim h)
   unfolding formatErrorVerbatim Every
   every-verbatim h w = go (leb (h .start) (h .end))
     where
@@ -134,24 +122,24 @@ module _ (a b : Text) (sameLength : length a ≡ length b) where
   every-cond false x y A B w f g = g w
 
   module _ (pick : ℕ → Children → Arms) where
-    walk-fine : (c : Children) → EachToken FineToken c → EachReached FineCopy c → (r : Arms) (l : Local) → Every (walk pick a r l c)
+    walk-alike : (c : Children) → EachToken TokenAlike c → EachReachedBelow CopyAlike c → (r : Arms) (l : Local) → Every (walk pick a r l c)
     unfolding walk
-    walk-fine done w v r l = every-apart (r .atEnd l)
-    walk-fine (token h rest) w v r l =
-        every-append _ _ (every-on h (w .0) ((r .atToken l (seen a h)) .1)) (walk-fine rest (w .1) v r ((r .atToken l (seen a h)) .0))
-    walk-fine (node h kids rest) w v r l =
+    walk-alike done w v r l = every-apart (r .atEnd l)
+    walk-alike (token h rest) w v r l =
+        every-append _ _ (every-on h (w .0) ((r .atToken l (seen a h)) .1)) (walk-alike rest (w .1) v r ((r .atToken l (seen a h)) .0))
+    walk-alike (node h kids rest) w v r l =
         let q = pick (h .kind) kids in
         let n = r .atNode l (h .kind) (countListItems kids) in
         every-append _ _ (every-apart (n .1))
         (every-append _ _
-        (every-cond (copied (h .kind) kids) _ _ _ _ (v .0) (every-verbatim h) (λ u. walk-fine kids (w .0) u q (q .begin)))
-        (every-append _ _ (every-apart (n .2)) (walk-fine rest (w .1) (v .1) r (n .0))))
+        (every-cond (copied (h .kind) kids) _ _ _ _ (v .0) (every-verbatim h) (λ u. walk-alike kids (w .0) u q (q .begin)))
+        (every-append _ _ (every-apart (n .2)) (walk-alike rest (w .1) (v .1) r (n .0))))
 
-    calls-fine : (t : Tree) → EachToken FineToken (t .kids) → OfCopied (copied (t .head .kind) (t .kids)) (FineCopy (t .head)) (EachReached FineCopy (t .kids)) → Every (calls pick a t)
+    calls-alike : (t : Tree) → EachToken TokenAlike (t .kids) → EachReachedCopy CopyAlike t → Every (calls pick a t)
     unfolding calls
-    calls-fine t w v =
+    calls-alike t w v =
         let q = pick (t .head .kind) (t .kids) in
-        every-cond (copied (t .head .kind) (t .kids)) _ _ _ _ v (every-verbatim (t .head)) (λ u. walk-fine (t .kids) w u q (q .begin))
+        every-cond (copied (t .head .kind) (t .kids)) _ _ _ _ v (every-verbatim (t .head)) (λ u. walk-alike (t .kids) w u q (q .begin))
 
   -- ── pieces that are alike
 
@@ -195,7 +183,7 @@ module _ (a b : Text) (sameLength : length a ≡ length b) where
   span-same s e w = ap (copiedFrom s) w
 
   module _ (config : FormatConfig) where
-    step-state : (c : Call) → FineCall c → (s : State) → (step config a c s) .0 ≡ (step config b c s) .0
+    step-state : (c : Call) → CallAlike c → (s : State) → (step config a c s) .0 ≡ (step config b c s) .0
     unfolding step writeToken writeKeyword
     step-state (apart x) w s = refl
     step-state (on h (spacing x)) w s = refl
@@ -204,11 +192,11 @@ module _ (a b : Text) (sameLength : length a ≡ length b) where
     step-state (on h (sign x)) w s = refl
     step-state (raw f e) w s = rw (span-same f e w)
 
-    token-piece : (h : Head) → FineToken h → (s : State) → PieceLike ((writeToken config (spanCells a (h .start) (h .end)) s) .1) ((writeToken config (spanCells b (h .start) (h .end)) s) .1)
+    token-piece : (h : Head) → TokenAlike h → (s : State) → PieceLike ((writeToken config (spanCells a (h .start) (h .end)) s) .1) ((writeToken config (spanCells b (h .start) (h .end)) s) .1)
     unfolding writeToken
     token-piece h w s = record { leads = refl; bodies = span-like a b sameLength (h .start) (h .end); trims = w .trims }
 
-    keyword-piece : (h : Head) → FineToken h → (s : State) → PieceLike ((writeKeyword config (spanCells a (h .start) (h .end)) s) .1) ((writeKeyword config (spanCells b (h .start) (h .end)) s) .1)
+    keyword-piece : (h : Head) → TokenAlike h → (s : State) → PieceLike ((writeKeyword config (spanCells a (h .start) (h .end)) s) .1) ((writeKeyword config (spanCells b (h .start) (h .end)) s) .1)
     unfolding writeKeyword writeToken
     keyword-piece h w s =
         let u = config .«uppercase_keywords» in
@@ -219,7 +207,7 @@ module _ (a b : Text) (sameLength : length a ≡ length b) where
           trims = trimmed-cells-in-case u (spanCells a (h .start) (h .end)) ∙ w .trims ∙ sym (trimmed-cells-in-case u (spanCells b (h .start) (h .end)));
         }
 
-    step-piece : (c : Call) → FineCall c → (s : State) → PieceLike ((step config a c s) .1) ((step config b c s) .1)
+    step-piece : (c : Call) → CallAlike c → (s : State) → PieceLike ((step config a c s) .1) ((step config b c s) .1)
     unfolding step
     step-piece (apart x) w s = same-piece _
     step-piece (on h (spacing x)) w s = same-piece _
@@ -237,21 +225,18 @@ module _ (a b : Text) (sameLength : length a ≡ length b) where
 
   -- ── from the rule's words to what each token and each copied node gives
 
-  abbrev QuotedInside : ℕ → Head → Type 0
-  QuotedInside p h = Holds p h → StrictlyInside p h × T (quoted h)
-
   -- where no place of the span is masked
-  same-token : (h : Head) → SameSpan (h .start) (h .end) → FineToken h
+  same-token : (h : Head) → SameSpan (h .start) (h .end) → TokenAlike h
   unfolding seen
-  same-token h s = record { sight = rw s; trims = rw (span-same (h .start) (h .end) s) }
+  same-token h s = record { seenSame = rw s; trims = rw (span-same (h .start) (h .end) s) }
 
   -- the texts agree at the last place of a quoted token, which is no white space
   masked-token : (h : Head) → T (quoted h) → h .start < h .end → h .end ≤ length a → getD a (h .end - 1) 0 ≡ getD b (h .end - 1) 0
-      → isWhiteSpace (getD a (h .end - 1) 0) ≡ false → FineToken h
+      → isWhiteSpace (getD a (h .end - 1) 0) ≡ false → TokenAlike h
   unfolding seen
   masked-token h q lt k e w =
       record {
-        sight = rw (quoted-unread h q);
+        seenSame = rw (quoted-unread h q);
         trims =
             trimmed-like a b (spanCells a (h .start) (h .end)) (spanCells b (h .start) (h .end)) (span-like a b sameLength (h .start) (h .end))
             (last-a ∙ e ∙ sym last-b) (ap isWhiteSpace last-a ∙ w);
@@ -263,104 +248,135 @@ module _ (a b : Text) (sameLength : length a ≡ length b) where
       last-b : lastByte (bytesOf (spanCells b (h .start) (h .end))) ≡ getD b (h .end - 1) 0
       last-b = ap lastByte (bytes-span b (h .start) (h .end)) ∙ token-last b (h .start) (h .end) lt (omega arith)
 
-  fine-token : (h : Head) → h .end ≤ length a → ((p : ℕ) → Differ a b p → QuotedInside p h)
-      → (T (quoted h) → EndsInWhiteSpace a h → ⊥) → FineToken h
-  fine-token h span f w = go (quoted h) refl (ltb (h .start) (h .end)) refl
+  -- a span holds a masked place, or is the same in both texts
+  data Span (s e : ℕ) : Type 0 where
+    masked : (p : ℕ) → s ≤ p → p < e → Differ a b p → Span s e
+    same : ((p : ℕ) → s ≤ p → p < e → getD a p 0 ≡ getD b p 0) → Span s e
+
+  span : (s n : ℕ) → Span s (s + n)
+  span s zero = same (λ p lo hi. absurd (omega arith))
+  span s (suc n) = go (span s n) (eqb (getD a (s + n) 0) (getD b (s + n) 0)) refl
     where
-      solid : (t : Bool) → (T t → ⊥) → t ≡ false
-      solid true u = absurd (u tt)
-      solid false u = refl
+      last : (p : ℕ) → p < s + suc n → (p < s + n → getD a p 0 ≡ getD b p 0) → getD a (s + n) 0 ≡ getD b (s + n) 0 → getD a p 0 ≡ getD b p 0
+      last p hi f e = at (eqb p (s + n)) refl
+        where
+          at : (t : Bool) → eqb p (s + n) ≡ t → getD a p 0 ≡ getD b p 0
+          at true u = rw (eqb-true p (s + n) u) e
+          at false u = let ne = eqb-false p (s + n) u in f (omega arith)
 
-      go : (t : Bool) → quoted h ≡ t → (u : Bool) → ltb (h .start) (h .end) ≡ u → FineToken h
-      go true e true l =
-          let lt = ltb-true (h .start) (h .end) l in
-          let q : T (quoted h) = rw e tt in
-          masked-token h q lt span
-          (stable _ _ (λ d. let v : StrictlyInside (h .end - 1) h = (f (h .end - 1) d (omega arith, omega arith)) .0 in omega arith))
-          (solid (isWhiteSpace (getD a (h .end - 1) 0)) (λ x. w q (lt, x)))
-      go true e false l =
-          let le = ltb-false (h .start) (h .end) l in
-          same-token h (token-same a b (h .start) (h .end) sameLength (λ p lo hi. absurd (omega arith)))
-      go false e u l =
-          same-token h (token-same a b (h .start) (h .end) sameLength (λ p lo hi. stable _ _ (λ d. T-not (quoted h) (rw e tt) ((f p d (lo, hi)) .1))))
+      go : Span s (s + n) → (t : Bool) → eqb (getD a (s + n) 0) (getD b (s + n) 0) ≡ t → Span s (s + suc n)
+      go (masked p lo hi d) t e = masked p lo (omega arith) d
+      go (same f) true e = same (λ p lo hi. last p hi (f p lo) (eqb-true _ _ e))
+      go (same f) false e = masked (s + n) (omega arith) (omega arith) (eqb-false _ _ e)
 
-  fine-tokens : (c : Children) → TokenSpans (length a) c → ((p : ℕ) → Differ a b p → EachToken (QuotedInside p) c)
-      → EachToken (λ h. T (quoted h) → EndsInWhiteSpace a h → ⊥) c → EachToken FineToken c
-  fine-tokens done s f w = tt
-  fine-tokens (token h rest) s f w = (fine-token h (s .0 .2) (λ p d. (f p d) .0) (w .0), fine-tokens rest (s .1) (λ p d. (f p d) .1) (w .1))
-  fine-tokens (node h kids rest) s f w = (fine-tokens kids (s .0) (λ p d. (f p d) .0) (w .0), fine-tokens rest (s .1) (λ p d. (f p d) .1) (w .1))
+  alike-token : (h : Head) → h .start ≤ h .end → h .end ≤ length a → ((p : ℕ) → Differ a b p → Holds p h → StrictlyInside p h)
+      → ((p : ℕ) → Differ a b p → Holds p h → T (quoted h)) → ((p : ℕ) → Differ a b p → Holds p h → EndsInWhiteSpace a h → ⊥) → TokenAlike h
+  alike-token h le fits f g w = go (subst (Span (h .start)) (omega arith) (span (h .start) (h .end - h .start)))
+    where
+      none : (t : Bool) → (T t → ⊥) → t ≡ false
+      none true u = absurd (u tt)
+      none false u = refl
 
-  fine-copy : (h : Head) → ((p : ℕ) → Differ a b p → Holds p h → ⊥) → FineCopy h
-  fine-copy h f = token-same a b (h .start) (h .end) sameLength (λ p lo hi. stable _ _ (λ d. f p d (lo, hi)))
+      go : Span (h .start) (h .end) → TokenAlike h
+      go (masked p lo hi d) =
+          masked-token h (g p d (lo, hi)) (omega arith) fits
+          (stable _ _ (λ e. let v : StrictlyInside (h .end - 1) h = f (h .end - 1) e (omega arith, omega arith) in omega arith))
+          (none (isWhiteSpace (getD a (h .end - 1) 0)) (λ x. w p d (lo, hi) (omega arith, x)))
+      go (same e) = same-token h (token-same a b (h .start) (h .end) sameLength e)
+
+  alike-tokens : (c : Children) → TokenSpans (length a) c → ((p : ℕ) → Differ a b p → EachToken (λ h. Holds p h → StrictlyInside p h) c)
+      → ((p : ℕ) → Differ a b p → EachToken (λ h. Holds p h → T (quoted h)) c)
+      → ((p : ℕ) → Differ a b p → EachToken (λ h. Holds p h → EndsInWhiteSpace a h → ⊥) c) → EachToken TokenAlike c
+  alike-tokens done s f g w = tt
+  alike-tokens (token h rest) s f g w = (
+    alike-token h (s .0 .1) (s .0 .2) (λ p d. (f p d) .0) (λ p d. (g p d) .0) (λ p d. (w p d) .0),
+    alike-tokens rest (s .1) (λ p d. (f p d) .1) (λ p d. (g p d) .1) (λ p d. (w p d) .1),
+  )
+  alike-tokens (node h kids rest) s f g w = (
+    alike-tokens kids (s .0) (λ p d. (f p d) .0) (λ p d. (g p d) .0) (λ p d. (w p d) .0),
+    alike-tokens rest (s .1) (λ p d. (f p d) .1) (λ p d. (g p d) .1) (λ p d. (w p d) .1),
+  )
+
+  alike-copy : (h : Head) → ((p : ℕ) → Differ a b p → Holds p h → ⊥) → CopyAlike h
+  alike-copy h f = token-same a b (h .start) (h .end) sameLength (λ p lo hi. stable _ _ (λ d. f p d (lo, hi)))
 
   of-copied : (t : Bool) (A B : Type 0) (A′ B′ : ℕ → Type 0) → ((p : ℕ) → Differ a b p → OfCopied t (A′ p) (B′ p))
       → (((p : ℕ) → Differ a b p → A′ p) → A) → (((p : ℕ) → Differ a b p → B′ p) → B) → OfCopied t A B
   of-copied true A B A′ B′ f u v = u f
   of-copied false A B A′ B′ f u v = v f
 
-  fine-copies : (c : Children) → ((p : ℕ) → Differ a b p → EachReached (λ h. Holds p h → ⊥) c) → EachReached FineCopy c
-  fine-copies done f = tt
-  fine-copies (token h rest) f = fine-copies rest f
-  fine-copies (node h kids rest) f =
-      (of-copied (copied (h .kind) kids) _ _ _ _ (λ p d. (f p d) .0) (fine-copy h) (fine-copies kids), fine-copies rest (λ p d. (f p d) .1))
+  alike-copies : (c : Children) → ((p : ℕ) → Differ a b p → EachReachedBelow (λ h. Holds p h → ⊥) c) → EachReachedBelow CopyAlike c
+  alike-copies done f = tt
+  alike-copies (token h rest) f = alike-copies rest f
+  alike-copies (node h kids rest) f =
+      (of-copied (copied (h .kind) kids) _ _ _ _ (λ p d. (f p d) .0) (alike-copy h) (alike-copies kids), alike-copies rest (λ p d. (f p d) .1))
 
   -- ── the theorem
 
-  -- a version that puts the same between pieces that are alike
-  abbrev pub Steady : Version → Type 0
-  Steady v = (ps qs : List Piece) → PiecesLike ps qs → PiecesLike (v .between ps) (v .between qs)
+  -- a version that keeps pieces alike that are alike
+  abbrev pub KeepsAlike : Version → Type 0
+  KeepsAlike v = (ps qs : List Piece) → PiecesLike ps qs → PiecesLike (v .between ps) (v .between qs)
 
-  pub original-steady : Steady original
+  pub original-keeps-alike : KeepsAlike original
   unfolding original
-  original-steady ps qs k = k
+  original-keeps-alike ps qs k = k
 
-  same-pieces : (v : Version) → Steady v → (config : FormatConfig) (t : Tree) → TokenSpans (length a) (t .kids) → MaskedAsRead a b t
+  same-pieces : (v : Version) → KeepsAlike v → (config : FormatConfig) (t : Tree) → TokenSpans (length a) (t .kids) → MaskedForLayout a b t
       → PiecesLike (piecesOf v config a t) (piecesOf v config b t)
   unfolding piecesOf
-  same-pieces v st config t s m =
+  same-pieces v keeps config t s m =
       subst (λ cs. PiecesLike (v .between (pieces config a (calls (v .pick) a t) newState)) (v .between (pieces config b cs newState)))
       (calls-same (v .pick) t tokens)
-      (st _ _ (pieces-like config (calls (v .pick) a t) (calls-fine (v .pick) t tokens copies) newState))
+      (keeps _ _ (pieces-like config (calls (v .pick) a t) (calls-alike (v .pick) t tokens copies) newState))
     where
-      tokens : EachToken FineToken (t .kids)
-      tokens = fine-tokens (t .kids) s (m .inQuotes) (m .solidEnds)
+      tokens : EachToken TokenAlike (t .kids)
+      tokens = alike-tokens (t .kids) s (m .strictlyInside) (m .inQuotes) (m .noWhiteSpaceEnd)
 
-      copies : OfCopied (copied (t .head .kind) (t .kids)) (FineCopy (t .head)) (EachReached FineCopy (t .kids))
-      copies = of-copied (copied (t .head .kind) (t .kids)) _ _ _ _ (m .notCopied) (fine-copy (t .head)) (fine-copies (t .kids))
+      copies : EachReachedCopy CopyAlike t
+      copies = of-copied (copied (t .head .kind) (t .kids)) _ _ _ _ (m .notCopied) (alike-copy (t .head)) (alike-copies (t .kids))
 
-  masking-as-read : (v : Version) → Steady v → (config : FormatConfig) (t : Tree) → TokenSpans (length a) (t .kids) → MaskedAsRead a b t
+  pub masking : (v : Version) → KeepsAlike v → (config : FormatConfig) (t : Tree) → TokenSpans (length a) (t .kids) → MaskedForLayout a b t
       → Like a b (format v config a t) (format v config b t)
   unfolding format
-  masking-as-read v st config t s m =
-      let k = same-pieces v st config t s m in
+  masking v keeps config t s m =
+      let k = same-pieces v keeps config t s m in
       let ps = piecesOf v config a t in
       let qs = piecesOf v config b t in
       finish-like a b (written ps) (written qs) (written-like ps qs k) (written-trims ps qs k)
 
-  -- ── the rule in its own words asks for more
+-- ── demand 3's own conditions ask for more
 
-  reached : (c : Children) (P : Head → Type 0) → EachCopied P c → EachReached P c
-  reached done P u = tt
-  reached (token h rest) P u = reached rest P u
-  reached (node h kids rest) P u = (go (copied (h .kind) kids) (u .0) (reached kids P (u .1)), reached rest P (u .2))
-    where
-      go : (t : Bool) → (T t → P h) → EachReached P kids → OfCopied t (P h) (EachReached P kids)
-      go true f below = f tt
-      go false f below = below
+module _ (a b : Text) where
+  reached-below : (P : Head → Type 0) (c : Children) → EachNode (λ h kids. T (copied (h .kind) kids) → P h) c → EachReachedBelow P c
+  reached-below P done u = tt
+  reached-below P (token h rest) u = reached-below P rest u
+  reached-below P (node h kids rest) u =
+      (of-copy (copied (h .kind) kids) (P h) (EachReachedBelow P kids) (u .0) (reached-below P kids (u .1)), reached-below P rest (u .2))
 
-  masked-as-read : (t : Tree) → Masked a b t → MaskedAsRead a b t
-  masked-as-read t m =
+  solid : (p : ℕ) (c : Children) → EachToken (λ h. Holds p h → T (quoted h)) c → EachToken (λ h. T (quoted h) → EndsInWhiteSpace a h → ⊥) c
+      → EachToken (λ h. Holds p h → EndsInWhiteSpace a h → ⊥) c
+  solid p done q w = tt
+  solid p (token h rest) q w = (λ i. w .0 (q .0 i), solid p rest (q .1) (w .1))
+  solid p (node h kids rest) q w = (solid p kids (q .0) (w .0), solid p rest (q .1) (w .1))
+
+  pub masked-for-layout : (t : Tree) → Masked a b t → MaskedForLayout a b t
+  masked-for-layout t m =
       record {
+        strictlyInside = m .strictlyInside;
         inQuotes = m .inQuotes;
-        notCopied = λ p d. go (copied (t .head .kind) (t .kids)) p (m .notCopied p d);
-        solidEnds = m .solidEnds;
+        notCopied =
+            λ p d.
+            let u = m .notCopied p d in
+            let P : Head → Type 0 = λ h. Holds p h → ⊥ in
+            of-copy (copied (t .head .kind) (t .kids)) (P (t .head)) (EachReachedBelow P (t .kids)) (u .0) (reached-below P (t .kids) (u .1));
+        noWhiteSpaceEnd = λ p d. solid p (t .kids) (m .inQuotes p d) (m .noWhiteSpaceEnd);
       }
-    where
-      go : (x : Bool) (p : ℕ) → (T x → Holds p (t .head) → ⊥) × EachCopied (λ h. Holds p h → ⊥) (t .kids)
-          → OfCopied x (Holds p (t .head) → ⊥) (EachReached (λ h. Holds p h → ⊥) (t .kids))
-      go true p u = u .0 tt
-      go false p u = reached (t .kids) (λ h. Holds p h → ⊥) (u .1)
 
-  pub masking : (v : Version) → Steady v → (config : FormatConfig) (t : Tree) → TokenSpans (length a) (t .kids) → Masked a b t
-      → Like a b (format v config a t) (format v config b t)
-  masking v st config t s m = masking-as-read v st config t s (masked-as-read t m)
+  -- a masked place holds a newline in neither text, so newlines stand at the same places
+  pub masked-lines : (t : Tree) → Masked a b t → SameLines a b
+  masked-lines t m p = go (eqb (getD a p 0) (getD b p 0)) refl
+    where
+      go : (x : Bool) → eqb (getD a p 0) (getD b p 0) ≡ x → eqb (getD a p 0) 10 ≡ eqb (getD b p 0) 10
+      go true e = ap (λ (n : ℕ). eqb n 10) (eqb-true (getD a p 0) (getD b p 0) e)
+      go false e =
+          let u = m .noNewline p (eqb-false (getD a p 0) (getD b p 0) e) in ne-eqb (getD a p 0) 10 (u .0) ∙ sym (ne-eqb (getD b p 0) 10 (u .1))

@@ -1,8 +1,8 @@
--- `layout_both` meets its contract. Assumes nothing.
+-- `layout_both` meets its contract.
 use borrow.Author.Needs.{needs}
-use Rattle.formatter.proofs.Pairs.{lays-out-both}
-use Rattle.formatter.proofs.pair.layout_both.Statement.{statement}
-use Rattle.formatter.proofs.pair.layout_both.Tie as tie
+use Rattle.two_calls.proofs.Both.{lays-out-both}
+use Rattle.two_calls.proofs.layout_both.Statement.{statement}
+use Rattle.two_calls.proofs.layout_both.Tie as tie
 
 layout-requires : tie.Need-layout-requires
 layout-requires c κs = search needs

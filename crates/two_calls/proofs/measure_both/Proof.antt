@@ -1,8 +1,8 @@
--- `measure_both` meets its contract. Assumes nothing.
+-- `measure_both` meets its contract.
 use borrow.Author.Needs.{needs}
-use Rattle.formatter.proofs.Pairs.{measures-both}
-use Rattle.formatter.proofs.pair.measure_both.Statement.{statement}
-use Rattle.formatter.proofs.pair.measure_both.Tie as tie
+use Rattle.two_calls.proofs.Both.{measures-both}
+use Rattle.two_calls.proofs.measure_both.Statement.{statement}
+use Rattle.two_calls.proofs.measure_both.Tie as tie
 
 measure-requires : tie.Need-measure-requires
 measure-requires c κs = search needs

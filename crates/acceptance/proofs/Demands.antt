@@ -1,0 +1,152 @@
+-- From what the calls promise to the demands.
+use mathlib.Core.Path.{_≡_, refl, sym, ap, subst, subst₂, _∙_}
+use mathlib.Core.Bool.{Bool, true, false}
+use mathlib.Core.List.{List, _++_}
+use Prim.Native.Nat.{ℕ, _≤_, _<_}
+use native.Mathlib.Omega.{arith}
+use lib.ListN.{length, getD, drop, length-map, List·getD-map}
+use borrow.Author.Tests.{le-leb, lt-leb}
+use Rattle.basics.specs.Case.{toLowercase}
+use Rattle.context.specs.Cells.{Text, Cell, bytesOf, fresh}
+use Rattle.context.specs.Alike.{Agree, CellLike}
+use Rattle.context.proofs.Masking.{like-at}
+use Rattle.tape.specs.declared.Fault.{Fault}
+use Rattle.tape.specs.Tree.{Tree}
+use Rattle.tape.specs.Tape.{Read, refused, got}
+use Rattle.tape.specs.Call.{readCall}
+use Rattle.layout.specs.declared.Answer.{Answer}
+use Rattle.layout.specs.Layout.{original, format}
+use Rattle.layout.specs.Outcome.{Outcome, refusal, laid, ofRead, configOf, outcome, Result, fitted, measured, laidOut}
+use Rattle.layout.specs.Masking.{MaskedPairForLayout, SameLines, cellsAfter}
+use Rattle.layout.proofs.TwoCalls.{pair-for-layout, demand-3, cells-after}
+use Rattle.layout.proofs.Origins.{origins-after, comes-from}
+use Rattle.two_calls.specs.declared.Answers.{Answers}
+use Rattle.two_calls.specs.Both.{MeasuresBoth, LaysOutBoth}
+use Rattle.acceptance.specs.declared.Calls.{Calls}
+use Rattle.acceptance.specs.declared.CallsOnTwoTexts.{CallsOnTwoTexts}
+use Rattle.acceptance.specs.Demands.{formatted, Demand1, Demand2, AlikeWhere, Demand3}
+
+-- ── demands 1 and 2
+
+module _ (width case : ℕ) (text tape before : List ℕ) (r : Calls) (after : List ℕ) (m : r .measured ≡ measured (outcome original width case text tape)) (l : _≡_ {A = Result} (record { answer = r .«laid_out»; space = after }) (laidOut (outcome original width case text tape) before)) where
+  was-refused : (f : Fault) (p : ℕ) → readCall width case text tape ≡ refused f p → outcome original width case text tape ≡ refusal f p
+  unfolding outcome
+  was-refused f p e = ap (λ (x : Read Tree). ofRead x (format original (configOf width case) text)) e
+
+  was-laid : (t : Tree) (p : ℕ) → readCall width case text tape ≡ got t p → outcome original width case text tape ≡ laid (format original (configOf width case) text t)
+  unfolding outcome
+  was-laid t p e = ap (λ (x : Read Tree). ofRead x (format original (configOf width case) text)) e
+
+  -- the answer and the space, where the outcome is known
+  laid-answer : {x : Outcome} → outcome original width case text tape ≡ x → r .«laid_out» ≡ (laidOut x before) .answer
+  laid-answer e = ap (λ (z : Result). z .answer) l ∙ ap (λ (z : Outcome). (laidOut z before) .answer) e
+
+  laid-space : {x : Outcome} → outcome original width case text tape ≡ x → after ≡ (laidOut x before) .space
+  laid-space e = ap (λ (z : Result). z .space) l ∙ ap (λ (z : Outcome). (laidOut z before) .space) e
+
+  -- whether the layout fits
+  module _ (t : Tree) where
+    abbrev cells : List Cell
+    cells = format original (configOf width case) text t
+
+    as-long : length (formatted width case text tape before r after t) ≡ length cells
+    as-long = length-map cells (λ (c : Cell). c .byte)
+
+    fits : length (formatted width case text tape before r after t) ≤ length before → laidOut (laid cells) before ≡ fitted true cells before
+    unfolding laidOut
+    fits h = ap (λ (b : Bool). fitted b cells before) (le-leb (length cells) (length before) (omega (arith, as-long)))
+
+    too-short : length before < length (formatted width case text tape before r after t) → laidOut (laid cells) before ≡ fitted false cells before
+    unfolding laidOut
+    too-short h = ap (λ (b : Bool). fitted b cells before) (lt-leb (length cells) (length before) (omega (arith, as-long)))
+
+  pub demand1 : Demand1 width case text tape before r after
+  unfolding measured laidOut
+  demand1 =
+      record {
+        refuses = λ f p e. let o = was-refused f p e in (m ∙ ap measured o, laid-answer o, laid-space o);
+        tooShort =
+            λ t p e h.
+            let o = was-laid t p e in (
+              laid-answer o ∙ ap (λ (z : Result). z .answer) (too-short t h) ∙ ap (λ (n : ℕ). record { number = 13; value = n }) (sym (as-long t)),
+              laid-space o ∙ ap (λ (z : Result). z .space) (too-short t h),
+            );
+        accepts =
+            λ t p e.
+            let o = was-laid t p e in (
+              ap (λ (z : Answer). z .number) (m ∙ ap measured o),
+              λ h. ap (λ (z : Answer). z .number) (laid-answer o ∙ ap (λ (z : Result). z .answer) (fits t h)),
+            );
+      }
+
+  pub demand2 : Demand2 width case text tape before r after
+  unfolding measured
+  demand2 =
+      record {
+        measures = λ t p e. m ∙ ap measured (was-laid t p e) ∙ ap (λ (n : ℕ). record { number = 0; value = n }) (sym (as-long t));
+        writes =
+            λ t p e h.
+            let o = was-laid t p e in (
+              laid-answer o ∙ ap (λ (z : Result). z .answer) (fits t h) ∙ ap (λ (n : ℕ). record { number = 0; value = n }) (sym (as-long t)),
+              laid-space o
+                  ∙ ap (λ (z : Result). z .space) (fits t h)
+                  ∙ ap (λ (n : ℕ). formatted width case text tape before r after t ++ drop n before) (sym (as-long t)),
+            );
+      }
+
+-- ── demand 3
+
+-- a byte of the space, and its cell
+byte-at : (cs : List Cell) (ys : List ℕ) → ys ≡ bytesOf cs → (i : ℕ) → getD ys i 0 ≡ (getD cs i (fresh 0)) .byte
+byte-at cs ys e i = ap (λ (z : List ℕ). getD z i 0) e ∙ List·getD-map (λ (c : Cell). c .byte) cs i (fresh 0)
+
+module _ (width case : ℕ) (a b : Text) (tape beforeA beforeB : List ℕ) (m l : Answers) (afterA afterB : List ℕ) (measures : MeasuresBoth a b tape width case m) (laysOut : LaysOutBoth a b tape width case beforeA beforeB l afterA afterB) where
+  abbrev x : Outcome
+  x = outcome original width case a tape
+
+  abbrev y : Outcome
+  y = outcome original width case b tape
+
+  abbrev r : CallsOnTwoTexts
+  r = record { «measured_a» = m .first; «measured_b» = m .second; «laid_out_a» = l .first; «laid_out_b» = l .second }
+
+  space-a : afterA ≡ bytesOf (cellsAfter x beforeA)
+  space-a = ap (λ (z : Result). z .space) (laysOut .first) ∙ sym (cells-after x beforeA)
+
+  space-b : afterB ≡ bytesOf (cellsAfter y beforeB)
+  space-b = ap (λ (z : Result). z .space) (laysOut .second) ∙ sym (cells-after y beforeB)
+
+  module _ {Allowed : Type 0} (weaken : Allowed → MaskedPairForLayout width case a b tape) where
+    cells-alike : Allowed → beforeA ≡ beforeB → (i : ℕ) → CellLike a b (getD (cellsAfter x beforeA) i (fresh 0)) (getD (cellsAfter y beforeB) i (fresh 0))
+    cells-alike k e i =
+        subst (λ (s : List ℕ). CellLike a b (getD (cellsAfter x beforeA) i (fresh 0)) (getD (cellsAfter y s) i (fresh 0))) e
+        (like-at a b (cellsAfter x beforeA) (cellsAfter y beforeA) (laysOut .masked (weaken k) e .1 .alike) i)
+
+    alike-where : AlikeWhere width case a b tape beforeA beforeB r afterA afterB Allowed
+    alike-where =
+        record {
+          measures = λ k. measures .masked (weaken k);
+          laysOut = λ k e. laysOut .masked (weaken k) e .0;
+          samePlace = λ k e i. cells-alike k e i .origins;
+          alike =
+              λ k e i g.
+              byte-at (cellsAfter x beforeA) afterA space-a i ∙ cells-alike k e i .bytes g ∙ sym (byte-at (cellsAfter y beforeB) afterB space-b i);
+        }
+
+  pub demand3 : Demand3 width case a b tape beforeA beforeB r afterA afterB
+  demand3 =
+      record {
+        calls = record { measuredA = measures .first; measuredB = measures .second; laidOutA = laysOut .first; laidOutB = laysOut .second };
+        alike = alike-where (pair-for-layout width case a b tape);
+        lines =
+            λ k e.
+            subst₂ SameLines (sym (ap (λ (z : Result). z .space) (laysOut .first)))
+            (ap (λ (s : List ℕ). (laidOut y s) .space) e ∙ sym (ap (λ (z : Result). z .space) (laysOut .second)))
+            (demand-3 width case a b tape k beforeA .lines);
+        copied =
+            λ i p e.
+            ap toLowercase (byte-at (cellsAfter x beforeA) afterA space-a i)
+            ∙ comes-from a (cellsAfter x beforeA) (origins-after a width case tape beforeA) i p e;
+        stronger = alike-where (λ k. k);
+        strongerLines = λ k e. laysOut .masked k e .1 .lines;
+      }

@@ -1,0 +1,2 @@
+-- From what the calls promise to the demands.
+pub mod Demands

@@ -1,0 +1,2 @@
+-- What the customer is promised, demand by demand.
+pub mod Demands

@@ -1,0 +1,142 @@
+// What the customer is promised, one function for each demand: it makes the calls that the demand speaks of, asks nothing, and promises what
+// the demand says. Nobody calls these functions. They are the page to read first, and a promise that is weakened below fails here.
+use desk_job::print_job;
+use formatter::layout;
+use formatter::measure;
+use formatter::qdesk_layout;
+use formatter::qdesk_measure;
+use keywords::is_keyword;
+use keywords::is_value_keyword;
+use keywords::is_word;
+use keywords::qdesk_is_keyword;
+use keywords::qdesk_is_value_keyword;
+use layout::Answer;
+use two_calls::layout_both;
+use two_calls::measure_both;
+ghost use mathlib.Core.Path.{_≡_};
+ghost use lib.ListN.{length};
+ghost use Rattle.keywords.specs.Words.{capitals, isKeyword, isValueKeyword, same};
+ghost use Rattle.layout.specs.Layout.{original};
+ghost use Rattle.layout.specs.Outcome.{Result, laidOut, measured, outcome};
+ghost use Rattle.desk_job.specs.Job.{printed};
+ghost use Rattle.desk_job.specs.Written.{Written, written};
+ghost use Rattle.acceptance.specs.Demands.{Demand1, Demand2, Demand3};
+
+// What one call of each sort answers.
+pub struct Calls {
+    pub measured: Answer,
+    pub laid_out: Answer,
+}
+
+// The same for two texts.
+pub struct CallsOnTwoTexts {
+    pub measured_a: Answer,
+    pub measured_b: Answer,
+    pub laid_out_a: Answer,
+    pub laid_out_b: Answer,
+}
+
+// Demand 1: bad input is refused with its number and place, nothing is written, and nothing else is refused.
+pub fn demand_1(text: &[u8], tape: &[u8], width: u64, case: u64, out: &mut [u8]) -> Calls
+    ensures { λ r. ⌜ Demand1 width case (now (text .entry)) (now (tape .entry)) (now (out .entry)) r (now (out .exit)) ⌝ }
+{
+    let m = measure(text, tape, width, case);
+    let l = layout(text, tape, width, case, out);
+    Calls {
+        measured: m,
+        laid_out: l,
+    }
+}
+
+// Demand 2: the bytes written are those of the definition that follows the source, and later bytes stay as they were.
+pub fn demand_2(text: &[u8], tape: &[u8], width: u64, case: u64, out: &mut [u8]) -> Calls
+    ensures { λ r. ⌜ Demand2 width case (now (text .entry)) (now (tape .entry)) (now (out .entry)) r (now (out .exit)) ⌝ }
+{
+    let m = measure(text, tape, width, case);
+    let l = layout(text, tape, width, case, out);
+    Calls {
+        measured: m,
+        laid_out: l,
+    }
+}
+
+// Demand 3: a query whose quoted names are masked lays out line for line like the query it came from.
+pub fn demand_3(
+    a: &[u8],
+    b: &[u8],
+    tape: &[u8],
+    width: u64,
+    case: u64,
+    out_a: &mut [u8],
+    out_b: &mut [u8],
+) -> CallsOnTwoTexts
+    ensures { λ r. ⌜ Demand3 width case (now (a .entry)) (now (b .entry)) (now (tape .entry)) (now («out_a» .entry)) (now («out_b» .entry)) r (now («out_a» .exit)) (now («out_b» .exit)) ⌝ }
+{
+    let m = measure_both(a, b, tape, width, case);
+    let l = layout_both(a, b, tape, width, case, out_a, out_b);
+    let measured_a = m.first;
+    let measured_b = m.second;
+    let laid_out_a = l.first;
+    let laid_out_b = l.second;
+    CallsOnTwoTexts {
+        measured_a: measured_a,
+        measured_b: measured_b,
+        laid_out_a: laid_out_a,
+        laid_out_b: laid_out_b,
+    }
+}
+
+// The C interface: measuring.
+pub fn c_measure(text: &[u8], tape: &[u8], width: u64, case: u64) -> Answer
+    ensures { λ r. ⌜ r ≡ measured (outcome original width case (now (text .entry)) (now (tape .entry))) ⌝ }
+{
+    qdesk_measure(text, tape, width, case)
+}
+
+// The C interface: laying out.
+pub fn c_layout(text: &[u8], tape: &[u8], width: u64, case: u64, out: &mut [u8]) -> Answer
+    ensures { λ r. ⌜ _≡_ {A = Result} (record { answer = r; space = now (out .exit) }) (laidOut (outcome original width case (now (text .entry)) (now (tape .entry))) (now (out .entry))) ⌝ }
+{
+    qdesk_layout(text, tape, width, case, out)
+}
+
+// The desk's program: what it prints for a job, and nothing else of its buffer changes.
+pub fn desk(job: &[u8], more: bool, out: &mut [u8]) -> usize
+    ensures { λ r. ⌜ _≡_ {A = Written} (record { end = r; space = now (out .exit) }) (written 0 (printed more (now (job .entry)) (length (now (out .entry)))) (now (out .entry))) ⌝ }
+{
+    print_job(job, more, out)
+}
+
+// The keyword list: whether a word is on it, in any case.
+pub fn keyword(word: &[u8]) -> bool
+    ensures { λ r. ⌜ r ≡ isKeyword (now (word .entry)) ⌝ }
+{
+    is_keyword(word)
+}
+
+// TRUE, FALSE or NULL, in any case.
+pub fn value_keyword(word: &[u8]) -> bool
+    ensures { λ r. ⌜ r ≡ isValueKeyword (now (word .entry)) ⌝ }
+{
+    is_value_keyword(word)
+}
+
+// A word in any case beside one in capitals.
+pub fn word(word: &[u8], caps: &[u8]) -> bool
+    ensures { λ r. ⌜ r ≡ same (capitals (now (word .entry))) (now (caps .entry)) ⌝ }
+{
+    is_word(word, caps)
+}
+
+// The C interface: both tests of a word.
+pub fn c_keyword(word: &[u8]) -> bool
+    ensures { λ r. ⌜ r ≡ isKeyword (now (word .entry)) ⌝ }
+{
+    qdesk_is_keyword(word)
+}
+
+pub fn c_value_keyword(word: &[u8]) -> bool
+    ensures { λ r. ⌜ r ≡ isValueKeyword (now (word .entry)) ⌝ }
+{
+    qdesk_is_value_keyword(word)
+}

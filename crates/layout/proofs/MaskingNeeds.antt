@@ -1,0 +1,161 @@
+-- The masking rule's conditions are met by a pair of texts that differ, which is put through the rule; and each is needed.
+use Prim.Native.Nat.{ℕ, zero, suc, _<_}
+use native.Mathlib.Omega.{arith}
+use mathlib.Core.Path.{_≡_, refl, sym, subst}
+use mathlib.Core.Bool.{Bool, true, false, not, _&&_, _||_}
+use mathlib.Core.List.{List, [], _∷_}
+use lib.ListN.{length, getD}
+use lib.Dec.{T, T-not, eqb, ltb, lit<}
+use lib.Ieee.Fits.{and-l, and-r}
+use borrow.Author.Tests.{ne-eqb}
+use Rattle.context.specs.Cells.{Text}
+use Rattle.tape.specs.Tree.{Tree}
+use Rattle.tape.specs.Tape.{Read, refused, got, readTree}
+use Rattle.tape.specs.Call.{readInput, readCall}
+use Rattle.layout.specs.Layout.{original}
+use Rattle.layout.specs.Outcome.{outcome}
+use Rattle.layout.specs.Masking.{Differ, MaskedPair, MaskedPairForLayout}
+use Rattle.layout.specs.MaskingTests.{Condition, sameLength, asciiTexts, noNewline, inSomeToken, strictlyInside, inQuotes, notCopied, noWhiteSpaceEnd, Asks, holds, holdsForLayout}
+use Rattle.layout.specs.MaskingNeeds.{Pair, space, Claim, claimed, conditions, ofTree, allHold, meets, masked, meetsForLayout, maskedForLayout, Broken, number, needed, allNeeded, pairs, Needed, EachNeeded}
+use Rattle.layout.proofs.TwoCalls.{demand-3}
+use Rattle.layout.proofs.MaskingTests.{asked, asked-for-layout, says}
+use Rattle.layout.proofs.Tables.{tables}
+
+-- ── from the tests to the rule's words
+
+module _ (leftOut : Condition → Bool) (a b : Text) (t : Tree) where
+  held-at : (cs : List Condition) → T (allHold leftOut a b cs t) → (n : ℕ) → n < length cs
+      → T (leftOut (getD cs n sameLength) || holds a b t (getD cs n sameLength))
+  held-at [] u n h = absurd (omega arith)
+  held-at (c ∷ cs) u zero h = and-l (leftOut c || holds a b t c) (allHold leftOut a b cs t) u
+  held-at (c ∷ cs) u (suc n) h = held-at cs (and-r (leftOut c || holds a b t c) (allHold leftOut a b cs t) u) n (omega arith)
+
+  -- each condition stands in the list
+  listed : (c : Condition) → (number c < length conditions) × (getD conditions (number c) sameLength ≡ c)
+  listed sameLength = (lit< tt, refl)
+  listed asciiTexts = (lit< tt, refl)
+  listed noNewline = (lit< tt, refl)
+  listed inSomeToken = (lit< tt, refl)
+  listed strictlyInside = (lit< tt, refl)
+  listed inQuotes = (lit< tt, refl)
+  listed notCopied = (lit< tt, refl)
+  listed noWhiteSpaceEnd = (lit< tt, refl)
+
+  all-asked : T (allHold leftOut a b conditions t) → (c : Condition) → leftOut c ≡ false → Asks c a b t
+  all-asked u c e =
+      let k = listed c in
+      let v = subst (λ (x : Condition). T (leftOut x || holds a b t x)) (k .1) (held-at conditions u (number c) (k .0)) in
+      asked a b t c (subst (λ (s : Bool). T (s || holds a b t c)) e v)
+
+of-tree : (f : Tree → Bool) (r : Read Tree) (t : Tree) (p : ℕ) → T (ofTree f r) → r ≡ got t p → T (f t)
+of-tree f r t p u e = subst (λ (x : Read Tree). T (ofTree f x)) e u
+
+-- ── the pair that meets all conditions
+
+-- what the tree that was read gives, whichever it is
+of-some : {A : Type 0} (f : Tree → Bool) (r : Read Tree) → T (ofTree f r) → ((t : Tree) → T (f t) → A) → A
+of-some f (refused y p) v g = absurd v
+of-some f (got t p) v g = g t v
+
+module _ (x : Pair) where
+  abbrev call : Read Tree
+  call = readCall 4 1 (x .first) (x .tape)
+
+  meets-pair : T (meets x) → MaskedPair 4 1 (x .first) (x .second) (x .tape)
+  meets-pair u =
+      record {
+        sameLength = of-some f call u (λ t v. asks t v sameLength);
+        asciiA = of-some f call u (λ t v. asks t v asciiTexts .0);
+        asciiB = of-some f call u (λ t v. asks t v asciiTexts .1);
+        rule =
+            λ t p e.
+            let v = of-tree f call t p u e in
+            record {
+              noNewline = asks t v noNewline;
+              inSomeToken = asks t v inSomeToken;
+              strictlyInside = asks t v strictlyInside;
+              inQuotes = asks t v inQuotes;
+              notCopied = asks t v notCopied;
+              noWhiteSpaceEnd = asks t v noWhiteSpaceEnd;
+            };
+      }
+    where
+      f : Tree → Bool
+      f = allHold (λ c. false) (x .first) (x .second) conditions
+
+      asks : (t : Tree) → T (f t) → (c : Condition) → Asks c (x .first) (x .second) t
+      asks t v c = all-asked (λ d. false) (x .first) (x .second) t v c refl
+
+  meets-pair-for-layout : T (meetsForLayout x) → MaskedPairForLayout 4 1 (x .first) (x .second) (x .tape)
+  meets-pair-for-layout u =
+      record {
+        sameLength = of-some f call u (λ t v. asked (x .first) (x .second) t sameLength (and-l (l t) (a t) (and-l (l t && a t) (h t) v)));
+        asciiA = of-some f call u (λ t v. ascii t v .0);
+        asciiB = of-some f call u (λ t v. ascii t v .1);
+        rule = λ t p e. asked-for-layout (x .first) (x .second) t (and-r (l t && a t) (h t) (of-tree f call t p u e));
+      }
+    where
+      l : Tree → Bool
+      l t = holds (x .first) (x .second) t sameLength
+
+      a : Tree → Bool
+      a t = holds (x .first) (x .second) t asciiTexts
+
+      h : Tree → Bool
+      h t = holdsForLayout (x .first) (x .second) t
+
+      f : Tree → Bool
+      f t = (l t && a t) && h t
+
+      ascii : (t : Tree) → T (f t) → Asks asciiTexts (x .first) (x .second) t
+      ascii t v = asked (x .first) (x .second) t asciiTexts (and-r (l t) (a t) (and-l (l t && a t) (h t) v))
+
+pub met : MaskedPair 4 1 (masked .first) (masked .second) (masked .tape)
+met = meets-pair masked (and-l (meets masked) (meetsForLayout maskedForLayout) (tables .met))
+
+-- the layout needs less, which another pair meets
+pub met-for-layout : MaskedPairForLayout 4 1 (maskedForLayout .first) (maskedForLayout .second) (maskedForLayout .tape)
+met-for-layout = meets-pair-for-layout maskedForLayout (and-r (meets masked) (meetsForLayout maskedForLayout) (tables .met))
+
+-- the two calls on it
+pub worked : Claim masked
+worked = demand-3 4 1 (masked .first) (masked .second) (masked .tape) met space
+
+-- its texts differ
+pub masked-differs : Differ (masked .first) (masked .second) 8
+unfolding masked
+masked-differs e = T-not (eqb 97 42) tt (subst (λ (n : ℕ). T (eqb 97 n)) e tt)
+
+-- ── each condition is needed
+
+is-needed : (x : Broken) → T (needed x) → Needed x
+is-needed x u = go (readTree (length (x .pair .first)) (x .pair .tape)) refl (and-l read (not (claimed (x .pair))) u)
+  where
+    f : Tree → Bool
+    f = allHold (λ c. eqb (number c) (number (x .without))) (x .pair .first) (x .pair .second) conditions
+
+    read : Bool
+    read = ofTree f (readTree (length (x .pair .first)) (x .pair .tape))
+
+    go : (r : Read Tree) → readTree (length (x .pair .first)) (x .pair .tape) ≡ r → T (ofTree f r) → Needed x
+    go (refused y p) e v = absurd v
+    go (got t p) e v =
+        record {
+          tree = t;
+          place = p;
+          read = e;
+          others =
+              λ c ne.
+              all-asked (λ d. eqb (number d) (number (x .without))) (x .pair .first) (x .pair .second) t v c (ne-eqb (number c) (number (x .without)) ne);
+          broken =
+              λ k.
+              T-not (claimed (x .pair)) (and-r read (not (claimed (x .pair))) u)
+              (says (x .pair .first) (x .pair .second) (outcome original 4 1 (x .pair .first) (x .pair .tape)) (outcome original 4 1 (x .pair .second) (x .pair .tape)) space k);
+        }
+
+are-needed : (xs : List Broken) → T (allNeeded xs) → EachNeeded xs
+are-needed [] u = tt
+are-needed (x ∷ xs) u = (is-needed x (and-l (needed x) (allNeeded xs) u), are-needed xs (and-r (needed x) (allNeeded xs) u))
+
+pub each-needed : EachNeeded pairs
+each-needed = are-needed pairs (tables .conditions)

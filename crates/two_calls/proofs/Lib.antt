@@ -1,0 +1,2 @@
+-- From two calls to the masking rule.
+pub mod Both

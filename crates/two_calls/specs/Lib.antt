@@ -1,0 +1,2 @@
+-- What two calls promise.
+pub mod Both
