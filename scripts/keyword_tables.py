@@ -68,7 +68,7 @@ def proof(function, argument, uses, unfolding, table, arms, answer):
     name = function.replace("_", "-")
     needs = ["returns"] + [f"returns-{i}" for i in range(2, len(arms) + 2)]
     lines = [
-        f"-- `keywords::{function}` meets its contract: each arm against the list of the definition. Assumes nothing.",
+        f"-- `keywords::{function}` meets its contract: each arm against the list of the definition.",
         "use mathlib.Core.List.{[], _∷_}",
         "use mathlib.Core.Path.{refl}",
         *uses,

@@ -1,4 +1,4 @@
--- A `match` on a kind against the dispatch of the definition: one computed test for each arm. Assumes nothing.
+-- A `match` on a kind against the dispatch of the definition: one computed test for each arm.
 use Prim.Native.Nat.{ℕ, _+_, _-_}
 use native.Mathlib.Omega.{arith}
 use mathlib.Core.Path.{_≡_, refl, sym, ap, _∙_}

@@ -1,4 +1,4 @@
--- From two calls to the masking rule. Assumes nothing.
+-- From two calls to the masking rule.
 use mathlib.Core.Path.{_≡_, sym, ap, _∙_}
 use mathlib.Core.List.{List, []}
 use Prim.Native.Nat.{ℕ}

@@ -1,4 +1,4 @@
 -- What the routines, the dispatch and the calls ask and promise.
-pub mod Promise
+pub mod RoutinePromises
 pub mod Entry
 pub mod Pair

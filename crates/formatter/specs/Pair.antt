@@ -1,4 +1,4 @@
--- What the two calls promise about two texts on one tape: the masking rule, demand 3. Assumes nothing: these are definitions.
+-- What the two calls promise about two texts on one tape: the masking rule, demand 3.
 use mathlib.Core.Path.{_≡_}
 use mathlib.Core.List.{List}
 use Prim.Native.Nat.{ℕ}

@@ -1,4 +1,4 @@
--- A `match` on a number against a list of pairs: one computed test for each arm, and one for the rest. Assumes nothing.
+-- A `match` on a number against a list of pairs: one computed test for each arm, and one for the rest.
 use Prim.Native.Nat.{ℕ}
 use mathlib.Core.Path.{_≡_, refl, sym, ap, _∙_}
 use mathlib.Core.Bool.{Bool, true, false, _&&_, _||_, false≢true}

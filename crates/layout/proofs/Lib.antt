@@ -1,5 +1,5 @@
 -- The laws about the definition, and the tables computed.
-pub mod Masking
+pub mod MaskedLayouts
 pub mod TwoCalls
 pub mod WorkedPair
 pub mod Origins

@@ -1,5 +1,5 @@
 -- The three tables hold of the definition: the course sheet, the refusals' small inputs, and the pairs that show each condition of the
--- masking rule needed. One computed test over each. Assumes nothing.
+-- masking rule needed. One computed test over each.
 use lib.Dec.{T}
 use Rattle.keywords.specs.Names.{names}
 use Rattle.keywords.specs.Words.{words, same, listed}
@@ -18,7 +18,7 @@ use Rattle.layout.specs.Calls.{formatErrorVerbatim, walk, calls}
 use Rattle.layout.specs.Layout.{doSpacing, step, pieces, written, original, piecesOf, format}
 use Rattle.layout.specs.Outcome.{outcome, laidOut}
 use Rattle.layout.specs.CourseSheet.{courseSheet, allRight}
-use Rattle.layout.specs.SmallInputs.{smallInputs, allAnswered}
+use Rattle.layout.specs.CallInputs.{smallInputs, allAnswered}
 use Rattle.layout.specs.MaskingNeeds.{pairs, needed, all}
 
 pub record Tables : Type 0 where

@@ -1,4 +1,4 @@
--- The masking rule for two calls, from entry to exit: refusals, answers and output spaces. Assumes nothing.
+-- The masking rule for two calls, from entry to exit: refusals, answers and output spaces.
 use Prim.Native.Nat.{ℕ, zero, suc}
 use mathlib.Core.Path.{_≡_, refl, sym, ap, _∙_, subst}
 use mathlib.Core.Bool.{Bool, true, false}
@@ -8,7 +8,7 @@ use lib.Dec.{leb, eqb}
 use Rattle.context.specs.Cells.{Text, Origin, made, from, Cell, bytesOf, fixed}
 use Rattle.context.specs.Alike.{LinesAgree, Like}
 use Rattle.context.proofs.Bytes.{bytes-append, bytes-fixed}
-use Rattle.context.proofs.Masking.{like-self, like-append, like-length}
+use Rattle.context.proofs.AlikeWrites.{like-self, like-append, like-length}
 use Rattle.tape.specs.Tree.{Tree}
 use Rattle.tape.specs.Tape.{Read, refused, got, verdict}
 use Rattle.tape.specs.Call.{readCall}
@@ -17,7 +17,7 @@ use Rattle.tape.proofs.Acceptance.{accepted-call, same-reading}
 use Rattle.layout.specs.Layout.{Version, original, format}
 use Rattle.layout.specs.Outcome.{Outcome, refusal, laid, ofRead, configOf, outcome, measured, fitted, laidOut}
 use Rattle.layout.specs.Masking.{MaskedPair, fittedCells, cellsAfter, Alike}
-use Rattle.layout.proofs.Masking.{Steady, original-steady, masking}
+use Rattle.layout.proofs.MaskedLayouts.{KeepsAlike, original-keeps-alike, masking}
 
 -- ── two lists of cells that are alike
 
@@ -84,7 +84,7 @@ got-same : {t u : Tree} {p q : ℕ} → got t p ≡ got u q → t ≡ u
 got-same e = cc
 
 module _ (width case : ℕ) (a b : Text) (tape : List ℕ) (m : MaskedPair width case a b tape) where
-  outcomes-like : (v : Version) → Steady a b (m .sameLength) v → OutcomesLike a b (outcome v width case a tape) (outcome v width case b tape)
+  outcomes-like : (v : Version) → KeepsAlike a b (m .sameLength) v → OutcomesLike a b (outcome v width case a tape) (outcome v width case b tape)
   unfolding outcome
   outcomes-like v st =
       rw (← (same-reading width case a b tape (m .sameLength) (m .asciiA) (m .asciiB))) (go (readCall width case a tape) refl)
@@ -100,10 +100,10 @@ module _ (width case : ℕ) (a b : Text) (tape : List ℕ) (m : MaskedPair width
           let l = masking a b (m .sameLength) v st (configOf width case) u spans (m .masked u (length tape) (k .read)) in
           subst (λ (x : Tree). Like a b (format v (configOf width case) a x) (format v (configOf width case) b x)) same l
 
-  pub masking-rule : (v : Version) → Steady a b (m .sameLength) v → (space : List ℕ)
+  pub masking-rule : (v : Version) → KeepsAlike a b (m .sameLength) v → (space : List ℕ)
       → Alike a b (outcome v width case a tape) (outcome v width case b tape) space
   masking-rule v st space = alike a b _ _ (outcomes-like v st) space
 
   -- of the source's layout
   pub masking-original : (space : List ℕ) → Alike a b (outcome original width case a tape) (outcome original width case b tape) space
-  masking-original = masking-rule original (original-steady a b (m .sameLength))
+  masking-original = masking-rule original (original-keeps-alike a b (m .sameLength))

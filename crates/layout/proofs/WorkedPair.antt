@@ -1,4 +1,4 @@
--- The conditions of the masking rule can be met by texts that differ: 'ab' and 'xy' under a ColumnReference. Assumes nothing.
+-- The conditions of the masking rule can be met by texts that differ: 'ab' and 'xy' under a ColumnReference.
 use Prim.Native.Nat.{ℕ, zero, suc}
 use native.Mathlib.Omega.{arith}
 use mathlib.Core.Path.{refl}
@@ -38,5 +38,5 @@ met =
       inSomeToken = at (λ p. SomeToken (Holds p) (tree .kids)) (here (omega arith, omega arith)) (here (omega arith, omega arith));
       inQuotes = at (λ p. (Holds p string → StrictlyInside p string × T (quoted string)) × Unit {0}) (λ h. ((omega arith, omega arith), tt), tt) (λ h. ((omega arith, omega arith), tt), tt);
       notCopied = λ p d. (λ t h. t, tt);
-      solidEnds = (λ q e. e .1, tt);
+      noWhiteSpaceEnd = (λ q e. e .1, tt);
     }

@@ -1,5 +1,5 @@
 -- The masking rule of document 01: what it asks of two texts and a tree, and what it says of two calls. A place is an offset in the
--- text. Assumes nothing.
+-- text.
 use Prim.Native.Nat.{ℕ, suc, _-_, _≤_, _<_}
 use mathlib.Core.Path.{_≡_}
 use mathlib.Core.Bool.{Bool, true, false, _||_}
@@ -58,7 +58,7 @@ pub record Masked (a b : Text) (t : Tree) : Type 0 where
   pub inSomeToken : (p : ℕ) → Differ a b p → SomeToken (Holds p) (t .kids)
   pub inQuotes : (p : ℕ) → Differ a b p → EachToken (λ h. Holds p h → StrictlyInside p h × T (quoted h)) (t .kids)
   pub notCopied : (p : ℕ) → Differ a b p → (T (copied (t .head .kind) (t .kids)) → Holds p (t .head) → ⊥) × EachCopied (λ h. Holds p h → ⊥) (t .kids)
-  pub solidEnds : EachToken (λ h. T (quoted h) → EndsInWhiteSpace a h → ⊥) (t .kids)
+  pub noWhiteSpaceEnd : EachToken (λ h. T (quoted h) → EndsInWhiteSpace a h → ⊥) (t .kids)
 
 -- two ASCII texts of one length; only where 1 to 12 do not refuse does the rule ask more
 pub record MaskedPair (width case : ℕ) (a b : Text) (tape : List ℕ) : Type 0 where

@@ -1,6 +1,6 @@
 -- Each condition of the masking rule is needed: for each a small pair of texts that meets all the others and breaks the claim. That a
 -- masked place lies in some token is not among them: the theorem does without it. That it lies strictly inside is, since the rule looks
--- at the ends of the first text's tokens alone. Assumes nothing.
+-- at the ends of the first text's tokens alone.
 use Prim.Native.Nat.{ℕ, zero, suc, _-_}
 use mathlib.Core.Bool.{Bool, true, false, not, cond, _&&_, _||_}
 use mathlib.Core.List.{List, [], _∷_, _++_}
@@ -49,10 +49,10 @@ abbrev pub ascii : Text → Bool
 ascii = all (λ x. leb x 127)
 
 pub data Condition : Type 0 where
-  sameLength asciiTexts inQuotes strictlyInside notCopied solidEnds : Condition
+  sameLength asciiTexts inQuotes strictlyInside notCopied noWhiteSpaceEnd : Condition
 
 abbrev pub conditions : List Condition
-conditions = sameLength ∷ asciiTexts ∷ inQuotes ∷ strictlyInside ∷ notCopied ∷ solidEnds ∷ []
+conditions = sameLength ∷ asciiTexts ∷ inQuotes ∷ strictlyInside ∷ notCopied ∷ noWhiteSpaceEnd ∷ []
 
 abbrev pub holds : Text → Text → Tree → Condition → Bool
 holds a b t sameLength = eqb (length a) (length b)
@@ -60,7 +60,7 @@ holds a b t asciiTexts = ascii a && ascii b
 holds a b t inQuotes = all (λ p. all (λ h. whereHeld p h (quoted h)) (tokens (t .kids))) (differing a b (length a))
 holds a b t strictlyInside = all (λ p. all (λ h. whereHeld p h (ltb (h .start) p && ltb (suc p) (h .end))) (tokens (t .kids))) (differing a b (length a))
 holds a b t notCopied = all (λ p. all (λ h. whereHeld p h false) (copiedNodes t)) (differing a b (length a))
-holds a b t solidEnds = all (λ h. not (quoted h && ltb (h .start) (h .end) && isWhiteSpace (getD a (h .end - 1) 0))) (tokens (t .kids))
+holds a b t noWhiteSpaceEnd = all (λ h. not (quoted h && ltb (h .start) (h .end) && isWhiteSpace (getD a (h .end - 1) 0))) (tokens (t .kids))
 
 -- ── the claim as a test
 
@@ -96,7 +96,7 @@ index asciiTexts = 1
 index inQuotes = 2
 index strictlyInside = 3
 index notCopied = 4
-index solidEnds = 5
+index noWhiteSpaceEnd = 5
 
 -- every condition but one holds, that one does not, and nor does the claim
 abbrev pub needed : Pair → Bool
@@ -116,5 +116,5 @@ pairs =
     record { without = strictlyInside; first = bytes "a"; second = bytes " "; tree = root Kinds.ColumnReference 0 1 (tok Kinds.StringToken 0 1 done) } ∷
     -- an Error node that ends within a quoted token
     record { without = notCopied; first = bytes "'a'"; second = bytes "' '"; tree = root Kinds.Error 0 2 (tok Kinds.StringToken 0 3 done) } ∷
-    record { without = solidEnds; first = bytes "ab "; second = bytes "a  "; tree = root Kinds.ColumnReference 0 3 (tok Kinds.StringToken 0 3 done) } ∷
+    record { without = noWhiteSpaceEnd; first = bytes "ab "; second = bytes "a  "; tree = root Kinds.ColumnReference 0 3 (tok Kinds.StringToken 0 3 done) } ∷
     []

@@ -1,4 +1,4 @@
--- The space that a record expects, and from what the calls promise to the comparison. Assumes nothing.
+-- The space that a record expects, and from what the calls promise to the comparison.
 use mathlib.Core.Path.{_≡_, refl, ap, subst, _∙_}
 use mathlib.Core.Bool.{Bool, true, false, not, _&&_}
 use mathlib.Core.List.{List, [], _∷_, _++_, append-nil}

@@ -1,4 +1,4 @@
--- What a head that fits says of its lengths. Assumes nothing.
+-- What a head that fits says of its lengths.
 use mathlib.Core.Path.{_≡_}
 use mathlib.Core.Bool.{true, _&&_}
 use Prim.Native.Nat.{ℕ, _+_, _≤_}

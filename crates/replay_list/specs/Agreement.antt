@@ -1,4 +1,4 @@
--- When the two calls agree with a record. Assumes nothing.
+-- When the two calls agree with a record.
 use Prim.Native.Nat.{ℕ, _-_}
 use mathlib.Core.Bool.{Bool, cond, _&&_}
 use mathlib.Core.List.{List, _++_}

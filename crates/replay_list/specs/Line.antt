@@ -1,4 +1,4 @@
--- What is printed for a list. Assumes nothing.
+-- What is printed for a list.
 use Prim.Native.Nat.{ℕ}
 use mathlib.Core.Bool.{cond}
 use mathlib.Core.List.{List, [], _∷_, _++_}

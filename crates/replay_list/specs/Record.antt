@@ -1,4 +1,4 @@
--- A record's nine numbers, and the limits that the list promises. Assumes nothing.
+-- A record's nine numbers, and the limits that the list promises.
 use Prim.Native.Nat.{ℕ, _+_, _*_, max}
 use mathlib.Core.Bool.{Bool, cond, _&&_, _||_}
 use mathlib.Core.List.{List}

@@ -1,5 +1,4 @@
 -- A `match` on a number against a list of the definitions: two laws, for any list.
--- Assumes nothing.
 use Prim.Native.Nat.{ℕ}
 use native.Mathlib.Omega.{arith}
 use mathlib.Core.Path.{_≡_, refl, sym, ap, _∙_, subst}

@@ -1,5 +1,4 @@
 -- Each small input is answered as its row says; a text and a tape that are too long are refused.
--- Assumes nothing.
 use Prim.Native.Nat.{ℕ, _<_}
 use mathlib.Core.Path.{_≡_}
 use mathlib.Core.List.{List, []}
@@ -10,7 +9,7 @@ use Rattle.tape.specs.declared.Fault.the-variants.{TextTooLong, TapeTooL
 use Rattle.tape.specs.Kinds.{notCarried}
 use Rattle.tape.specs.Tape.{refused, headAt, commandAt, checkOpen, checkToken, checkedAt, readChildren, readTree}
 use Rattle.tape.specs.Call.{firstNonAscii, readInput, readCall}
-use Rattle.tape.specs.SmallInputs.{hold, smallInputs}
+use Rattle.tape.specs.ReadingInputs.{hold, smallInputs}
 
 pub samples : T (hold smallInputs)
 unfolding notCarried headAt commandAt checkOpen checkToken checkedAt readChildren readTree firstNonAscii readInput readCall

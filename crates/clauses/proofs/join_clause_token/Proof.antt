@@ -1,4 +1,4 @@
--- `join_clause_token` meets its contract. Assumes nothing.
+-- `join_clause_token` meets its contract.
 use borrow.Author.Needs.{needs}
 use native.Mathlib.Omega.{arith}
 use mathlib.Core.Bool.{Bool, not}
@@ -7,7 +7,7 @@ use mathlib.Core.Path.{ap, refl}
 use borrow.Author.Tests.{ne-eqb}
 use Rattle.tokens.proofs.Choices.{as-spaced, spaced-as}
 use Rattle.tokens.proofs.Runs.{acted, as-acts, then}
-use Rattle.layout.specs.Arms.{keyword, seen}
+use Rattle.layout.specs.Arms.{seen, writeKeyword}
 use Rattle.layout.specs.Routines.{flagged, joinClauseToken}
 use Rattle.clauses.proofs.join_clause_token.Statement.{statement}
 use Rattle.clauses.proofs.join_clause_token.Tie as tie
@@ -43,7 +43,7 @@ same-length-3 c = search needs
 
 returns-3 : tie.Need-returns-3
 unfolding joinClauseToken seen
-returns-3 c = record { acted = acted 4 _ (omega arith) (rw (c .before .before .before .before .before .if3 .taken) (spaced-as (c .before .before .before .before .before .before .before .before .before .before .before .before .before .args .local .flag) (c .before .before .before .before .before .before .before .before .before .before .before .before .before .args .local .flag) (keyword ∷ []) refl)) (then (as-acts (as-spaced (c .before .before .before .before .space-if .ensures))) (c .before .before .write-word .ensures)); local = rw (c .before .before .before .before .before .if3 .taken) }
+returns-3 c = record { acted = acted 4 _ (omega arith) (rw (c .before .before .before .before .before .if3 .taken) (spaced-as (c .before .before .before .before .before .before .before .before .before .before .before .before .before .args .local .flag) (c .before .before .before .before .before .before .before .before .before .before .before .before .before .args .local .flag) (writeKeyword ∷ []) refl)) (then (as-acts (as-spaced (c .before .before .before .before .space-if .ensures))) (c .before .before .write-word .ensures)); local = rw (c .before .before .before .before .before .if3 .taken) }
 
 space-wanted-requires : tie.Need-space-wanted-requires
 space-wanted-requires c κs = search needs

@@ -1,4 +1,4 @@
--- `text_end` meets its contract: bytes are below 256, so that nothing wraps. Assumes nothing.
+-- `text_end` meets its contract: bytes are below 256, so that nothing wraps.
 use borrow.Author.Needs.{needs}
 use native.Mathlib.Omega.{arith}
 use Rattle.desk_job.specs.Job.{textEnd}

@@ -1,4 +1,4 @@
--- `keywords::code_at` meets its contract: each arm against the list of the definition. Assumes nothing.
+-- `keywords::code_at` meets its contract: each arm against the list of the definition.
 use mathlib.Core.List.{[], _∷_}
 use mathlib.Core.Path.{refl}
 use Rattle.keywords.specs.Names.{names}

@@ -1,4 +1,4 @@
--- `keywords::shift_of` meets its contract: each arm against the list of the definition. Assumes nothing.
+-- `keywords::shift_of` meets its contract: each arm against the list of the definition.
 use mathlib.Core.List.{[], _∷_}
 use mathlib.Core.Path.{refl}
 use native.Mathlib.Omega.{arith}

@@ -1,4 +1,4 @@
--- `main` meets its contract: the buffers have the lengths that `replay` asks for, and the line lies within its space. Assumes nothing.
+-- `main` meets its contract: the buffers have the lengths that `replay` asks for, and the line lies within its space.
 use mathlib.Core.Path.{sym}
 use Prim.Native.Nat.{ℕ}
 use lib.ListN.{length-replicate}

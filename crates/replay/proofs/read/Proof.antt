@@ -1,4 +1,4 @@
--- `read` meets its contract: the part that is read lies within the buffer. Assumes nothing.
+-- `read` meets its contract: the part that is read lies within the buffer.
 use mathlib.Core.Path.{sym}
 use lib.Seq.{length-take-le}
 use borrow.Author.Needs.{needs}

@@ -1,10 +1,10 @@
--- `replay_record` meets its contract: a head that fits keeps every part within its buffer. Assumes nothing.
+-- `replay_record` meets its contract: a head that fits keeps every part within its buffer.
 use mathlib.Core.Path.{sym, subst}
 use Prim.Native.Nat.{ℕ, _+_, _≤_}
 use native.Mathlib.Omega.{arith}
 use lib.ListN.{length, replicate}
 use lib.Seq.{length-take-le}
-use Rattle.desk_job.proofs.Reading.{told-true}
+use Rattle.desk_job.proofs.Reading.{answered-true}
 use Rattle.replay_list.proofs.Limits.{within-limits}
 use borrow.Author.Needs.{needs}
 use Rattle.replay.proofs.replay_record.Statement.{statement}
@@ -32,7 +32,7 @@ read-requires-2 : tie.Need-read-requires-2
 read-requires-2 c κs =
     let head = c .before .before .before .before .before .read-head .result in
     let start = c .before .before .before .before .before .before .before .before .before .before .before .before .before in
-    let w = within-limits head (start .args .longest) (told-true (c .before .before .before .before .fits2 .ensures) (c .before .before .before .if2 .left)) in
+    let w = within-limits head (start .args .longest) (answered-true (c .before .before .before .before .fits2 .ensures) (c .before .before .before .if2 .left)) in
     omega (arith, w .text .stored, start .pre .0)
 
 same-length : tie.Need-same-length
@@ -45,7 +45,7 @@ read-requires-3 : tie.Need-read-requires-3
 read-requires-3 c κs =
     let head = c .before .before .before .before .before .before .before .before .before .before .read-head .result in
     let start = c .before .before .before .before .before .before .before .before .before .before .before .before .before .before .before .before .before .before in
-    let w = within-limits head (start .args .longest) (told-true (c .before .before .before .before .before .before .before .before .before .fits2 .ensures) (c .before .before .before .before .before .before .before .before .if2 .left)) in
+    let w = within-limits head (start .args .longest) (answered-true (c .before .before .before .before .before .before .before .before .before .fits2 .ensures) (c .before .before .before .before .before .before .before .before .if2 .left)) in
     omega (arith, w .tape .stored, start .pre .1)
 
 same-length-2 : tie.Need-same-length-2
@@ -67,7 +67,7 @@ read-requires-4 : tie.Need-read-requires-4
 read-requires-4 c κs =
     let head = c .before .before .before .before .before .before .before .before .before .before .before .before .before .before .before .before .read-head .result in
     let start = c .before .before .before .before .before .before .before .before .before .before .before .before .before .before .before .before .before .before .before .before .before .before .before .before in
-    let w = within-limits head (start .args .longest) (told-true (c .before .before .before .before .before .before .before .before .before .before .before .before .before .before .before .fits2 .ensures) (c .before .before .before .before .before .before .before .before .before .before .before .before .before .before .if2 .left)) in
+    let w = within-limits head (start .args .longest) (answered-true (c .before .before .before .before .before .before .before .before .before .before .before .before .before .before .before .fits2 .ensures) (c .before .before .before .before .before .before .before .before .before .before .before .before .before .before .if2 .left)) in
     let n = c .before .layout-length .result in
     let e : n ≤ head .space = subst (λ (m : ℕ). m ≤ head .space) (sym (c .before .layout-length .ensures)) (w .layout) in
     omega (arith, e, w .space)
@@ -85,28 +85,28 @@ add-text-end : tie.Need-add-text-end
 add-text-end c =
     let head = c .before .before .before .before .before .before .before .before .before .before .before .before .before .before .before .before .before .before .before .before .read-head .result in
     let start = c .before .before .before .before .before .before .before .before .before .before .before .before .before .before .before .before .before .before .before .before .before .before .before .before .before .before .before .before in
-    let w = within-limits head (start .args .longest) (told-true (c .before .before .before .before .before .before .before .before .before .before .before .before .before .before .before .before .before .before .before .fits2 .ensures) (c .before .before .before .before .before .before .before .before .before .before .before .before .before .before .before .before .before .before .if2 .left)) in
+    let w = within-limits head (start .args .longest) (answered-true (c .before .before .before .before .before .before .before .before .before .before .before .before .before .before .before .before .before .before .before .fits2 .ensures) (c .before .before .before .before .before .before .before .before .before .before .before .before .before .before .before .before .before .before .if2 .left)) in
     omega (arith, w .text .whole)
 
 add-tape-end : tie.Need-add-tape-end
 add-tape-end c =
     let head = c .before .before .before .before .before .before .before .before .before .before .before .before .before .before .before .before .before .before .before .before .before .read-head .result in
     let start = c .before .before .before .before .before .before .before .before .before .before .before .before .before .before .before .before .before .before .before .before .before .before .before .before .before .before .before .before .before in
-    let w = within-limits head (start .args .longest) (told-true (c .before .before .before .before .before .before .before .before .before .before .before .before .before .before .before .before .before .before .before .before .fits2 .ensures) (c .before .before .before .before .before .before .before .before .before .before .before .before .before .before .before .before .before .before .before .if2 .left)) in
+    let w = within-limits head (start .args .longest) (answered-true (c .before .before .before .before .before .before .before .before .before .before .before .before .before .before .before .before .before .before .before .before .fits2 .ensures) (c .before .before .before .before .before .before .before .before .before .before .before .before .before .before .before .before .before .before .before .if2 .left)) in
     omega (arith, w .tape .whole)
 
 slice-reshare-prefix-agrees : tie.Need-slice-reshare-prefix-agrees
 slice-reshare-prefix-agrees c =
     let head = c .before .before .before .before .before .before .before .before .before .before .before .before .before .before .before .before .before .before .before .before .before .read-head .result in
     let start = c .before .before .before .before .before .before .before .before .before .before .before .before .before .before .before .before .before .before .before .before .before .before .before .before .before .before .before .before .before in
-    let w = within-limits head (start .args .longest) (told-true (c .before .before .before .before .before .before .before .before .before .before .before .before .before .before .before .before .before .before .before .before .fits2 .ensures) (c .before .before .before .before .before .before .before .before .before .before .before .before .before .before .before .before .before .before .before .if2 .left)) in
+    let w = within-limits head (start .args .longest) (answered-true (c .before .before .before .before .before .before .before .before .before .before .before .before .before .before .before .before .before .before .before .before .fits2 .ensures) (c .before .before .before .before .before .before .before .before .before .before .before .before .before .before .before .before .before .before .before .if2 .left)) in
     omega (arith, w .text .whole, c .before .before .before .before .before .before .before .before .before .before .before .before .before .before .before .read2 .kept .0, start .pre .0)
 
 slice-aggregate-agrees : tie.Need-slice-aggregate-agrees
 slice-aggregate-agrees c =
     let head = c .before .before .before .before .before .before .before .before .before .before .before .before .before .before .before .before .before .before .before .before .before .before .read-head .result in
     let start = c .before .before .before .before .before .before .before .before .before .before .before .before .before .before .before .before .before .before .before .before .before .before .before .before .before .before .before .before .before .before in
-    let w = within-limits head (start .args .longest) (told-true (c .before .before .before .before .before .before .before .before .before .before .before .before .before .before .before .before .before .before .before .before .before .fits2 .ensures) (c .before .before .before .before .before .before .before .before .before .before .before .before .before .before .before .before .before .before .before .before .if2 .left)) in
+    let w = within-limits head (start .args .longest) (answered-true (c .before .before .before .before .before .before .before .before .before .before .before .before .before .before .before .before .before .before .before .before .before .fits2 .ensures) (c .before .before .before .before .before .before .before .before .before .before .before .before .before .before .before .before .before .before .before .before .if2 .left)) in
     let h : head .text .stored + head .text .zeros ≤ length (c .before .before .before .before .before .before .before .before .before .before .before .before .before .before .before .before .read2 .last .0) = omega (arith, w .text .whole, c .before .before .before .before .before .before .before .before .before .before .before .before .before .before .before .before .read2 .kept .0, start .pre .0) in
     sym (length-take-le (head .text .stored + head .text .zeros) (c .before .before .before .before .before .before .before .before .before .before .before .before .before .before .before .before .read2 .last .0) h)
 
@@ -114,14 +114,14 @@ slice-reshare-prefix-agrees-2 : tie.Need-slice-reshare-prefix-agrees-2
 slice-reshare-prefix-agrees-2 c =
     let head = c .before .before .before .before .before .before .before .before .before .before .before .before .before .before .before .before .before .before .before .before .before .before .read-head .result in
     let start = c .before .before .before .before .before .before .before .before .before .before .before .before .before .before .before .before .before .before .before .before .before .before .before .before .before .before .before .before .before .before in
-    let w = within-limits head (start .args .longest) (told-true (c .before .before .before .before .before .before .before .before .before .before .before .before .before .before .before .before .before .before .before .before .before .fits2 .ensures) (c .before .before .before .before .before .before .before .before .before .before .before .before .before .before .before .before .before .before .before .before .if2 .left)) in
+    let w = within-limits head (start .args .longest) (answered-true (c .before .before .before .before .before .before .before .before .before .before .before .before .before .before .before .before .before .before .before .before .before .fits2 .ensures) (c .before .before .before .before .before .before .before .before .before .before .before .before .before .before .before .before .before .before .before .before .if2 .left)) in
     omega (arith, w .tape .whole, c .before .before .before .before .before .before .before .before .before .before .before .read3 .kept .0, start .pre .1)
 
 slice-aggregate-agrees-2 : tie.Need-slice-aggregate-agrees-2
 slice-aggregate-agrees-2 c =
     let head = c .before .before .before .before .before .before .before .before .before .before .before .before .before .before .before .before .before .before .before .before .before .before .before .read-head .result in
     let start = c .before .before .before .before .before .before .before .before .before .before .before .before .before .before .before .before .before .before .before .before .before .before .before .before .before .before .before .before .before .before .before in
-    let w = within-limits head (start .args .longest) (told-true (c .before .before .before .before .before .before .before .before .before .before .before .before .before .before .before .before .before .before .before .before .before .before .fits2 .ensures) (c .before .before .before .before .before .before .before .before .before .before .before .before .before .before .before .before .before .before .before .before .before .if2 .left)) in
+    let w = within-limits head (start .args .longest) (answered-true (c .before .before .before .before .before .before .before .before .before .before .before .before .before .before .before .before .before .before .before .before .before .before .fits2 .ensures) (c .before .before .before .before .before .before .before .before .before .before .before .before .before .before .before .before .before .before .before .before .before .if2 .left)) in
     let h : head .tape .stored + head .tape .zeros ≤ length (c .before .before .before .before .before .before .before .before .before .before .before .before .read3 .last .0) = omega (arith, w .tape .whole, c .before .before .before .before .before .before .before .before .before .before .before .before .read3 .kept .0, start .pre .1) in
     sym (length-take-le (head .tape .stored + head .tape .zeros) (c .before .before .before .before .before .before .before .before .before .before .before .before .read3 .last .0) h)
 
@@ -129,7 +129,7 @@ array-share-prefix-layout : tie.Need-array-share-prefix-layout
 array-share-prefix-layout c =
     let head = c .before .before .before .before .before .before .before .before .before .before .before .before .before .before .before .before .before .before .before .before .before .before .before .read-head .result in
     let start = c .before .before .before .before .before .before .before .before .before .before .before .before .before .before .before .before .before .before .before .before .before .before .before .before .before .before .before .before .before .before .before in
-    let w = within-limits head (start .args .longest) (told-true (c .before .before .before .before .before .before .before .before .before .before .before .before .before .before .before .before .before .before .before .before .before .before .fits2 .ensures) (c .before .before .before .before .before .before .before .before .before .before .before .before .before .before .before .before .before .before .before .before .before .if2 .left)) in
+    let w = within-limits head (start .args .longest) (answered-true (c .before .before .before .before .before .before .before .before .before .before .before .before .before .before .before .before .before .before .before .before .before .before .fits2 .ensures) (c .before .before .before .before .before .before .before .before .before .before .before .before .before .before .before .before .before .before .before .before .before .if2 .left)) in
     let n = c .before .before .before .before .before .before .before .before .layout-length .result in
     let e : n ≤ head .space = subst (λ (m : ℕ). m ≤ head .space) (sym (c .before .before .before .before .before .before .before .before .layout-length .ensures)) (w .layout) in
     omega (arith, e, w .space, c .before .before .before .before .before .before .read4 .kept .0)
@@ -138,7 +138,7 @@ slice-aggregate-agrees-3 : tie.Need-slice-aggregate-agrees-3
 slice-aggregate-agrees-3 c =
     let head = c .before .before .before .before .before .before .before .before .before .before .before .before .before .before .before .before .before .before .before .before .before .before .before .before .read-head .result in
     let start = c .before .before .before .before .before .before .before .before .before .before .before .before .before .before .before .before .before .before .before .before .before .before .before .before .before .before .before .before .before .before .before .before in
-    let w = within-limits head (start .args .longest) (told-true (c .before .before .before .before .before .before .before .before .before .before .before .before .before .before .before .before .before .before .before .before .before .before .before .fits2 .ensures) (c .before .before .before .before .before .before .before .before .before .before .before .before .before .before .before .before .before .before .before .before .before .before .if2 .left)) in
+    let w = within-limits head (start .args .longest) (answered-true (c .before .before .before .before .before .before .before .before .before .before .before .before .before .before .before .before .before .before .before .before .before .before .before .fits2 .ensures) (c .before .before .before .before .before .before .before .before .before .before .before .before .before .before .before .before .before .before .before .before .before .before .if2 .left)) in
     let n = c .before .before .before .before .before .before .before .before .before .layout-length .result in
     let e : n ≤ head .space = subst (λ (m : ℕ). m ≤ head .space) (sym (c .before .before .before .before .before .before .before .before .before .layout-length .ensures)) (w .layout) in
     let h : n ≤ length (c .before .before .before .before .before .before .before .read4 .last .0) = omega (arith, e, w .space, c .before .before .before .before .before .before .before .read4 .kept .0) in
@@ -148,14 +148,14 @@ array-borrow-prefix-out : tie.Need-array-borrow-prefix-out
 array-borrow-prefix-out c =
     let head = c .before .before .before .before .before .before .before .before .before .before .before .before .before .before .before .before .before .before .before .before .before .before .before .before .read-head .result in
     let start = c .before .before .before .before .before .before .before .before .before .before .before .before .before .before .before .before .before .before .before .before .before .before .before .before .before .before .before .before .before .before .before .before in
-    let w = within-limits head (start .args .longest) (told-true (c .before .before .before .before .before .before .before .before .before .before .before .before .before .before .before .before .before .before .before .before .before .before .before .fits2 .ensures) (c .before .before .before .before .before .before .before .before .before .before .before .before .before .before .before .before .before .before .before .before .before .before .if2 .left)) in
+    let w = within-limits head (start .args .longest) (answered-true (c .before .before .before .before .before .before .before .before .before .before .before .before .before .before .before .before .before .before .before .before .before .before .before .fits2 .ensures) (c .before .before .before .before .before .before .before .before .before .before .before .before .before .before .before .before .before .before .before .before .before .before .if2 .left)) in
     w .space
 
 slice-aggregate-agrees-4 : tie.Need-slice-aggregate-agrees-4
 slice-aggregate-agrees-4 c =
     let head = c .before .before .before .before .before .before .before .before .before .before .before .before .before .before .before .before .before .before .before .before .before .before .before .before .before .read-head .result in
     let start = c .before .before .before .before .before .before .before .before .before .before .before .before .before .before .before .before .before .before .before .before .before .before .before .before .before .before .before .before .before .before .before .before .before in
-    let w = within-limits head (start .args .longest) (told-true (c .before .before .before .before .before .before .before .before .before .before .before .before .before .before .before .before .before .before .before .before .before .before .before .before .fits2 .ensures) (c .before .before .before .before .before .before .before .before .before .before .before .before .before .before .before .before .before .before .before .before .before .before .before .if2 .left)) in
+    let w = within-limits head (start .args .longest) (answered-true (c .before .before .before .before .before .before .before .before .before .before .before .before .before .before .before .before .before .before .before .before .before .before .before .before .fits2 .ensures) (c .before .before .before .before .before .before .before .before .before .before .before .before .before .before .before .before .before .before .before .before .before .before .before .if2 .left)) in
     sym (length-take-le (head .space) (replicate 4096 0) (w .space))
 
 agrees-requires : tie.Need-agrees-requires

@@ -1,4 +1,4 @@
--- `layout_both` meets its contract. Assumes nothing.
+-- `layout_both` meets its contract.
 use borrow.Author.Needs.{needs}
 use Rattle.formatter.proofs.Pairs.{lays-out-both}
 use Rattle.formatter.proofs.pair.layout_both.Statement.{statement}

@@ -1,4 +1,4 @@
--- `measure_both` meets its contract. Assumes nothing.
+-- `measure_both` meets its contract.
 use borrow.Author.Needs.{needs}
 use Rattle.formatter.proofs.Pairs.{measures-both}
 use Rattle.formatter.proofs.pair.measure_both.Statement.{statement}

@@ -1,4 +1,4 @@
--- `longest_after` meets its contract. Assumes nothing.
+-- `longest_after` meets its contract.
 use borrow.Author.Needs.{needs}
 use Rattle.replay_list.proofs.record.longest_after.Statement.{statement}
 use Rattle.replay_list.proofs.record.longest_after.Tie as tie

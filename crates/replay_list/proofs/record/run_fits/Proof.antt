@@ -1,4 +1,4 @@
--- `run_fits` meets its contract: its tests are those of the definition, with no sum that wraps. Assumes nothing.
+-- `run_fits` meets its contract: its tests are those of the definition, with no sum that wraps.
 use Prim.Native.Nat.{_+_, _<_, _≤_}
 use native.Mathlib.Omega.{arith}
 use borrow.Author.Needs.{needs}

@@ -1,5 +1,5 @@
 -- The masking rule for the definition of the layout: two texts that differ as it allows give the same calls, and outputs that are
--- alike. Assumes nothing.
+-- alike.
 use Prim.Native.Nat.{ℕ, _-_, _≤_, _<_}
 use native.Mathlib.Omega.{arith}
 use mathlib.Core.Path.{_≡_, refl, sym, ap, _∙_, subst}
@@ -10,19 +10,20 @@ use lib.Dec.{T, T-not, eqb, leb, ltb, eqb→eq}
 use borrow.Author.Tests.{eqb-true, eqb-false, ltb-true, ltb-false}
 use Rattle.context.specs.Cells.{Text, Cell, isWhiteSpace, tokenText, bytesOf, spanCells, copiedFrom}
 use Rattle.context.specs.Trim.{trimmedLength}
-use Rattle.context.specs.Context.{Piece, newState, lastByte, cellIsWhiteSpace, writeToken, writeKeyword}
+use Rattle.context.specs.Context.{Piece, newState, lastByte, cellIsWhiteSpace, writeToken}
+use Rattle.context.specs.Context as context
 use Rattle.context.specs.Alike.{Like}
 use Rattle.context.specs.declared.FormatConfig.{FormatConfig}
 use Rattle.context.specs.declared.State.{State}
 use Rattle.context.proofs.Bytes.{bytes-span, token-last, token-same, trimmed-cells-in-case}
 use Rattle.context.proofs.Trimming.{trimmed-append}
-use Rattle.context.proofs.Masking.{like-self, like-append, like-length, span-like, keyword-like, trimmed-like, finish-like}
+use Rattle.context.proofs.AlikeWrites.{like-self, like-append, like-length, span-like, keyword-like, trimmed-like, finish-like}
 use Rattle.tape.specs.Kinds.{StringToken, QuotedIdentifier}
 use Rattle.tape.specs.declared.Head.{Head}
 use Rattle.tape.specs.Tree.{Children, done, token, node, Tree, countListItems, copied, EachToken}
 use Rattle.layout.specs.declared.Local.{Local}
-use Rattle.layout.specs.Arms.{Spacing, Act, spacing, text, keyword, sign, isRead, seen, Arms}
-use Rattle.layout.specs.Calls.{Call, apart, on, raw, formatErrorVerbatim, walk, calls}
+use Rattle.layout.specs.Arms.{Spacing, Act, spacing, writeText, writeKeyword, writeSign, isRead, seen, Arms}
+use Rattle.layout.specs.Calls.{Call, putSpacing, actAt, raw, formatErrorVerbatim, walk, calls}
 use Rattle.layout.specs.Layout.{step, pieces, written, Version, original, piecesOf, format}
 use Rattle.layout.specs.Masking.{EachCopied, quoted, Holds, StrictlyInside, Differ, EndsInWhiteSpace, Masked}
 
@@ -40,7 +41,7 @@ EachReached P (node h kids rest) = OfCopied (copied (h .kind) kids) (P h) (EachR
 record MaskedAsRead (a b : Text) (t : Tree) : Type 0 where
   inQuotes : (p : ℕ) → Differ a b p → EachToken (λ h. Holds p h → StrictlyInside p h × T (quoted h)) (t .kids)
   notCopied : (p : ℕ) → Differ a b p → OfCopied (copied (t .head .kind) (t .kids)) (Holds p (t .head) → ⊥) (EachReached (λ h. Holds p h → ⊥) (t .kids))
-  solidEnds : EachToken (λ h. T (quoted h) → EndsInWhiteSpace a h → ⊥) (t .kids)
+  noWhiteSpaceEnd : EachToken (λ h. T (quoted h) → EndsInWhiteSpace a h → ⊥) (t .kids)
 
 -- the tokens are those of a checked tape over a text of so many bytes
 abbrev pub TokenSpans : ℕ → Children → Type 0
@@ -71,57 +72,57 @@ module _ (a b : Text) (sameLength : length a ≡ length b) where
 
   -- ── what a masked pair gives of each token, and of each node that is copied
 
-  record FineToken (h : Head) : Type 0 where
-    sight : seen a h ≡ seen b h
+  record TokenAlike (h : Head) : Type 0 where
+    seenSame : seen a h ≡ seen b h
     trims : trimmed (spanCells a (h .start) (h .end)) ≡ trimmed (spanCells b (h .start) (h .end))
 
   abbrev SameSpan : ℕ → ℕ → Type 0
   SameSpan s e = tokenText a s e ≡ tokenText b s e
 
-  abbrev FineCopy : Head → Type 0
-  FineCopy h = SameSpan (h .start) (h .end)
+  abbrev CopyAlike : Head → Type 0
+  CopyAlike h = SameSpan (h .start) (h .end)
 
   -- ── the calls are equal
 
   module _ (pick : ℕ → Children → Arms) where
-    walk-same : (c : Children) → EachToken FineToken c → (r : Arms) (l : Local) → walk pick a r l c ≡ walk pick b r l c
+    walk-same : (c : Children) → EachToken TokenAlike c → (r : Arms) (l : Local) → walk pick a r l c ≡ walk pick b r l c
     unfolding walk
     walk-same done w r l = refl
-    walk-same (token h rest) w r l = rw (w .0 .sight, walk-same rest (w .1) r ((r .atToken l (seen b h)) .0))
+    walk-same (token h rest) w r l = rw (w .0 .seenSame, walk-same rest (w .1) r ((r .atToken l (seen b h)) .0))
     walk-same (node h kids rest) w r l =
         rw (walk-same kids (w .0) (pick (h .kind) kids) ((pick (h .kind) kids) .begin), walk-same rest (w .1) r ((r .atNode l (h .kind) (countListItems kids)) .0))
 
-    calls-same : (t : Tree) → EachToken FineToken (t .kids) → calls pick a t ≡ calls pick b t
+    calls-same : (t : Tree) → EachToken TokenAlike (t .kids) → calls pick a t ≡ calls pick b t
     unfolding calls
     calls-same t w = rw (walk-same (t .kids) w (pick (t .head .kind) (t .kids)) ((pick (t .head .kind) (t .kids)) .begin))
 
   -- ── each call is on a token of the tree, or copies a node that is copied as typed
 
-  abbrev FineCall : Call → Type 0
-  FineCall (apart x) = Unit {0}
-  FineCall (on h x) = FineToken h
-  FineCall (raw s e) = SameSpan s e
+  abbrev CallAlike : Call → Type 0
+  CallAlike (putSpacing x) = Unit {0}
+  CallAlike (actAt h x) = TokenAlike h
+  CallAlike (raw s e) = SameSpan s e
 
   Every : List Call → Type 0
   Every [] = Unit {0}
-  Every (c ∷ cs) = FineCall c × Every cs
+  Every (c ∷ cs) = CallAlike c × Every cs
 
   every-append : (x y : List Call) → Every x → Every y → Every (x ++ y)
   unfolding Every
   every-append [] y u v = v
   every-append (c ∷ x) y u v = (u .0, every-append x y (u .1) v)
 
-  every-apart : (xs : List Spacing) → Every (map apart xs)
+  every-spacing : (xs : List Spacing) → Every (map putSpacing xs)
   unfolding Every
-  every-apart [] = tt
-  every-apart (x ∷ xs) = (tt, every-apart xs)
+  every-spacing [] = tt
+  every-spacing (x ∷ xs) = (tt, every-spacing xs)
 
-  every-on : (h : Head) → FineToken h → (xs : List Act) → Every (map (on h) xs)
+  every-act : (h : Head) → TokenAlike h → (xs : List Act) → Every (map (actAt h) xs)
   unfolding Every
-  every-on h w [] = tt
-  every-on h w (x ∷ xs) = (w, every-on h w xs)
+  every-act h w [] = tt
+  every-act h w (x ∷ xs) = (w, every-act h w xs)
 
-  every-verbatim : (h : Head) → FineCopy h → Every (formatErrorVerbatim h)
+  every-verbatim : (h : Head) → CopyAlike h → Every (formatErrorVerbatim h)
   unfolding formatErrorVerbatim Every
   every-verbatim h w = go (leb (h .start) (h .end))
     where
@@ -134,24 +135,24 @@ module _ (a b : Text) (sameLength : length a ≡ length b) where
   every-cond false x y A B w f g = g w
 
   module _ (pick : ℕ → Children → Arms) where
-    walk-fine : (c : Children) → EachToken FineToken c → EachReached FineCopy c → (r : Arms) (l : Local) → Every (walk pick a r l c)
+    walk-alike : (c : Children) → EachToken TokenAlike c → EachReached CopyAlike c → (r : Arms) (l : Local) → Every (walk pick a r l c)
     unfolding walk
-    walk-fine done w v r l = every-apart (r .atEnd l)
-    walk-fine (token h rest) w v r l =
-        every-append _ _ (every-on h (w .0) ((r .atToken l (seen a h)) .1)) (walk-fine rest (w .1) v r ((r .atToken l (seen a h)) .0))
-    walk-fine (node h kids rest) w v r l =
+    walk-alike done w v r l = every-spacing (r .atEnd l)
+    walk-alike (token h rest) w v r l =
+        every-append _ _ (every-act h (w .0) ((r .atToken l (seen a h)) .1)) (walk-alike rest (w .1) v r ((r .atToken l (seen a h)) .0))
+    walk-alike (node h kids rest) w v r l =
         let q = pick (h .kind) kids in
         let n = r .atNode l (h .kind) (countListItems kids) in
-        every-append _ _ (every-apart (n .1))
+        every-append _ _ (every-spacing (n .1))
         (every-append _ _
-        (every-cond (copied (h .kind) kids) _ _ _ _ (v .0) (every-verbatim h) (λ u. walk-fine kids (w .0) u q (q .begin)))
-        (every-append _ _ (every-apart (n .2)) (walk-fine rest (w .1) (v .1) r (n .0))))
+        (every-cond (copied (h .kind) kids) _ _ _ _ (v .0) (every-verbatim h) (λ u. walk-alike kids (w .0) u q (q .begin)))
+        (every-append _ _ (every-spacing (n .2)) (walk-alike rest (w .1) (v .1) r (n .0))))
 
-    calls-fine : (t : Tree) → EachToken FineToken (t .kids) → OfCopied (copied (t .head .kind) (t .kids)) (FineCopy (t .head)) (EachReached FineCopy (t .kids)) → Every (calls pick a t)
+    calls-alike : (t : Tree) → EachToken TokenAlike (t .kids) → OfCopied (copied (t .head .kind) (t .kids)) (CopyAlike (t .head)) (EachReached CopyAlike (t .kids)) → Every (calls pick a t)
     unfolding calls
-    calls-fine t w v =
+    calls-alike t w v =
         let q = pick (t .head .kind) (t .kids) in
-        every-cond (copied (t .head .kind) (t .kids)) _ _ _ _ v (every-verbatim (t .head)) (λ u. walk-fine (t .kids) w u q (q .begin))
+        every-cond (copied (t .head .kind) (t .kids)) _ _ _ _ v (every-verbatim (t .head)) (λ u. walk-alike (t .kids) w u q (q .begin))
 
   -- ── pieces that are alike
 
@@ -195,21 +196,21 @@ module _ (a b : Text) (sameLength : length a ≡ length b) where
   span-same s e w = ap (copiedFrom s) w
 
   module _ (config : FormatConfig) where
-    step-state : (c : Call) → FineCall c → (s : State) → (step config a c s) .0 ≡ (step config b c s) .0
-    unfolding step writeToken writeKeyword
-    step-state (apart x) w s = refl
-    step-state (on h (spacing x)) w s = refl
-    step-state (on h text) w s = refl
-    step-state (on h keyword) w s = refl
-    step-state (on h (sign x)) w s = refl
+    step-state : (c : Call) → CallAlike c → (s : State) → (step config a c s) .0 ≡ (step config b c s) .0
+    unfolding step writeToken context.writeKeyword
+    step-state (putSpacing x) w s = refl
+    step-state (actAt h (spacing x)) w s = refl
+    step-state (actAt h writeText) w s = refl
+    step-state (actAt h writeKeyword) w s = refl
+    step-state (actAt h (writeSign x)) w s = refl
     step-state (raw f e) w s = rw (span-same f e w)
 
-    token-piece : (h : Head) → FineToken h → (s : State) → PieceLike ((writeToken config (spanCells a (h .start) (h .end)) s) .1) ((writeToken config (spanCells b (h .start) (h .end)) s) .1)
+    token-piece : (h : Head) → TokenAlike h → (s : State) → PieceLike ((writeToken config (spanCells a (h .start) (h .end)) s) .1) ((writeToken config (spanCells b (h .start) (h .end)) s) .1)
     unfolding writeToken
     token-piece h w s = record { leads = refl; bodies = span-like a b sameLength (h .start) (h .end); trims = w .trims }
 
-    keyword-piece : (h : Head) → FineToken h → (s : State) → PieceLike ((writeKeyword config (spanCells a (h .start) (h .end)) s) .1) ((writeKeyword config (spanCells b (h .start) (h .end)) s) .1)
-    unfolding writeKeyword writeToken
+    keyword-piece : (h : Head) → TokenAlike h → (s : State) → PieceLike ((context.writeKeyword config (spanCells a (h .start) (h .end)) s) .1) ((context.writeKeyword config (spanCells b (h .start) (h .end)) s) .1)
+    unfolding context.writeKeyword writeToken
     keyword-piece h w s =
         let u = config .«uppercase_keywords» in
         let k = keyword-like a b (spanCells a (h .start) (h .end)) (spanCells b (h .start) (h .end)) (span-like a b sameLength (h .start) (h .end)) config s in
@@ -219,13 +220,13 @@ module _ (a b : Text) (sameLength : length a ≡ length b) where
           trims = trimmed-cells-in-case u (spanCells a (h .start) (h .end)) ∙ w .trims ∙ sym (trimmed-cells-in-case u (spanCells b (h .start) (h .end)));
         }
 
-    step-piece : (c : Call) → FineCall c → (s : State) → PieceLike ((step config a c s) .1) ((step config b c s) .1)
+    step-piece : (c : Call) → CallAlike c → (s : State) → PieceLike ((step config a c s) .1) ((step config b c s) .1)
     unfolding step
-    step-piece (apart x) w s = same-piece _
-    step-piece (on h (spacing x)) w s = same-piece _
-    step-piece (on h text) w s = token-piece h w s
-    step-piece (on h keyword) w s = keyword-piece h w s
-    step-piece (on h (sign x)) w s = same-piece _
+    step-piece (putSpacing x) w s = same-piece _
+    step-piece (actAt h (spacing x)) w s = same-piece _
+    step-piece (actAt h writeText) w s = token-piece h w s
+    step-piece (actAt h writeKeyword) w s = keyword-piece h w s
+    step-piece (actAt h (writeSign x)) w s = same-piece _
     step-piece (raw f e) w s = rw (span-same f e w) (same-piece _)
 
     pieces-like : (cs : List Call) → Every cs → (s : State) → PiecesLike (pieces config a cs s) (pieces config b cs s)
@@ -241,17 +242,17 @@ module _ (a b : Text) (sameLength : length a ≡ length b) where
   QuotedInside p h = Holds p h → StrictlyInside p h × T (quoted h)
 
   -- where no place of the span is masked
-  same-token : (h : Head) → SameSpan (h .start) (h .end) → FineToken h
+  same-token : (h : Head) → SameSpan (h .start) (h .end) → TokenAlike h
   unfolding seen
-  same-token h s = record { sight = rw s; trims = rw (span-same (h .start) (h .end) s) }
+  same-token h s = record { seenSame = rw s; trims = rw (span-same (h .start) (h .end) s) }
 
   -- the texts agree at the last place of a quoted token, which is no white space
   masked-token : (h : Head) → T (quoted h) → h .start < h .end → h .end ≤ length a → getD a (h .end - 1) 0 ≡ getD b (h .end - 1) 0
-      → isWhiteSpace (getD a (h .end - 1) 0) ≡ false → FineToken h
+      → isWhiteSpace (getD a (h .end - 1) 0) ≡ false → TokenAlike h
   unfolding seen
   masked-token h q lt k e w =
       record {
-        sight = rw (quoted-unread h q);
+        seenSame = rw (quoted-unread h q);
         trims =
             trimmed-like a b (spanCells a (h .start) (h .end)) (spanCells b (h .start) (h .end)) (span-like a b sameLength (h .start) (h .end))
             (last-a ∙ e ∙ sym last-b) (ap isWhiteSpace last-a ∙ w);
@@ -263,15 +264,15 @@ module _ (a b : Text) (sameLength : length a ≡ length b) where
       last-b : lastByte (bytesOf (spanCells b (h .start) (h .end))) ≡ getD b (h .end - 1) 0
       last-b = ap lastByte (bytes-span b (h .start) (h .end)) ∙ token-last b (h .start) (h .end) lt (omega arith)
 
-  fine-token : (h : Head) → h .end ≤ length a → ((p : ℕ) → Differ a b p → QuotedInside p h)
-      → (T (quoted h) → EndsInWhiteSpace a h → ⊥) → FineToken h
-  fine-token h span f w = go (quoted h) refl (ltb (h .start) (h .end)) refl
+  alike-token : (h : Head) → h .end ≤ length a → ((p : ℕ) → Differ a b p → QuotedInside p h)
+      → (T (quoted h) → EndsInWhiteSpace a h → ⊥) → TokenAlike h
+  alike-token h span f w = go (quoted h) refl (ltb (h .start) (h .end)) refl
     where
       solid : (t : Bool) → (T t → ⊥) → t ≡ false
       solid true u = absurd (u tt)
       solid false u = refl
 
-      go : (t : Bool) → quoted h ≡ t → (u : Bool) → ltb (h .start) (h .end) ≡ u → FineToken h
+      go : (t : Bool) → quoted h ≡ t → (u : Bool) → ltb (h .start) (h .end) ≡ u → TokenAlike h
       go true e true l =
           let lt = ltb-true (h .start) (h .end) l in
           let q : T (quoted h) = rw e tt in
@@ -284,51 +285,51 @@ module _ (a b : Text) (sameLength : length a ≡ length b) where
       go false e u l =
           same-token h (token-same a b (h .start) (h .end) sameLength (λ p lo hi. stable _ _ (λ d. T-not (quoted h) (rw e tt) ((f p d (lo, hi)) .1))))
 
-  fine-tokens : (c : Children) → TokenSpans (length a) c → ((p : ℕ) → Differ a b p → EachToken (QuotedInside p) c)
-      → EachToken (λ h. T (quoted h) → EndsInWhiteSpace a h → ⊥) c → EachToken FineToken c
-  fine-tokens done s f w = tt
-  fine-tokens (token h rest) s f w = (fine-token h (s .0 .2) (λ p d. (f p d) .0) (w .0), fine-tokens rest (s .1) (λ p d. (f p d) .1) (w .1))
-  fine-tokens (node h kids rest) s f w = (fine-tokens kids (s .0) (λ p d. (f p d) .0) (w .0), fine-tokens rest (s .1) (λ p d. (f p d) .1) (w .1))
+  alike-tokens : (c : Children) → TokenSpans (length a) c → ((p : ℕ) → Differ a b p → EachToken (QuotedInside p) c)
+      → EachToken (λ h. T (quoted h) → EndsInWhiteSpace a h → ⊥) c → EachToken TokenAlike c
+  alike-tokens done s f w = tt
+  alike-tokens (token h rest) s f w = (alike-token h (s .0 .2) (λ p d. (f p d) .0) (w .0), alike-tokens rest (s .1) (λ p d. (f p d) .1) (w .1))
+  alike-tokens (node h kids rest) s f w = (alike-tokens kids (s .0) (λ p d. (f p d) .0) (w .0), alike-tokens rest (s .1) (λ p d. (f p d) .1) (w .1))
 
-  fine-copy : (h : Head) → ((p : ℕ) → Differ a b p → Holds p h → ⊥) → FineCopy h
-  fine-copy h f = token-same a b (h .start) (h .end) sameLength (λ p lo hi. stable _ _ (λ d. f p d (lo, hi)))
+  alike-copy : (h : Head) → ((p : ℕ) → Differ a b p → Holds p h → ⊥) → CopyAlike h
+  alike-copy h f = token-same a b (h .start) (h .end) sameLength (λ p lo hi. stable _ _ (λ d. f p d (lo, hi)))
 
   of-copied : (t : Bool) (A B : Type 0) (A′ B′ : ℕ → Type 0) → ((p : ℕ) → Differ a b p → OfCopied t (A′ p) (B′ p))
       → (((p : ℕ) → Differ a b p → A′ p) → A) → (((p : ℕ) → Differ a b p → B′ p) → B) → OfCopied t A B
   of-copied true A B A′ B′ f u v = u f
   of-copied false A B A′ B′ f u v = v f
 
-  fine-copies : (c : Children) → ((p : ℕ) → Differ a b p → EachReached (λ h. Holds p h → ⊥) c) → EachReached FineCopy c
-  fine-copies done f = tt
-  fine-copies (token h rest) f = fine-copies rest f
-  fine-copies (node h kids rest) f =
-      (of-copied (copied (h .kind) kids) _ _ _ _ (λ p d. (f p d) .0) (fine-copy h) (fine-copies kids), fine-copies rest (λ p d. (f p d) .1))
+  alike-copies : (c : Children) → ((p : ℕ) → Differ a b p → EachReached (λ h. Holds p h → ⊥) c) → EachReached CopyAlike c
+  alike-copies done f = tt
+  alike-copies (token h rest) f = alike-copies rest f
+  alike-copies (node h kids rest) f =
+      (of-copied (copied (h .kind) kids) _ _ _ _ (λ p d. (f p d) .0) (alike-copy h) (alike-copies kids), alike-copies rest (λ p d. (f p d) .1))
 
   -- ── the theorem
 
   -- a version that puts the same between pieces that are alike
-  abbrev pub Steady : Version → Type 0
-  Steady v = (ps qs : List Piece) → PiecesLike ps qs → PiecesLike (v .between ps) (v .between qs)
+  abbrev pub KeepsAlike : Version → Type 0
+  KeepsAlike v = (ps qs : List Piece) → PiecesLike ps qs → PiecesLike (v .between ps) (v .between qs)
 
-  pub original-steady : Steady original
+  pub original-keeps-alike : KeepsAlike original
   unfolding original
-  original-steady ps qs k = k
+  original-keeps-alike ps qs k = k
 
-  same-pieces : (v : Version) → Steady v → (config : FormatConfig) (t : Tree) → TokenSpans (length a) (t .kids) → MaskedAsRead a b t
+  same-pieces : (v : Version) → KeepsAlike v → (config : FormatConfig) (t : Tree) → TokenSpans (length a) (t .kids) → MaskedAsRead a b t
       → PiecesLike (piecesOf v config a t) (piecesOf v config b t)
   unfolding piecesOf
   same-pieces v st config t s m =
       subst (λ cs. PiecesLike (v .between (pieces config a (calls (v .pick) a t) newState)) (v .between (pieces config b cs newState)))
       (calls-same (v .pick) t tokens)
-      (st _ _ (pieces-like config (calls (v .pick) a t) (calls-fine (v .pick) t tokens copies) newState))
+      (st _ _ (pieces-like config (calls (v .pick) a t) (calls-alike (v .pick) t tokens copies) newState))
     where
-      tokens : EachToken FineToken (t .kids)
-      tokens = fine-tokens (t .kids) s (m .inQuotes) (m .solidEnds)
+      tokens : EachToken TokenAlike (t .kids)
+      tokens = alike-tokens (t .kids) s (m .inQuotes) (m .noWhiteSpaceEnd)
 
-      copies : OfCopied (copied (t .head .kind) (t .kids)) (FineCopy (t .head)) (EachReached FineCopy (t .kids))
-      copies = of-copied (copied (t .head .kind) (t .kids)) _ _ _ _ (m .notCopied) (fine-copy (t .head)) (fine-copies (t .kids))
+      copies : OfCopied (copied (t .head .kind) (t .kids)) (CopyAlike (t .head)) (EachReached CopyAlike (t .kids))
+      copies = of-copied (copied (t .head .kind) (t .kids)) _ _ _ _ (m .notCopied) (alike-copy (t .head)) (alike-copies (t .kids))
 
-  masking-as-read : (v : Version) → Steady v → (config : FormatConfig) (t : Tree) → TokenSpans (length a) (t .kids) → MaskedAsRead a b t
+  masking-as-read : (v : Version) → KeepsAlike v → (config : FormatConfig) (t : Tree) → TokenSpans (length a) (t .kids) → MaskedAsRead a b t
       → Like a b (format v config a t) (format v config b t)
   unfolding format
   masking-as-read v st config t s m =
@@ -353,7 +354,7 @@ module _ (a b : Text) (sameLength : length a ≡ length b) where
       record {
         inQuotes = m .inQuotes;
         notCopied = λ p d. go (copied (t .head .kind) (t .kids)) p (m .notCopied p d);
-        solidEnds = m .solidEnds;
+        noWhiteSpaceEnd = m .noWhiteSpaceEnd;
       }
     where
       go : (x : Bool) (p : ℕ) → (T x → Holds p (t .head) → ⊥) × EachCopied (λ h. Holds p h → ⊥) (t .kids)
@@ -361,6 +362,6 @@ module _ (a b : Text) (sameLength : length a ≡ length b) where
       go true p u = u .0 tt
       go false p u = reached (t .kids) (λ h. Holds p h → ⊥) (u .1)
 
-  pub masking : (v : Version) → Steady v → (config : FormatConfig) (t : Tree) → TokenSpans (length a) (t .kids) → Masked a b t
+  pub masking : (v : Version) → KeepsAlike v → (config : FormatConfig) (t : Tree) → TokenSpans (length a) (t .kids) → Masked a b t
       → Like a b (format v config a t) (format v config b t)
   masking v st config t s m = masking-as-read v st config t s (masked-as-read t m)

@@ -1,5 +1,5 @@
 -- Document 01's small inputs of the refusals, and what is accepted at the limits, as one table of layout calls. A text and a tape past
--- their limit (3, 5) are too long to write out. Assumes nothing.
+-- their limit (3, 5) are too long to write out.
 use Prim.Native.Nat.{ℕ, zero, suc}
 use mathlib.Core.Bool.{Bool, true, _&&_}
 use mathlib.Core.List.{List, [], _∷_, _++_}
