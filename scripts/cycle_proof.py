@@ -27,7 +27,7 @@ RECORDS = COPY + "/target/goals/formatter"
 
 HEAD = """\
 -- The routines and the dispatch meet their contracts: one proof for the cycle of calls. The answers are alike for each routine; the laws
--- are those of Walks. The measure is twice the levels left, one more for the dispatch. Assumes nothing.
+-- are those of Walks. The measure is twice the levels left, one more for the dispatch.
 use borrow.Author.Needs.{needs}
 use Prim.Native.Nat.{_*_, _+_, _-_}
 use native.Mathlib.Omega.{arith}
@@ -39,7 +39,7 @@ use Rattle.tokens.proofs.Choices.{as-spaced}
 use Rattle.tokens.proofs.Runs.{no-spacing, spaced}
 use Rattle.formatter.proofs.RoutineLaws.{USED}
 use Rattle.formatter.proofs.Walks.{USED}
-use Rattle.formatter.specs.Promise.{always}
+use Rattle.formatter.specs.RoutinePromises.{always}
 use Rattle.layout.specs.FormatNode.{armsOf}
 use Rattle.layout.specs.Routines.{USED}
 use Rattle.layout.specs.declared.Routine.the-variants as the-variants
@@ -78,7 +78,7 @@ ANSWERS = {
     "BEFORE-requires": f"let r = side-ready {HERE} in omega arith",
     "sub-node": f"left-pos {CHILD}",
     "node-requires": f"(omega (arith, @pre .0, left-pos {CHILD}), node-ready {CHILD} (@head-at .ensures) {{before}} (omega arith))",
-    "loop-less-2": "omega (arith, @loop .inv .inside, @node .ensures .on)",
+    "loop-less-2": "omega (arith, @loop .inv .inside, @node .ensures .forward)",
     "loop-again-2": f"node-next {HERE} {{at-node}} (@if1 .taken) (@if2 .left) (@head-at .ensures) (λ k z. {{same-node}}) {{before}} "
     "(@node .ensures) {next-local} {after} (omega arith) (omega arith) (@node .kept .1 .1 .1 .1 .0{kept})",
     "add-end": "omega (arith, @loop .inv .inside, @pre .1 .sizes .tape-fits)",
@@ -121,7 +121,7 @@ LIST_NODE = f"{LIST} {MULTI} (@loop .local) {KIND}"
 # What a routine has of its own: pieces that replace those of `pieces`, and whole answers; `unfolding`, a name that is unfolded beside the
 # definition for all of UNFOLDED, or for the one need that is named with it.
 ROWS = {
-    "cases": {"next-local": KEPT.format("case-kept"), "after": NOTHING.format("case-after")},
+    "case": {"next-local": KEPT.format("case-kept"), "after": NOTHING.format("case-after")},
     "inline": {"unfolding": "inlineNode"},
     "list-by": {
         "arms": f"(listClauseArms {LIST} {MULTI})",
@@ -134,8 +134,8 @@ ROWS = {
     },
     "select": {"next-local": KEPT.format("select-kept")},
     "settings": {"next-local": KEPT.format("settings-kept")},
-    "tight": {"unfolding": "inlineNode"},
-    "unions": {"after": NOTHING.format("union-after"), "unfolding loop-again": "unionToken"},
+    "tight-paren": {"unfolding": "inlineNode"},
+    "union": {"after": NOTHING.format("union-after"), "unfolding loop-again": "unionToken"},
 }
 
 

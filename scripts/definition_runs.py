@@ -115,7 +115,7 @@ def batches(calls):
 
 # ── the claim
 
-CLAIM = """-- Calls and the answers that the source gives to them. Assumes nothing.
+CLAIM = """-- Calls and the answers that the source gives to them.
 use Prim.Native.Nat.{ℕ}
 use mathlib.Core.Bool.{Bool, true, _&&_}
 use mathlib.Core.List.{List, [], _∷_, _++_}

@@ -430,7 +430,7 @@ def original(function, sites):
     return f"{function.renamed(function.name + '__0')} {body}\n"
 
 
-def door(function, copies):
+def entry(function, copies):
     """The function under its own name, which calls the copy that is asked for."""
     rows = [f"{copy.number} => {function.call(f'{function.name}__{copy.number}')}," for copy in copies]
     rows.append(f"_ => {function.call(function.name + '__0')},")
@@ -446,7 +446,7 @@ class Edited:
         place = 0
         for function in its_functions:
             own = [copy for copy in copies if copy.function is function]
-            self.add(text[place : function.start] + door(function, own) + original(function, sites))
+            self.add(text[place : function.start] + entry(function, own) + original(function, sites))
             for copy in own:
                 self.lines[copy.number] = (self.line, self.line + copy.text().count("\n") - 1)
                 self.add(copy.text())

@@ -9,7 +9,7 @@ use borrow.Author.Tests.{le-leb, lt-leb}
 use Rattle.basics.specs.Case.{toLowercase}
 use Rattle.context.specs.Cells.{Text, Cell, bytesOf, fresh}
 use Rattle.context.specs.Alike.{Agree, CellLike}
-use Rattle.context.proofs.Masking.{like-at}
+use Rattle.context.proofs.AlikeWrites.{like-at}
 use Rattle.tape.specs.declared.Fault.{Fault}
 use Rattle.tape.specs.Tree.{Tree}
 use Rattle.tape.specs.Tape.{Read, refused, got}

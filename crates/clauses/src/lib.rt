@@ -32,9 +32,9 @@ ghost use Rattle.tape.specs.Kinds.{SelectStatement, UnionClause};
 ghost use Rattle.layout.specs.Arms.{dedent, indent, newline, seen};
 ghost use Rattle.layout.specs.Tokens.{noSpaceBefore};
 ghost use Rattle.layout.specs.Routines.{fileToken, formatFile, formatQueryList, formatSelectClause, formatSelectStatement, formatSettingsClause, formatUnionClause, joinClauseToken, listClauseNode, listClauseToken, multiItem, queryListToken, selectClauseToken, selectStatementToken, simpleClauseToken, unionToken};
-ghost use Rattle.tape.specs.Lies.{NodeAt, Scanned};
+ghost use Rattle.tape.specs.SpelledAt.{NodeAt, Scanned};
 ghost use Rattle.tape.specs.Tree.{severalListItems};
-ghost use Rattle.tokens.specs.Promise.{Acted, Silent, Spaced, TokenDone, TokenReady};
+ghost use Rattle.tokens.specs.TokenPromises.{Acted, Spaced, SpacedUnwritten, TokenDone, TokenReady};
 
 // ---- format_file
 
@@ -166,7 +166,7 @@ pub fn select_clause_before(
 }
 
 pub fn select_clause_after(ctx: FormatterContext, local: Local, kind: u16) -> FormatterContext
-    ensures { λ r. ⌜ Silent 0 ((formatSelectClause .atNode local kind 0) .2) ctx r ⌝ }
+    ensures { λ r. ⌜ SpacedUnwritten 0 ((formatSelectClause .atNode local kind 0) .2) ctx r ⌝ }
 {
     if kind == syntax_kind::COLUMN_LIST {
         return ctx.dedent();
@@ -297,7 +297,7 @@ pub fn list_clause_after(
     kind: u16,
     several: bool,
 ) -> FormatterContext
-    ensures { λ r. ⌜ Silent 0 (cond (eqb kind list && several) (dedent ∷ []) []) ctx r ⌝ }
+    ensures { λ r. ⌜ SpacedUnwritten 0 (cond (eqb kind list && several) (dedent ∷ []) []) ctx r ⌝ }
 {
     if kind == list {
         if several {
@@ -326,7 +326,7 @@ pub fn list_clause_local(list: u16, multi: bool, local: Local, kind: u16) -> Loc
 }
 
 pub fn list_clause_end(ctx: FormatterContext, multi: bool, local: Local) -> FormatterContext
-    ensures { λ r. ⌜ Silent 0 (cond (local .flag && multi) (dedent ∷ []) []) ctx r ⌝ }
+    ensures { λ r. ⌜ SpacedUnwritten 0 (cond (local .flag && multi) (dedent ∷ []) []) ctx r ⌝ }
 {
     if local.flag {
         if multi {
@@ -394,7 +394,7 @@ pub fn settings_clause_before(
 }
 
 pub fn settings_clause_after(ctx: FormatterContext, local: Local, kind: u16) -> FormatterContext
-    ensures { λ r. ⌜ Silent 0 ((formatSettingsClause .atNode local kind 0) .2) ctx r ⌝ }
+    ensures { λ r. ⌜ SpacedUnwritten 0 ((formatSettingsClause .atNode local kind 0) .2) ctx r ⌝ }
 {
     if kind == syntax_kind::SETTING_LIST {
         return ctx.dedent();
@@ -413,7 +413,7 @@ pub fn with_clause_before(out: &mut [u8], ctx: FormatterContext) -> FormatterCon
 }
 
 pub fn with_clause_after(ctx: FormatterContext) -> FormatterContext
-    ensures { λ r. ⌜ Silent 0 (dedent ∷ []) ctx r ⌝ }
+    ensures { λ r. ⌜ SpacedUnwritten 0 (dedent ∷ []) ctx r ⌝ }
 {
     ctx.dedent()
 }

@@ -1,4 +1,4 @@
--- The bytes of cells, what a change of case keeps, and the text of a span. Assumes nothing.
+-- The bytes of cells, what a change of case keeps, and the text of a span.
 use mathlib.Core.Path.{_≡_, refl, sym, ap, _∙_}
 use mathlib.Core.Bool.{Bool, true, false, cond, _&&_, and-false}
 use mathlib.Core.List.{List, [], _∷_, _++_, map}

@@ -3,4 +3,4 @@ pub mod Splicing
 pub mod Trimming
 pub mod Bytes
 pub mod Writes
-pub mod Masking
+pub mod AlikeWrites

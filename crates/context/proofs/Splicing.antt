@@ -1,4 +1,4 @@
--- Laws of `splice`: writes in a row, past the end, over the whole list, by a loop, and into a lent part. Assumes nothing.
+-- Laws of `splice`: writes in a row, past the end, over the whole list, by a loop, and into a lent part.
 use mathlib.Core.Path.{_≡_, refl, sym, ap, _∙_}
 use mathlib.Core.List.{List, [], _∷_, _++_, append-nil}
 use Prim.Native.Nat.{ℕ, zero, suc, min, _+_, _-_, _≤_, _<_}
@@ -40,12 +40,12 @@ module _ {A : Type 0} where
 
   -- ── a loop that writes ps element by element, as far as the list goes
 
-  splice-turn : (i : ℕ) (ps xs : List A) (d : A) → i < length ps → set (splice 0 (take i ps) xs) i (getD ps i d) ≡ splice 0 (take (suc i) ps) xs
+  splice-step : (i : ℕ) (ps xs : List A) (d : A) → i < length ps → set (splice 0 (take i ps) xs) i (getD ps i d) ≡ splice 0 (take (suc i) ps) xs
   unfolding splice
-  splice-turn i ps [] d h = refl
-  splice-turn i [] (x ∷ xs) d h = absurd (not-suc-le-zero h)
-  splice-turn zero (p ∷ ps) (x ∷ xs) d h = ap {B = List A} (λ r. p ∷ r) (sym (splice-nil zero xs))
-  splice-turn (suc i) (p ∷ ps) (x ∷ xs) d h = ap {B = List A} (λ r. p ∷ r) (splice-turn i ps xs d (le-of-suc-le-suc h))
+  splice-step i ps [] d h = refl
+  splice-step i [] (x ∷ xs) d h = absurd (not-suc-le-zero h)
+  splice-step zero (p ∷ ps) (x ∷ xs) d h = ap {B = List A} (λ r. p ∷ r) (sym (splice-nil zero xs))
+  splice-step (suc i) (p ∷ ps) (x ∷ xs) d h = ap {B = List A} (λ r. p ∷ r) (splice-step i ps xs d (le-of-suc-le-suc h))
 
   splice-min : (ps xs : List A) → splice 0 (take (min (length ps) (length xs)) ps) xs ≡ splice 0 ps xs
   unfolding splice
@@ -54,9 +54,9 @@ module _ {A : Type 0} where
   splice-min (p ∷ ps) (x ∷ xs) = rw suc-min-suc (ap {B = List A} (λ r. p ∷ r) (splice-min ps xs))
 
   -- one turn
-  pub loop-turn : (ps xs out : List A) (i : ℕ) (v d : A) → out ≡ splice 0 (take i ps) xs → i < length ps → getD ps i d ≡ v
+  pub loop-step : (ps xs out : List A) (i : ℕ) (v d : A) → out ≡ splice 0 (take i ps) xs → i < length ps → getD ps i d ≡ v
       → set out i v ≡ splice 0 (take (i + 1) ps) xs
-  loop-turn ps xs out i v d e h g = rw (add-one, e, ← g) (splice-turn i ps xs d h)
+  loop-step ps xs out i v d e h g = rw (add-one, e, ← g) (splice-step i ps xs d h)
 
   -- the end
   pub loop-end : (ps xs out : List A) (i : ℕ) → out ≡ splice 0 (take i ps) xs → i ≡ min (length ps) (length xs) → out ≡ splice 0 ps xs

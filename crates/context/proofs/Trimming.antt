@@ -1,4 +1,4 @@
--- Laws of trimming, for any test of white space. Assumes nothing.
+-- Laws of trimming, for any test of white space.
 use mathlib.Core.Path.{_≡_, refl, sym, ap, ap₂, _∙_}
 use mathlib.Core.Bool.{Bool, true, false, cond}
 use mathlib.Core.List.{List, [], _∷_, _++_, map}
@@ -73,9 +73,9 @@ module _ {A : Type 0} (white : A → Bool) where
   unfolding trimmedLength trim
   trimmed-white x w = rw w
 
-  pub trimmed-solid : (x : A) → white x ≡ false → trimmedLength white (x ∷ []) ≡ 1
+  pub trimmed-not-white : (x : A) → white x ≡ false → trimmedLength white (x ∷ []) ≡ 1
   unfolding trimmedLength trim
-  trimmed-solid x w = rw w
+  trimmed-not-white x w = rw w
 
   -- trimming leaves the first elements
   pub trim-take : (xs : List A) → trim white xs ≡ take (trimmedLength white xs) xs

@@ -1,4 +1,4 @@
--- Laws of writes: what code did is what a step stores, writes in a row, room as credit. Assumes nothing.
+-- Laws of writes: what code did is what a step stores, writes in a row, room as credit.
 use mathlib.Core.Path.{_≡_, refl, sym, ap, ap₂, _∙_}
 use mathlib.Core.Bool.{Bool, false}
 use mathlib.Core.List.{List, [], _++_, map}

@@ -1,5 +1,4 @@
 -- When the cells written for two texts are alike, as the masking rule has it.
--- Assumes nothing.
 use mathlib.Core.Path.{_≡_}
 use mathlib.Core.List.{List, [], _∷_}
 use lib.ListN.{getD}

@@ -1,5 +1,4 @@
 -- Bytes of the text and cells of the output: a cell is a byte with the place that it was copied from.
--- Assumes nothing.
 use Prim.Native.Nat.{ℕ, suc, _+_, _-_}
 use mathlib.Core.Bool.{Bool, cond, _&&_, _||_}
 use mathlib.Core.List.{List, [], _∷_, map}

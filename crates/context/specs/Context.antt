@@ -1,5 +1,4 @@
 -- context.rs: what each method of FormatterContext does to the state and writes, in the source's order, and `finish`.
--- Assumes nothing.
 use Prim.Native.Nat.{ℕ, suc, pred, _-_, _*_}
 use mathlib.Core.Bool.{Bool, true, false, cond, _||_}
 use mathlib.Core.List.{List, [], _∷_, _++_, map}

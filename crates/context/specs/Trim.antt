@@ -1,5 +1,4 @@
 -- A list without the white space at its end. What counts as white space is a test, over elements of any sort.
--- Assumes nothing.
 use Prim.Native.Nat.{ℕ, zero, suc, _+_}
 use mathlib.Core.Bool.{Bool, cond}
 use mathlib.Core.List.{List, [], _∷_}

@@ -1,4 +1,4 @@
--- From what `layout` promises to what is printed. Assumes nothing.
+-- From what `layout` promises to what is printed.
 use mathlib.Core.Path.{_≡_, refl, ap, subst, _∙_}
 use mathlib.Core.Bool.{Bool, true, false, cond}
 use mathlib.Core.List.{List, [], _∷_, _++_}

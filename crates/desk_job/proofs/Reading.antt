@@ -1,4 +1,4 @@
--- What the header's tests say. Assumes nothing.
+-- What the header's tests say.
 use mathlib.Core.Path.{_≡_, refl, sym, ap, subst, _∙_}
 use mathlib.Core.Bool.{Bool, true, false, cond, not, _&&_}
 use mathlib.Core.List.{List}
@@ -12,11 +12,11 @@ use Rattle.desk_job.specs.declared.Header.the-variants.{Refused, Accepte
 use Rattle.desk_job.specs.Job.{hasCommand, textEnd, readHeader}
 
 -- an answer that is negated in the test
-pub told-false : {r t : Bool} → r ≡ t → not r ≡ true → t ≡ false
-told-false e n = sym e ∙ not-true _ n
+pub answered-false : {r t : Bool} → r ≡ t → not r ≡ true → t ≡ false
+answered-false e n = sym e ∙ not-true _ n
 
-pub told-true : {r t : Bool} → r ≡ t → not r ≡ false → t ≡ true
-told-true e n = sym e ∙ not-false _ n
+pub answered-true : {r t : Bool} → r ≡ t → not r ≡ false → t ≡ true
+answered-true e n = sym e ∙ not-false _ n
 
 first-true : (a b : Bool) → (a && b) ≡ true → a ≡ true
 first-true true b h = refl

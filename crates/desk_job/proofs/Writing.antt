@@ -1,4 +1,4 @@
--- Laws of `written`: nothing, one byte, writes in a row, and a loop; and of the digits. Assumes nothing.
+-- Laws of `written`: nothing, one byte, writes in a row, and a loop; and of the digits.
 use mathlib.Core.Path.{_≡_, refl, sym, ap, subst, _∙_}
 use mathlib.Core.List.{List, [], _∷_, _++_}
 use Prim.Native.Nat.{ℕ, zero, suc, min, _+_, _-_, _/_, _%_, _≤_, _<_}
@@ -76,9 +76,9 @@ wrote-then {r} {s} {out} {end} at ps bs xs h k =
     ∙ splice-splice at ps bs xs))
 
 -- a loop that writes a text byte by byte: one turn, and the end
-pub wrote-turn : {r s : ℕ} {out end : List ℕ} (at : ℕ) (xs text : List ℕ) (i : ℕ) → i < length text → Wrote r out at (take i text) xs → Wrote s end r (getD text i 0 ∷ []) out
+pub wrote-step : {r s : ℕ} {out end : List ℕ} (at : ℕ) (xs text : List ℕ) (i : ℕ) → i < length text → Wrote r out at (take i text) xs → Wrote s end r (getD text i 0 ∷ []) out
     → Wrote s end at (take (i + 1) text) xs
-wrote-turn at xs text i l h k = rw (add-one, take-suc text i 0 l) (wrote-then at (take i text) (getD text i 0 ∷ []) xs h k)
+wrote-step at xs text i l h k = rw (add-one, take-suc text i 0 l) (wrote-then at (take i text) (getD text i 0 ∷ []) xs h k)
 
 pub wrote-all : {r : ℕ} {out : List ℕ} (at : ℕ) (xs text : List ℕ) (i : ℕ) → length text ≤ i → Wrote r out at (take i text) xs → Wrote r out at text xs
 wrote-all {r} {out} at xs text i l h = subst (λ (t : List ℕ). Wrote r out at t xs) (take-all i text l) h

@@ -1,4 +1,4 @@
--- The desk's program: how a job is read, and what is printed for it. Assumes nothing.
+-- The desk's program: how a job is read, and what is printed for it.
 use Prim.Native.Nat.{ℕ, zero, suc, _+_, _-_, _/_, _%_}
 use mathlib.Core.Bool.{Bool, cond, not, _&&_}
 use mathlib.Core.List.{List, [], _∷_, _++_}

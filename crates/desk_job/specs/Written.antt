@@ -1,4 +1,4 @@
--- A space with bytes written into it, as far as it goes. Assumes nothing.
+-- A space with bytes written into it, as far as it goes.
 use Prim.Native.Nat.{ℕ, min, _+_}
 use mathlib.Core.List.{List}
 use lib.ListN.{length}

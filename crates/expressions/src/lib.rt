@@ -33,7 +33,7 @@ ghost use Rattle.tape.specs.Kinds.{OpeningRoundBracket};
 ghost use Rattle.layout.specs.Arms.{seen};
 ghost use Rattle.layout.specs.Tokens.{noSpaceBefore};
 ghost use Rattle.layout.specs.Routines.{alterCommandListToken, binaryToken, braceListToken, bracketListToken, caseToken, caseWord, commaListToken, dataTypeToken, formatCaseExpression, functionCallToken, inlineCommaListToken, inlineTightParensToken, inlineToken, nameBefore, parenListToken, passthroughToken, spaceAfter, subqueryToken, unaryToken, whenToken, whenWord};
-ghost use Rattle.tokens.specs.Promise.{Acted, Spaced, TokenDone, TokenReady};
+ghost use Rattle.tokens.specs.TokenPromises.{Acted, Spaced, TokenDone, TokenReady};
 
 // ---- format_comma_list
 

@@ -1,4 +1,4 @@
--- Which nodes are copied as typed, by kind. Assumes nothing.
+-- Which nodes are copied as typed, by kind.
 use Prim.Native.Nat.{ℕ}
 use mathlib.Core.Path.{_≡_}
 use mathlib.Core.Bool.{true, false}

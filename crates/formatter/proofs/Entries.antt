@@ -1,4 +1,4 @@
--- From the walk to the two calls. Assumes nothing.
+-- From the walk to the two calls.
 use mathlib.Core.Path.{_≡_, sym, ap, subst, _∙_}
 use mathlib.Core.Bool.{Bool}
 use mathlib.Core.List.{List, _++_}
@@ -31,7 +31,7 @@ use Rattle.layout.specs.Run.{run}
 use Rattle.layout.specs.Outcome.{Outcome, refusal, laid, ofRead, configOf, outcome, Result, fitted, measured, laidOut}
 use Rattle.layout.proofs.Running.{after, run-appends, kept, finish-none, finish-length, finish-stored}
 use Rattle.formatter.specs.declared.Walk.{Walk}
-use Rattle.formatter.specs.Promise.{NodeReady, NodeDone}
+use Rattle.formatter.specs.RoutinePromises.{NodeReady, NodeDone}
 use Rattle.formatter.specs.Entry.{Ready, allCells, Trims, Fills, Measures, LaysOut}
 
 -- ── the walk from the start
@@ -46,7 +46,7 @@ root-ready {text} {tape} {config} {errors} p q e =
         room = record { level = omega arith; length = omega arith };
         span = subst (λ (h : Head). h .start ≤ h .end → h .end ≤ length text) (a .root .head) (a .root .span);
         kids = a .tree .kids;
-        lies = a .kids;
+        spelled = a .kids;
         low = omega (arith, a .depth);
         clean = λ f. ap (λ (h : Head). hasError (record { head = h; kids = a .tree .kids })) (sym (a .root .head)) ∙ p .has-error ∙ f;
       }),

@@ -1,4 +1,4 @@
--- What the routines' definitions come to around a child node, as the loops have it. Assumes nothing.
+-- What the routines' definitions come to around a child node, as the loops have it.
 use Prim.Native.Nat.{ℕ}
 use mathlib.Core.Path.{_≡_, refl, sym, ap}
 use mathlib.Core.Bool.{Bool, true, false, cond, not, _&&_}

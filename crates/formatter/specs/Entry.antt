@@ -1,4 +1,4 @@
--- What the parts of the two calls ask and promise, where the tape is accepted. Assumes nothing: these are definitions.
+-- What the parts of the two calls ask and promise, where the tape is accepted.
 use mathlib.Core.Path.{_≡_}
 use mathlib.Core.Bool.{Bool}
 use mathlib.Core.List.{List, _++_}
@@ -9,11 +9,11 @@ use Rattle.context.specs.Trim.{trimmedLength}
 use Rattle.context.specs.declared.FormatConfig.{FormatConfig}
 use Rattle.tape.specs.Tree.{Tree, hasError}
 use Rattle.tape.specs.Tape.{got, readTree}
-use Rattle.tape.specs.Lies.{AcceptedTape}
+use Rattle.tape.specs.SpelledAt.{AcceptedTape}
 use Rattle.layout.specs.declared.Answer.{Answer}
 use Rattle.layout.specs.Layout.{written, original, piecesOf, format}
 use Rattle.layout.specs.Outcome.{Result, laid, laidOut, measured}
-use Rattle.formatter.specs.Promise.{Sizes}
+use Rattle.formatter.specs.RoutinePromises.{Sizes}
 
 -- the tape is accepted, and `errors` says whether its tree has an Error node
 pub record Ready (text tape : List ℕ) (config : FormatConfig) (errors : Bool) : Type 0 where

@@ -1,3 +1,3 @@
 -- What the routines, the dispatch and the calls ask and promise.
-pub mod Promise
+pub mod RoutinePromises
 pub mod Entry

@@ -59,11 +59,11 @@ use tokens::format_error_verbatim;
 use tokens::space_after;
 use tokens::space_if;
 ghost use mathlib.Core.Path.{_≡_};
-ghost use Rattle.tape.specs.Lies.{NodeAt, Scanned};
+ghost use Rattle.tape.specs.SpelledAt.{NodeAt, Scanned};
 ghost use Rattle.tape.specs.Tape.{headAt};
 ghost use Rattle.tape.specs.Tree.{copied};
 ghost use Rattle.layout.specs.Routines.{formatAlterCommandList, formatBinaryExpression, formatBraceList, formatBracketList, formatCaseExpression, formatCommaList, formatDataType, formatFile, formatFunctionCall, formatInline, formatInlineCommaList, formatInlineNoSpaces, formatInlineTightParens, formatJoinClause, formatListClause, formatParenList, formatPassthrough, formatQueryList, formatSelectClause, formatSelectStatement, formatSettingsClause, formatSimpleClause, formatSubquery, formatUnaryExpression, formatUnionClause, formatWhenClause, formatWithClause};
-ghost use Rattle.formatter.specs.Promise.{NodeDone, NodeReady, RoutineDone, always};
+ghost use Rattle.formatter.specs.RoutinePromises.{NodeDone, NodeReady, RoutineDone, always};
 
 // format_file
 fn file(
@@ -150,7 +150,7 @@ fn queries(
 }
 
 // format_select_statement
-fn query(
+fn sel_stmt(
     source: &[u8],
     tape: &[u8],
     config: FormatConfig,
@@ -402,7 +402,7 @@ fn settings(
 }
 
 // format_with_clause
-fn with_of(
+fn with(
     source: &[u8],
     tape: &[u8],
     config: FormatConfig,
@@ -437,7 +437,7 @@ fn with_of(
 }
 
 // format_comma_list
-fn commas(
+fn comma(
     source: &[u8],
     tape: &[u8],
     config: FormatConfig,
@@ -481,7 +481,7 @@ fn commas(
 }
 
 // format_inline_comma_list
-fn row(
+fn inl_list(
     source: &[u8],
     tape: &[u8],
     config: FormatConfig,
@@ -613,7 +613,7 @@ fn call(
 }
 
 // format_case_expression
-fn cases(
+fn case(
     source: &[u8],
     tape: &[u8],
     config: FormatConfig,
@@ -651,7 +651,7 @@ fn cases(
 }
 
 // format_when_clause
-fn when_of(
+fn when(
     source: &[u8],
     tape: &[u8],
     config: FormatConfig,
@@ -717,7 +717,7 @@ fn subquery(
 }
 
 // format_paren_list
-fn parens(
+fn paren(
     source: &[u8],
     tape: &[u8],
     config: FormatConfig,
@@ -750,7 +750,7 @@ fn parens(
 }
 
 // format_bracket_list
-fn brackets(
+fn bracket(
     source: &[u8],
     tape: &[u8],
     config: FormatConfig,
@@ -783,7 +783,7 @@ fn brackets(
 }
 
 // format_brace_list
-fn braces(
+fn brace(
     source: &[u8],
     tape: &[u8],
     config: FormatConfig,
@@ -816,7 +816,7 @@ fn braces(
 }
 
 // format_data_type
-fn types(
+fn dtype(
     source: &[u8],
     tape: &[u8],
     config: FormatConfig,
@@ -849,7 +849,7 @@ fn types(
 }
 
 // format_inline_tight_parens
-fn tight(
+fn tight_paren(
     source: &[u8],
     tape: &[u8],
     config: FormatConfig,
@@ -939,7 +939,7 @@ fn inline(
 }
 
 // format_inline_no_spaces
-fn solid(
+fn no_spaces(
     source: &[u8],
     tape: &[u8],
     config: FormatConfig,
@@ -1038,7 +1038,7 @@ fn alter(
 }
 
 // format_union_clause
-fn unions(
+fn union(
     source: &[u8],
     tape: &[u8],
     config: FormatConfig,
@@ -1121,30 +1121,30 @@ pub(crate) fn node(
     match r {
         Routine::File => file(source, tape, config, errors, out, left, at, c),
         Routine::QueryList => queries(source, tape, config, errors, out, left, at, c),
-        Routine::SelectStatement => query(source, tape, config, errors, out, left, at, c),
+        Routine::SelectStatement => sel_stmt(source, tape, config, errors, out, left, at, c),
         Routine::SelectClause => select(source, tape, config, errors, out, left, at, c),
         Routine::SimpleClause => simple(source, tape, config, errors, out, left, at, c),
         Routine::ListClause(list) => list_by(source, tape, config, errors, out, left, at, c, list),
         Routine::SettingsClause => settings(source, tape, config, errors, out, left, at, c),
-        Routine::WithClause => with_of(source, tape, config, errors, out, left, at, c),
+        Routine::WithClause => with(source, tape, config, errors, out, left, at, c),
         Routine::JoinClause => join(source, tape, config, errors, out, left, at, c),
         Routine::Inline => inline(source, tape, config, errors, out, left, at, c),
-        Routine::CommaList => commas(source, tape, config, errors, out, left, at, c),
-        Routine::InlineCommaList => row(source, tape, config, errors, out, left, at, c),
+        Routine::CommaList => comma(source, tape, config, errors, out, left, at, c),
+        Routine::InlineCommaList => inl_list(source, tape, config, errors, out, left, at, c),
         Routine::BinaryExpression => binary(source, tape, config, errors, out, left, at, c),
         Routine::UnaryExpression => unary(source, tape, config, errors, out, left, at, c),
         Routine::FunctionCall => call(source, tape, config, errors, out, left, at, c),
-        Routine::CaseExpression => cases(source, tape, config, errors, out, left, at, c),
-        Routine::WhenClause => when_of(source, tape, config, errors, out, left, at, c),
+        Routine::CaseExpression => case(source, tape, config, errors, out, left, at, c),
+        Routine::WhenClause => when(source, tape, config, errors, out, left, at, c),
         Routine::Subquery => subquery(source, tape, config, errors, out, left, at, c),
-        Routine::ParenList => parens(source, tape, config, errors, out, left, at, c),
-        Routine::BracketList => brackets(source, tape, config, errors, out, left, at, c),
-        Routine::InlineNoSpaces => solid(source, tape, config, errors, out, left, at, c),
-        Routine::BraceList => braces(source, tape, config, errors, out, left, at, c),
-        Routine::DataType => types(source, tape, config, errors, out, left, at, c),
-        Routine::InlineTightParens => tight(source, tape, config, errors, out, left, at, c),
+        Routine::ParenList => paren(source, tape, config, errors, out, left, at, c),
+        Routine::BracketList => bracket(source, tape, config, errors, out, left, at, c),
+        Routine::InlineNoSpaces => no_spaces(source, tape, config, errors, out, left, at, c),
+        Routine::BraceList => brace(source, tape, config, errors, out, left, at, c),
+        Routine::DataType => dtype(source, tape, config, errors, out, left, at, c),
+        Routine::InlineTightParens => tight_paren(source, tape, config, errors, out, left, at, c),
         Routine::AlterCommandList => alter(source, tape, config, errors, out, left, at, c),
-        Routine::UnionClause => unions(source, tape, config, errors, out, left, at, c),
+        Routine::UnionClause => union(source, tape, config, errors, out, left, at, c),
         Routine::Passthrough => pass(source, tape, config, errors, out, left, at, c),
     }
 }

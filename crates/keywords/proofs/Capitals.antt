@@ -1,4 +1,4 @@
--- The bytes of a word in capitals. Assumes nothing.
+-- The bytes of a word in capitals.
 use mathlib.Core.Path.{_≡_, refl}
 use mathlib.Core.List.{List, [], _∷_}
 use Prim.Native.Nat.{ℕ, zero, suc, _<_}

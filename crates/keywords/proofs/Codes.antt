@@ -1,4 +1,4 @@
--- Words of capitals as numbers: one number for each word, and what a loop over a word's bytes learns. Assumes nothing.
+-- Words of capitals as numbers: one number for each word, and what a loop over a word's bytes learns.
 use Prim.Native.Nat.{ℕ, zero, suc, _+_, _*_, _-_, _%_, _^_, _≤_, _<_}
 use native.Mathlib.Nat.{le-of-suc-le-suc, not-suc-le-zero}
 use native.Mathlib.Omega.{arith}

@@ -1,4 +1,4 @@
--- The one entry that the index leads to is the only one that can be equal to a word. Assumes nothing.
+-- The one entry that the index leads to is the only one that can be equal to a word.
 use mathlib.Core.Path.{_≡_, refl, sym, ap, _∙_, subst}
 use mathlib.Core.Bool.{Bool, true, false, cond, _&&_, _||_, false≢true}
 use mathlib.Core.Logic.{_⊎_, inl, inr, ⊎-elim}
@@ -65,7 +65,7 @@ known-word w h = known w words (codes words) words-rule words-lead h
 record Entry (k : ℕ) (ws : List (List ℕ)) : Type 0 where
   word : List ℕ
   rule : Rule word
-  on : listed word ws ≡ true
+  isListed : listed word ws ≡ true
   is : match k (codes ws) 0 ≡ code word
 
 same-self : (w : List ℕ) → same w w ≡ true
@@ -80,9 +80,9 @@ entry-at k [] r = inl refl
 entry-at k (e ∷ es) r = go (eqb k (key e)) refl (entry-at k es (rule-of e es r .1))
   where
     go : (b : Bool) → eqb k (key e) ≡ b → (match k (codes es) 0 ≡ 0) ⊎ Entry k es → (match k (codes (e ∷ es)) 0 ≡ 0) ⊎ Entry k (e ∷ es)
-    go true q more = inr (record { word = e; rule = rule-of e es r .0; on = rw (same-self e); is = rw q })
+    go true q more = inr (record { word = e; rule = rule-of e es r .0; isListed = rw (same-self e); is = rw q })
     go false q (inl z) = inl (rw q z)
-    go false q (inr x) = inr (record { word = x .word; rule = x .rule; on = later (same e (x .word)) (x .on); is = rw q (x .is) })
+    go false q (inr x) = inr (record { word = x .word; rule = x .rule; isListed = later (same e (x .word)) (x .isListed); is = rw q (x .is) })
       where
         later : (b : Bool) → listed (x .word) es ≡ true → (b || listed (x .word) es) ≡ true
         later true u = refl
@@ -147,7 +147,7 @@ code-keyword w h e = go (capital (capitals w)) refl e (entry-at (key w) words wo
         absurd (omega (arith, code-long (capitals w) (rw c tt) (omega arith)))
     go true c q (inr x) =
         let s = code-injective (capitals w) (x .word) (rw c tt) (x .rule .capitals-only) (q ∙ x .is) in
-        ap (λ (v : List ℕ). listed v words) s ∙ x .on
+        ap (λ (v : List ℕ). listed v words) s ∙ x .isListed
 
 -- a word is on the list where its code is the one that its key leads to
 pub keyword-is : (w : List ℕ) → 2 ≤ length w → eqb (wordCode w) (match (key w) (codes words) 0) ≡ isKeyword w

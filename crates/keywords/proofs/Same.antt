@@ -1,4 +1,4 @@
--- Laws of `same`, the equality of byte lists. Assumes nothing.
+-- Laws of `same`, the equality of byte lists.
 use mathlib.Core.Path.{_≡_, refl, ap}
 use mathlib.Core.Bool.{Bool, true, false, _&&_, and-false, false≢true}
 use mathlib.Core.List.{List, [], _∷_}
@@ -28,10 +28,10 @@ unfolding same
 same-nil = refl
 
 -- what a loop over both lists learns at an index
-pub same-turn : (xs ys : List ℕ) (i : ℕ) → i < length xs → i < length ys
+pub same-step : (xs ys : List ℕ) (i : ℕ) → i < length xs → i < length ys
     → same (drop i xs) (drop i ys) ≡ (eqb (getD xs i 0) (getD ys i 0) && same (drop (i + 1) xs) (drop (i + 1) ys))
 unfolding same
-same-turn xs ys i h k = rw (add-one, drop-cons xs i 0 h, drop-cons ys i 0 k)
+same-step xs ys i h k = rw (add-one, drop-cons xs i 0 h, drop-cons ys i 0 k)
 
 pub and-true : (a b : Bool) → (a && b) ≡ true → (a ≡ true) × (b ≡ true)
 and-true true b h = (refl, h)

@@ -1,4 +1,4 @@
--- The index of the list: which entry can be equal to a word. Assumes nothing.
+-- The index of the list: which entry can be equal to a word.
 use mathlib.Core.Bool.{cond}
 use mathlib.Core.List.{List, [], _∷_}
 use Prim.Native.Nat.{ℕ, _+_, _*_, _-_, _/_, _%_}

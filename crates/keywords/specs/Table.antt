@@ -1,4 +1,4 @@
--- The rule of the list's entries. Assumes nothing.
+-- The rule of the list's entries.
 use mathlib.Core.Bool.{Bool, true, _&&_}
 use mathlib.Core.List.{List, [], _∷_}
 use Prim.Native.Nat.{ℕ}

@@ -1,4 +1,4 @@
--- Which words are keywords, and which of them are values: `is_keyword` and `is_value_keyword` of format_node.rs. Assumes nothing.
+-- Which words are keywords, and which of them are values: `is_keyword` and `is_value_keyword` of format_node.rs.
 use mathlib.Core.Bool.{Bool, true, false, _&&_, _||_}
 use mathlib.Core.List.{List, [], _∷_, map}
 use Prim.Native.Char.{code}

@@ -10,19 +10,20 @@ use lib.Dec.{T, eqb, leb, eqb→eq}
 use borrow.Author.Tests.{eqb-true, eqb-false, ne-eqb}
 use Rattle.context.specs.Cells.{Text, Cell, isWhiteSpace, tokenText, bytesOf, spanCells, copiedFrom}
 use Rattle.context.specs.Trim.{trimmedLength}
-use Rattle.context.specs.Context.{Piece, newState, lastByte, cellIsWhiteSpace, writeToken, writeKeyword}
+use Rattle.context.specs.Context.{Piece, newState, lastByte, cellIsWhiteSpace, writeToken}
+use Rattle.context.specs.Context as context
 use Rattle.context.specs.Alike.{Like}
 use Rattle.context.specs.declared.FormatConfig.{FormatConfig}
 use Rattle.context.specs.declared.State.{State}
 use Rattle.context.proofs.Bytes.{bytes-span, token-last, token-same, trimmed-cells-in-case}
 use Rattle.context.proofs.Trimming.{trimmed-append}
-use Rattle.context.proofs.Masking.{like-self, like-append, like-length, span-like, keyword-like, trimmed-like, finish-like}
+use Rattle.context.proofs.AlikeWrites.{like-self, like-append, like-length, span-like, keyword-like, trimmed-like, finish-like}
 use Rattle.tape.specs.Kinds.{StringToken, QuotedIdentifier}
 use Rattle.tape.specs.declared.Head.{Head}
 use Rattle.tape.specs.Tree.{Children, done, token, node, Tree, countListItems, copied, EachToken, EachNode}
 use Rattle.layout.specs.declared.Local.{Local}
-use Rattle.layout.specs.Arms.{Spacing, Act, spacing, text, keyword, sign, isRead, seen, Arms}
-use Rattle.layout.specs.Calls.{Call, apart, on, raw, formatErrorVerbatim, walk, calls}
+use Rattle.layout.specs.Arms.{Spacing, Act, spacing, writeText, writeKeyword, writeSign, isRead, seen, Arms}
+use Rattle.layout.specs.Calls.{Call, putSpacing, actAt, raw, formatErrorVerbatim, walk, calls}
 use Rattle.layout.specs.Layout.{step, pieces, written, Version, original, piecesOf, format}
 use Rattle.layout.specs.Masking.{OfCopied, EachReachedBelow, EachReachedCopy, quoted, Holds, StrictlyInside, Differ, EndsInWhiteSpace, Masked, MaskedForLayout, SameLines}
 
@@ -86,8 +87,8 @@ module _ (a b : Text) (sameLength : length a ≡ length b) where
   -- ── each call is on a token of the tree, or copies a node that is copied as typed
 
   abbrev CallAlike : Call → Type 0
-  CallAlike (apart x) = Unit {0}
-  CallAlike (on h x) = TokenAlike h
+  CallAlike (putSpacing x) = Unit {0}
+  CallAlike (actAt h x) = TokenAlike h
   CallAlike (raw s e) = SameSpan s e
 
   Every : List Call → Type 0
@@ -99,15 +100,15 @@ module _ (a b : Text) (sameLength : length a ≡ length b) where
   every-append [] y u v = v
   every-append (c ∷ x) y u v = (u .0, every-append x y (u .1) v)
 
-  every-apart : (xs : List Spacing) → Every (map apart xs)
+  every-spacing : (xs : List Spacing) → Every (map putSpacing xs)
   unfolding Every
-  every-apart [] = tt
-  every-apart (x ∷ xs) = (tt, every-apart xs)
+  every-spacing [] = tt
+  every-spacing (x ∷ xs) = (tt, every-spacing xs)
 
-  every-on : (h : Head) → TokenAlike h → (xs : List Act) → Every (map (on h) xs)
+  every-act : (h : Head) → TokenAlike h → (xs : List Act) → Every (map (actAt h) xs)
   unfolding Every
-  every-on h w [] = tt
-  every-on h w (x ∷ xs) = (w, every-on h w xs)
+  every-act h w [] = tt
+  every-act h w (x ∷ xs) = (w, every-act h w xs)
 
   every-verbatim : (h : Head) → CopyAlike h → Every (formatErrorVerbatim h)
   unfolding formatErrorVerbatim Every
@@ -124,16 +125,16 @@ module _ (a b : Text) (sameLength : length a ≡ length b) where
   module _ (pick : ℕ → Children → Arms) where
     walk-alike : (c : Children) → EachToken TokenAlike c → EachReachedBelow CopyAlike c → (r : Arms) (l : Local) → Every (walk pick a r l c)
     unfolding walk
-    walk-alike done w v r l = every-apart (r .atEnd l)
+    walk-alike done w v r l = every-spacing (r .atEnd l)
     walk-alike (token h rest) w v r l =
-        every-append _ _ (every-on h (w .0) ((r .atToken l (seen a h)) .1)) (walk-alike rest (w .1) v r ((r .atToken l (seen a h)) .0))
+        every-append _ _ (every-act h (w .0) ((r .atToken l (seen a h)) .1)) (walk-alike rest (w .1) v r ((r .atToken l (seen a h)) .0))
     walk-alike (node h kids rest) w v r l =
         let q = pick (h .kind) kids in
         let n = r .atNode l (h .kind) (countListItems kids) in
-        every-append _ _ (every-apart (n .1))
+        every-append _ _ (every-spacing (n .1))
         (every-append _ _
         (every-cond (copied (h .kind) kids) _ _ _ _ (v .0) (every-verbatim h) (λ u. walk-alike kids (w .0) u q (q .begin)))
-        (every-append _ _ (every-apart (n .2)) (walk-alike rest (w .1) (v .1) r (n .0))))
+        (every-append _ _ (every-spacing (n .2)) (walk-alike rest (w .1) (v .1) r (n .0))))
 
     calls-alike : (t : Tree) → EachToken TokenAlike (t .kids) → EachReachedCopy CopyAlike t → Every (calls pick a t)
     unfolding calls
@@ -184,20 +185,20 @@ module _ (a b : Text) (sameLength : length a ≡ length b) where
 
   module _ (config : FormatConfig) where
     step-state : (c : Call) → CallAlike c → (s : State) → (step config a c s) .0 ≡ (step config b c s) .0
-    unfolding step writeToken writeKeyword
-    step-state (apart x) w s = refl
-    step-state (on h (spacing x)) w s = refl
-    step-state (on h text) w s = refl
-    step-state (on h keyword) w s = refl
-    step-state (on h (sign x)) w s = refl
+    unfolding step writeToken context.writeKeyword
+    step-state (putSpacing x) w s = refl
+    step-state (actAt h (spacing x)) w s = refl
+    step-state (actAt h writeText) w s = refl
+    step-state (actAt h writeKeyword) w s = refl
+    step-state (actAt h (writeSign x)) w s = refl
     step-state (raw f e) w s = rw (span-same f e w)
 
     token-piece : (h : Head) → TokenAlike h → (s : State) → PieceLike ((writeToken config (spanCells a (h .start) (h .end)) s) .1) ((writeToken config (spanCells b (h .start) (h .end)) s) .1)
     unfolding writeToken
     token-piece h w s = record { leads = refl; bodies = span-like a b sameLength (h .start) (h .end); trims = w .trims }
 
-    keyword-piece : (h : Head) → TokenAlike h → (s : State) → PieceLike ((writeKeyword config (spanCells a (h .start) (h .end)) s) .1) ((writeKeyword config (spanCells b (h .start) (h .end)) s) .1)
-    unfolding writeKeyword writeToken
+    keyword-piece : (h : Head) → TokenAlike h → (s : State) → PieceLike ((context.writeKeyword config (spanCells a (h .start) (h .end)) s) .1) ((context.writeKeyword config (spanCells b (h .start) (h .end)) s) .1)
+    unfolding context.writeKeyword writeToken
     keyword-piece h w s =
         let u = config .«uppercase_keywords» in
         let k = keyword-like a b (spanCells a (h .start) (h .end)) (spanCells b (h .start) (h .end)) (span-like a b sameLength (h .start) (h .end)) config s in
@@ -209,11 +210,11 @@ module _ (a b : Text) (sameLength : length a ≡ length b) where
 
     step-piece : (c : Call) → CallAlike c → (s : State) → PieceLike ((step config a c s) .1) ((step config b c s) .1)
     unfolding step
-    step-piece (apart x) w s = same-piece _
-    step-piece (on h (spacing x)) w s = same-piece _
-    step-piece (on h text) w s = token-piece h w s
-    step-piece (on h keyword) w s = keyword-piece h w s
-    step-piece (on h (sign x)) w s = same-piece _
+    step-piece (putSpacing x) w s = same-piece _
+    step-piece (actAt h (spacing x)) w s = same-piece _
+    step-piece (actAt h writeText) w s = token-piece h w s
+    step-piece (actAt h writeKeyword) w s = keyword-piece h w s
+    step-piece (actAt h (writeSign x)) w s = same-piece _
     step-piece (raw f e) w s = rw (span-same f e w) (same-piece _)
 
     pieces-like : (cs : List Call) → Every cs → (s : State) → PiecesLike (pieces config a cs s) (pieces config b cs s)

@@ -1,4 +1,4 @@
--- Every byte of the layout with an origin is the text's byte there, save for the case of a letter. Assumes nothing.
+-- Every byte of the layout with an origin is the text's byte there, save for the case of a letter.
 use Prim.Native.Nat.{ℕ, zero, suc, _+_, _-_, _*_, _≤_, _<_}
 use native.Mathlib.Omega.{arith}
 use native.Mathlib.Nat.{add-zero}
@@ -12,15 +12,16 @@ use borrow.Author.Tests.{leb-true, le-leb, lt-leb}
 use Rattle.basics.specs.Case.{toUppercase, toLowercase}
 use Rattle.context.specs.Cells.{Text, Origin, made, from, Cell, fresh, fixed, toCase, tokenText, copiedFrom, spanCells, cellInCase, isWhiteSpace}
 use Rattle.context.specs.Trim.{trimCons, trim}
-use Rattle.context.specs.Context.{Step, newState, writeNewline, lead, writeToken, writeKeyword, writeRaw, takePendingNewline, takePendingBlankLine, writeSpace, endLine, cellIsWhiteSpace, finish}
+use Rattle.context.specs.Context.{Step, newState, writeNewline, lead, writeToken, writeRaw, takePendingNewline, takePendingBlankLine, writeSpace, endLine, cellIsWhiteSpace, finish}
+use Rattle.context.specs.Context as context
 use Rattle.context.specs.declared.FormatConfig.{FormatConfig}
 use Rattle.context.specs.declared.State.{State}
 use Rattle.tape.specs.Tree.{Tree}
 use Rattle.tape.specs.Tape.{Read, refused, got}
 use Rattle.tape.specs.Call.{readCall}
-use Rattle.layout.specs.Arms.{Spacing, newline, space, indent, dedent, note, blankLine, blankLineBeforeComment, lineOrSpace, spacing, text, keyword, sign}
-use Rattle.layout.specs.Calls.{Call, apart, on, raw, calls}
-use Rattle.layout.specs.Layout.{silent, newlineIf, doSpacing, step, pieces, written, original, piecesOf, format}
+use Rattle.layout.specs.Arms.{Spacing, newline, space, indent, dedent, note, blankLine, blankLineBeforeComment, lineOrSpace, spacing, writeText, writeKeyword, writeSign}
+use Rattle.layout.specs.Calls.{Call, putSpacing, actAt, raw, calls}
+use Rattle.layout.specs.Layout.{nothingWritten, newlineIf, doSpacing, step, pieces, written, original, piecesOf, format}
 use Rattle.layout.specs.Outcome.{ofRead, configOf, outcome}
 use Rattle.layout.specs.Origins.{ComesFrom, AllComeFrom}
 use Rattle.layout.specs.Masking.{fittedCells, cellsAfter}
@@ -143,7 +144,7 @@ module _ (t : Text) where
       good-newline-if (takePendingBlankLine s .0 && not (takePendingBlankLine s .1 .«at_line_start»)) (takePendingBlankLine s .1)
   good-spacing lineOrSpace s = go (takePendingNewline s .0) (takePendingNewline s .1)
     where
-      go : (b : Bool) (r : State) → Good (cond b (newlineIf (not (r .«at_line_start»)) r) (silent (writeSpace r)))
+      go : (b : Bool) (r : State) → Good (cond b (newlineIf (not (r .«at_line_start»)) r) (nothingWritten (writeSpace r)))
       go true r = good-newline-if (not (r .«at_line_start»)) r
       go false r = (tt, tt)
 
@@ -157,12 +158,12 @@ module _ (t : Text) where
       go false false = tt
 
   good-step : (config : FormatConfig) (c : Call) (s : State) → Good (step config t c s)
-  unfolding step writeToken writeKeyword writeRaw
-  good-step config (apart x) s = good-spacing x s
-  good-step config (on h (spacing x)) s = good-spacing x s
-  good-step config (on h text) s = (all-lead config s, all-span (h .start) (h .end))
-  good-step config (on h keyword) s = (all-lead config s, all-in-case (config .«uppercase_keywords») (spanCells t (h .start) (h .end)) (all-span (h .start) (h .end)))
-  good-step config (on h (sign x)) s = (all-lead config s, (tt, tt))
+  unfolding step writeToken context.writeKeyword writeRaw
+  good-step config (putSpacing x) s = good-spacing x s
+  good-step config (actAt h (spacing x)) s = good-spacing x s
+  good-step config (actAt h writeText) s = (all-lead config s, all-span (h .start) (h .end))
+  good-step config (actAt h writeKeyword) s = (all-lead config s, all-in-case (config .«uppercase_keywords») (spanCells t (h .start) (h .end)) (all-span (h .start) (h .end)))
+  good-step config (actAt h (writeSign x)) s = (all-lead config s, (tt, tt))
   good-step config (raw s e) x = (tt, all-span s e)
 
   all-written : (config : FormatConfig) (cs : List Call) (s : State) → All (written (pieces config t cs s))

@@ -1,5 +1,5 @@
 -- What calls come to, one after the other: the state after them, and all that they write laid over the output space; and the trimmed
--- layout with its newline. Assumes nothing.
+-- layout with its newline.
 use Prim.Native.Nat.{ℕ, zero, suc, _+_, _≤_}
 use native.Mathlib.Omega.{arith}
 use mathlib.Core.Path.{_≡_, refl, sym, ap, _∙_}
@@ -18,7 +18,7 @@ use Rattle.context.proofs.Trimming.{trim-length, trim-take, trimmed-le}
 use Rattle.context.proofs.Splicing.{splice-covers}
 use Rattle.context.proofs.Writes.{appended-twice, appended-none}
 use Rattle.layout.specs.Arms.{Spacing}
-use Rattle.layout.specs.Calls.{Call, apart}
+use Rattle.layout.specs.Calls.{Call, putSpacing}
 use Rattle.layout.specs.Layout.{step, pieces, written}
 use Rattle.layout.specs.Run.{runSpacing, run}
 
@@ -28,10 +28,10 @@ module _ (config : FormatConfig) (source : Text) where
   run-append (c ∷ x) y w = run-append x y _
 
   -- spacing around a child node reads neither the settings nor the text
-  pub run-apart : (xs : List Spacing) (w : Store) → run config source (map apart xs) w ≡ runSpacing xs w
+  pub run-spacing : (xs : List Spacing) (w : Store) → run config source (map putSpacing xs) w ≡ runSpacing xs w
   unfolding step
-  run-apart [] w = refl
-  run-apart (x ∷ xs) w = run-apart xs _
+  run-spacing [] w = refl
+  run-spacing (x ∷ xs) w = run-spacing xs _
 
   -- the state after calls
   unfoldable pub after : List Call → State → State

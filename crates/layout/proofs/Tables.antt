@@ -1,5 +1,5 @@
 -- The tables hold of the definition: the course sheet, the small inputs, and the pairs that show each condition of the
--- masking rule needed. One computed test over each. Assumes nothing.
+-- masking rule needed. One computed test over each.
 use mathlib.Core.Bool.{_&&_}
 use lib.Dec.{T}
 use Rattle.keywords.specs.Names.{names}
@@ -12,7 +12,7 @@ use Rattle.tape.specs.Kinds.{kinds, notCarried}
 use Rattle.tape.specs.Tree.{hasChild, countListItems, copied}
 use Rattle.tape.specs.Tape.{headAt, commandAt, checkOpen, checkToken, checkedAt, readChildren, readTree}
 use Rattle.tape.specs.Call.{firstNonAscii, readInput, readCall}
-use Rattle.tape.specs.SmallInputs.{smallInputs}
+use Rattle.tape.specs.ReadingInputs.{smallInputs}
 use Rattle.layout.specs.Arms.{seen}
 use Rattle.layout.specs.Tokens.{noSpaceBefore, noSpaceAfter, isLineComment, emitComment, emitToken, emitOther, isOperator}
 use Rattle.layout.specs.Routines.{fileToken, formatFile, queryListToken, formatQueryList, selectStatementToken, formatSelectStatement, selectClauseToken, formatSelectClause, simpleClauseToken, formatSimpleClause, multiItem, listClauseToken, listClauseNode, listClauseArms, formatListClause, joinClauseToken, formatJoinClause, formatSettingsClause, formatWithClause, commaListToken, formatCommaList, inlineCommaListToken, formatInlineCommaList, binaryToken, formatBinaryExpression, unaryToken, formatUnaryExpression, functionCallToken, formatFunctionCall, caseWord, caseToken, formatCaseExpression, whenWord, whenToken, formatWhenClause, subqueryToken, formatSubquery, parenListToken, formatParenList, bracketListToken, formatBracketList, braceListToken, formatBraceList, dataTypeToken, formatDataType, spaceAfter, inlineNode, nameBefore, inlineTightParensToken, formatInlineTightParens, inlineToken, formatInline, formatInlineNoSpaces, passthroughToken, formatPassthrough, alterCommandListToken, formatAlterCommandList, unionToken, formatUnionClause}
@@ -21,7 +21,7 @@ use Rattle.layout.specs.Calls.{formatErrorVerbatim, walk, calls}
 use Rattle.layout.specs.Layout.{doSpacing, step, pieces, written, original, piecesOf, format}
 use Rattle.layout.specs.Outcome.{outcome, measured, laidOut}
 use Rattle.layout.specs.CourseSheet.{courseSheet, allRight}
-use Rattle.layout.specs.SmallInputs.{allBothAnswer, allAnswered, smallLayouts}
+use Rattle.layout.specs.CallInputs.{allBothAnswer, allAnswered, smallLayouts}
 use Rattle.layout.specs.MaskingNeeds.{pairs, allNeeded, masked, meets, maskedForLayout, meetsForLayout, maskedLayouts}
 
 pub record Tables : Type 0 where

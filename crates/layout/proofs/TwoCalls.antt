@@ -8,7 +8,7 @@ use lib.Dec.{leb, eqb}
 use Rattle.context.specs.Cells.{Text, Origin, made, from, Cell, bytesOf, fixed}
 use Rattle.context.specs.Alike.{LinesAgree, Like}
 use Rattle.context.proofs.Bytes.{bytes-append, bytes-fixed}
-use Rattle.context.proofs.Masking.{like-self, like-append, like-length}
+use Rattle.context.proofs.AlikeWrites.{like-self, like-append, like-length}
 use Rattle.tape.specs.Tree.{Tree}
 use Rattle.tape.specs.Tape.{Read, refused, got, verdict}
 use Rattle.tape.specs.Call.{readCall}

@@ -1,5 +1,5 @@
 -- What a routine of format_node.rs may see and do. A routine sees a token through `Seen` alone, so it cannot read what is quoted;
--- what it does is a list of acts, and none of them names a place of the text. Assumes nothing.
+-- what it does is a list of acts, and none of them names a place of the text.
 use Prim.Native.Nat.{ℕ}
 use mathlib.Core.Bool.{Bool, cond, _||_}
 use mathlib.Core.List.{List, []}
@@ -24,8 +24,8 @@ pub data Spacing : Type 0 where
 -- what is done at a token: a spacing; write_token of its text; write_keyword of its text; write_token of one fixed byte
 pub data Act : Type 0 where
   spacing : Spacing → Act
-  text keyword : Act
-  sign : ℕ → Act
+  writeText writeKeyword : Act
+  writeSign : ℕ → Act
 
 -- what a routine sees of a token: its kind, and its text if it is white space, a comment or a bare word
 pub record Seen : Type 0 where

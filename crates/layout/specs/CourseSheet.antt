@@ -1,4 +1,4 @@
--- Document 01's course sheet, A to L, as one table of calls: width, case, text, tree, and the text that is laid out. Assumes nothing.
+-- Document 01's course sheet, A to L, as one table of calls: width, case, text, tree, and the text that is laid out.
 use Prim.Native.Nat.{ℕ, zero, suc, _/_, _%_}
 use Prim.Native.String.{String}
 use mathlib.Core.Bool.{Bool, true, false, _&&_}

@@ -1,5 +1,5 @@
 -- The match of format_node: the routine of each kind, in the source's order, and the arms of each routine. The kinds that are not
--- carried are left out, and an Error node never comes here. Assumes nothing.
+-- carried are left out, and an Error node never comes here.
 use Prim.Native.Nat.{ℕ}
 use mathlib.Core.List.{List, [], _∷_}
 use Rattle.basics.specs.Match.{match}

@@ -1,31 +1,31 @@
--- What the calls write, and the layout as a whole: `format` of mod.rs. Assumes nothing.
+-- What the calls write, and the layout as a whole: `format` of mod.rs.
 use Prim.Native.Nat.{ℕ}
 use mathlib.Core.Bool.{Bool, cond, not, _&&_}
 use mathlib.Core.List.{List, [], _∷_, _++_}
 use Rattle.context.specs.Cells.{Text, Cell, fresh, spanCells}
-use Rattle.context.specs.Context.{Piece, Step, newState, writeNewline, writeToken, writeKeyword, writeSpace, noteSkippedWhitespace, takePendingNewline, takePendingBlankLine, writeRaw, finish}
+use Rattle.context.specs.Context.{Piece, Step, newState, writeNewline, writeToken, writeSpace, noteSkippedWhitespace, takePendingNewline, takePendingBlankLine, writeRaw, finish}
 use Rattle.context.specs.Context as context
 use Rattle.context.specs.declared.FormatConfig.{FormatConfig}
 use Rattle.context.specs.declared.State.{State}
 use Rattle.tape.specs.Tree.{Children, Tree}
-use Rattle.layout.specs.Arms.{Spacing, newline, space, indent, dedent, note, blankLine, blankLineBeforeComment, lineOrSpace, spacing, text, keyword, sign, Arms}
+use Rattle.layout.specs.Arms.{Spacing, newline, space, indent, dedent, note, blankLine, blankLineBeforeComment, lineOrSpace, spacing, writeText, writeKeyword, writeSign, Arms}
 use Rattle.layout.specs.FormatNode.{formatNode}
-use Rattle.layout.specs.Calls.{Call, apart, on, raw, calls}
+use Rattle.layout.specs.Calls.{Call, putSpacing, actAt, raw, calls}
 
 -- a state, and nothing written
-abbrev pub silent : State → Step
-silent s = (s, record { lead = []; body = [] })
+abbrev pub nothingWritten : State → Step
+nothingWritten s = (s, record { lead = []; body = [] })
 
 -- a newline where b holds
 abbrev pub newlineIf : Bool → State → Step
-newlineIf b s = cond b (writeNewline s) (silent s)
+newlineIf b s = cond b (writeNewline s) (nothingWritten s)
 
 unfoldable pub doSpacing : Spacing → State → Step
 doSpacing newline s = writeNewline s
-doSpacing space s = silent (writeSpace s)
-doSpacing indent s = silent (context.indent s)
-doSpacing dedent s = silent (context.dedent s)
-doSpacing (note b) s = silent (noteSkippedWhitespace b s)
+doSpacing space s = nothingWritten (writeSpace s)
+doSpacing indent s = nothingWritten (context.indent s)
+doSpacing dedent s = nothingWritten (context.dedent s)
+doSpacing (note b) s = nothingWritten (noteSkippedWhitespace b s)
 doSpacing blankLine s =
     let taken = takePendingBlankLine s in
     newlineIf (taken .0) (taken .1)
@@ -34,15 +34,15 @@ doSpacing blankLineBeforeComment s =
     newlineIf (taken .0 && not (taken .1 .«at_line_start»)) (taken .1)
 doSpacing lineOrSpace s =
     let taken = takePendingNewline s in
-    cond (taken .0) (newlineIf (not (taken .1 .«at_line_start»)) (taken .1)) (silent (writeSpace (taken .1)))
+    cond (taken .0) (newlineIf (not (taken .1 .«at_line_start»)) (taken .1)) (nothingWritten (writeSpace (taken .1)))
 
 -- one call: the next state, and what is written
 unfoldable pub step : FormatConfig → Text → Call → State → Step
-step config source (apart x) s = doSpacing x s
-step config source (on h (spacing x)) s = doSpacing x s
-step config source (on h text) s = writeToken config (spanCells source (h .start) (h .end)) s
-step config source (on h keyword) s = writeKeyword config (spanCells source (h .start) (h .end)) s
-step config source (on h (sign b)) s = writeToken config (fresh b ∷ []) s
+step config source (putSpacing x) s = doSpacing x s
+step config source (actAt h (spacing x)) s = doSpacing x s
+step config source (actAt h writeText) s = writeToken config (spanCells source (h .start) (h .end)) s
+step config source (actAt h writeKeyword) s = context.writeKeyword config (spanCells source (h .start) (h .end)) s
+step config source (actAt h (writeSign b)) s = writeToken config (fresh b ∷ []) s
 step config source (raw start end) s = writeRaw (spanCells source start end) s
 
 unfoldable pub pieces : FormatConfig → Text → List Call → State → List Piece

@@ -8,7 +8,7 @@ pub mod Layout
 pub mod Run
 pub mod Outcome
 pub mod CourseSheet
-pub mod SmallInputs
+pub mod CallInputs
 pub mod Origins
 pub mod Masking
 pub mod MaskingTests

@@ -1,4 +1,4 @@
--- Document 01: a byte with an origin equals the text's byte there, save for the case of a letter. Assumes nothing.
+-- Document 01: a byte with an origin equals the text's byte there, save for the case of a letter.
 use mathlib.Core.Path.{_≡_}
 use mathlib.Core.List.{List, [], _∷_}
 use lib.ListN.{getD}

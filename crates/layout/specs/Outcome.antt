@@ -1,4 +1,4 @@
--- The two calls: what they answer, and what the output space holds afterwards. Assumes nothing.
+-- The two calls: what they answer, and what the output space holds afterwards.
 use Prim.Native.Nat.{ℕ}
 use mathlib.Core.Bool.{Bool, true, false}
 use mathlib.Core.List.{List, _++_}

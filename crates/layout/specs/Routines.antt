@@ -1,4 +1,4 @@
--- The routines of format_node.rs, each under its name and with its arms in the order there. Assumes nothing.
+-- The routines of format_node.rs, each under its name and with its arms in the order there.
 use Prim.Native.Nat.{ℕ}
 use mathlib.Core.Bool.{Bool, true, false, cond, not, _&&_}
 use mathlib.Core.List.{List, [], _∷_, _++_}
@@ -10,7 +10,7 @@ use Rattle.tape.specs.Tree.{Children, hasChild, countListItems}
 use Rattle.layout.specs.declared.PrevKind.{PrevKind}
 use Rattle.layout.specs.declared.PrevKind.the-variants.{Nothing, Kind}
 use Rattle.layout.specs.declared.Local.{Local}
-use Rattle.layout.specs.Arms.{Spacing, newline, space, indent, dedent, blankLine, blankLineBeforeComment, Act, spacing, text, keyword, sign, Seen, Arms}
+use Rattle.layout.specs.Arms.{Spacing, newline, space, indent, dedent, blankLine, blankLineBeforeComment, Act, spacing, writeText, writeKeyword, writeSign, Seen, Arms}
 use Rattle.layout.specs.Tokens.{noSpaceBefore, noSpaceAfter, noteSkippedWhitespace, emitComment, emitToken, emitOther, isOperator}
 
 -- ── what several routines share
@@ -23,8 +23,8 @@ abbrev pub after : ℕ → Local
 after k = record { flag = false; prev = Kind k }
 
 -- acts that leave the local variables as they are
-abbrev pub keeping : (Seen → List Act) → Local → Seen → Local × List Act
-keeping f l t = (l, f t)
+abbrev pub localUnchanged : (Seen → List Act) → Local → Seen → Local × List Act
+localUnchanged f l t = (l, f t)
 
 -- the arms of white space and of comments, before the others
 abbrev pub withComments : Seen → List (ℕ × List Act) → List (ℕ × List Act)
@@ -51,11 +51,11 @@ noEnd l = []
 
 -- write_keyword, write_space
 abbrev pub keywordSpace : List Act
-keywordSpace = keyword ∷ spacing space ∷ []
+keywordSpace = writeKeyword ∷ spacing space ∷ []
 
 -- a routine without local variables that does nothing around its child nodes
-abbrev pub simply : (Seen → List Act) → Arms
-simply f = record { begin = flagged false; atToken = keeping f; atNode = plainNode; atEnd = noEnd }
+abbrev pub tokensOnly : (Seen → List Act) → Arms
+tokensOnly f = record { begin = flagged false; atToken = localUnchanged f; atNode = plainNode; atEnd = noEnd }
 
 -- ── format_file: the flag is had_statement (its test for Error nodes is `copied`)
 
@@ -64,7 +64,7 @@ fileToken t =
     match (t .kind)
     ((Kinds.Whitespace, noteSkippedWhitespace (t .bytes))
     ∷ (Kinds.Comment, spacing blankLineBeforeComment ∷ emitComment (t .bytes))
-    ∷ (Kinds.Semicolon, sign 59 ∷ [])
+    ∷ (Kinds.Semicolon, writeSign 59 ∷ [])
     ∷ [])
     (emitToken t)
 
@@ -72,7 +72,7 @@ unfoldable pub formatFile : Arms
 formatFile =
     record {
       begin = flagged false;
-      atToken = keeping fileToken;
+      atToken = localUnchanged fileToken;
       atNode = λ l k n. (flagged true, cond (l .flag) (newline ∷ newline ∷ []) (blankLine ∷ []), []);
       atEnd = noEnd;
     }
@@ -82,14 +82,14 @@ formatFile =
 unfoldable pub queryListToken : Seen → List Act
 queryListToken t =
     match (t .kind)
-    ((Kinds.Whitespace, noteSkippedWhitespace (t .bytes)) ∷ (Kinds.Semicolon, sign 59 ∷ []) ∷ (Kinds.Comment, emitComment (t .bytes)) ∷ [])
+    ((Kinds.Whitespace, noteSkippedWhitespace (t .bytes)) ∷ (Kinds.Semicolon, writeSign 59 ∷ []) ∷ (Kinds.Comment, emitComment (t .bytes)) ∷ [])
     (emitToken t)
 
 unfoldable pub formatQueryList : Arms
 formatQueryList =
     record {
       begin = flagged true;
-      atToken = keeping queryListToken;
+      atToken = localUnchanged queryListToken;
       atNode = λ l k n. (flagged false, cond (not (l .flag)) (newline ∷ newline ∷ []) [], []);
       atEnd = noEnd;
     }
@@ -103,7 +103,7 @@ unfoldable pub formatSelectStatement : Arms
 formatSelectStatement =
     record {
       begin = flagged true;
-      atToken = keeping selectStatementToken;
+      atToken = localUnchanged selectStatementToken;
       atNode = λ l k n. (flagged false, cond (not (l .flag)) (newline ∷ []) [], []);
       atEnd = noEnd;
     }
@@ -117,7 +117,7 @@ unfoldable pub formatSelectClause : Arms
 formatSelectClause =
     record {
       begin = flagged false;
-      atToken = keeping selectClauseToken;
+      atToken = localUnchanged selectClauseToken;
       atNode = λ l k n. match k ((Kinds.ColumnList, (l, newline ∷ indent ∷ [], dedent ∷ [])) ∷ []) (l, [], []);
       atEnd = noEnd;
     }
@@ -148,7 +148,7 @@ unfoldable pub listClauseToken : Bool → Seen → List Act
 listClauseToken multi t =
     match (t .kind)
     (withComments t
-    ((Kinds.BareWord, keywordSpace) ∷ (Kinds.Comma, sign 44 ∷ spacing (cond multi newline space) ∷ []) ∷ []))
+    ((Kinds.BareWord, keywordSpace) ∷ (Kinds.Comma, writeSign 44 ∷ spacing (cond multi newline space) ∷ []) ∷ []))
     (emitToken t)
 
 unfoldable pub listClauseNode : ℕ → Bool → Local → ℕ → ℕ → Local × List Spacing × List Spacing
@@ -161,7 +161,7 @@ unfoldable pub listClauseArms : ℕ → Bool → Arms
 listClauseArms list multi =
     record {
       begin = flagged false;
-      atToken = keeping (listClauseToken multi);
+      atToken = localUnchanged (listClauseToken multi);
       atNode = listClauseNode list multi;
       atEnd = λ l. cond (l .flag && multi) (dedent ∷ []) [];
     }
@@ -174,7 +174,7 @@ formatListClause list kids = listClauseArms list (multiItem list kids)
 unfoldable pub joinClauseToken : Local → Seen → Local × List Act
 joinClauseToken l t =
     orElse l t
-    (match (t .kind) ((Kinds.BareWord, (flagged true, spaced (l .flag) (keyword ∷ []))) ∷ [])
+    (match (t .kind) ((Kinds.BareWord, (flagged true, spaced (l .flag) (writeKeyword ∷ []))) ∷ [])
     (flagged (not (noSpaceAfter (t .kind))), spaced (l .flag && not (noSpaceBefore (t .kind))) (emitToken t)))
 
 unfoldable pub formatJoinClause : Arms
@@ -192,7 +192,7 @@ unfoldable pub formatSettingsClause : Arms
 formatSettingsClause =
     record {
       begin = flagged false;
-      atToken = keeping selectClauseToken;
+      atToken = localUnchanged selectClauseToken;
       atNode = λ l k n. match k ((Kinds.SettingList, (l, newline ∷ indent ∷ [], dedent ∷ [])) ∷ []) (l, space ∷ [], []);
       atEnd = noEnd;
     }
@@ -203,7 +203,7 @@ unfoldable pub formatWithClause : Arms
 formatWithClause =
     record {
       begin = flagged false;
-      atToken = keeping selectClauseToken;
+      atToken = localUnchanged selectClauseToken;
       atNode = λ l k n. (l, newline ∷ indent ∷ [], dedent ∷ []);
       atEnd = noEnd;
     }
@@ -212,7 +212,7 @@ formatWithClause =
 
 unfoldable pub commaListToken : Local → Seen → Local × List Act
 commaListToken l t =
-    orElse l t (match (t .kind) ((Kinds.Comma, (flagged true, sign 44 ∷ spacing newline ∷ [])) ∷ []) (l, emitToken t))
+    orElse l t (match (t .kind) ((Kinds.Comma, (flagged true, writeSign 44 ∷ spacing newline ∷ [])) ∷ []) (l, emitToken t))
 
 unfoldable pub formatCommaList : Arms
 formatCommaList =
@@ -226,29 +226,29 @@ formatCommaList =
 -- ── format_inline_comma_list
 
 unfoldable pub inlineCommaListToken : Seen → List Act
-inlineCommaListToken t = match (t .kind) (withComments t ((Kinds.Comma, sign 44 ∷ spacing space ∷ []) ∷ [])) (emitToken t)
+inlineCommaListToken t = match (t .kind) (withComments t ((Kinds.Comma, writeSign 44 ∷ spacing space ∷ []) ∷ [])) (emitToken t)
 
 unfoldable pub formatInlineCommaList : Arms
-formatInlineCommaList = simply inlineCommaListToken
+formatInlineCommaList = tokensOnly inlineCommaListToken
 
 -- ── format_binary_expression
 
 unfoldable pub binaryToken : Seen → List Act
 binaryToken t =
     match (t .kind) (withComments t ((Kinds.BareWord, spacing space ∷ keywordSpace) ∷ []))
-    (cond (isOperator (t .kind)) (spacing space ∷ text ∷ spacing space ∷ []) (emitToken t))
+    (cond (isOperator (t .kind)) (spacing space ∷ writeText ∷ spacing space ∷ []) (emitToken t))
 
 unfoldable pub formatBinaryExpression : Arms
-formatBinaryExpression = simply binaryToken
+formatBinaryExpression = tokensOnly binaryToken
 
 -- ── format_unary_expression
 
 unfoldable pub unaryToken : Seen → List Act
 unaryToken t =
-    match (t .kind) (withComments t ((Kinds.BareWord, keywordSpace) ∷ (Kinds.Minus, sign 45 ∷ []) ∷ [])) (emitToken t)
+    match (t .kind) (withComments t ((Kinds.BareWord, keywordSpace) ∷ (Kinds.Minus, writeSign 45 ∷ []) ∷ [])) (emitToken t)
 
 unfoldable pub formatUnaryExpression : Arms
-formatUnaryExpression = simply unaryToken
+formatUnaryExpression = tokensOnly unaryToken
 
 -- ── format_function_call
 
@@ -256,22 +256,22 @@ unfoldable pub functionCallToken : Seen → List Act
 functionCallToken t =
     match (t .kind)
     (withComments t
-    ((Kinds.OpeningRoundBracket, sign 40 ∷ [])
-    ∷ (Kinds.ClosingRoundBracket, sign 41 ∷ [])
-    ∷ (Kinds.BareWord, text ∷ [])
+    ((Kinds.OpeningRoundBracket, writeSign 40 ∷ [])
+    ∷ (Kinds.ClosingRoundBracket, writeSign 41 ∷ [])
+    ∷ (Kinds.BareWord, writeText ∷ [])
     ∷ []))
     (emitToken t)
 
 unfoldable pub formatFunctionCall : Arms
-formatFunctionCall = simply functionCallToken
+formatFunctionCall = tokensOnly functionCallToken
 
 -- ── format_case_expression
 
 unfoldable pub caseWord : List ℕ → List Act
 caseWord b =
-    cond (isWord "CASE" b) (keyword ∷ spacing indent ∷ [])
+    cond (isWord "CASE" b) (writeKeyword ∷ spacing indent ∷ [])
     (cond (isWord "ELSE" b) (spacing newline ∷ keywordSpace)
-    (cond (isWord "END" b) (spacing dedent ∷ spacing newline ∷ keyword ∷ []) (spacing space ∷ keyword ∷ [])))
+    (cond (isWord "END" b) (spacing dedent ∷ spacing newline ∷ writeKeyword ∷ []) (spacing space ∷ writeKeyword ∷ [])))
 
 unfoldable pub caseToken : Seen → List Act
 caseToken t = match (t .kind) (withComments t ((Kinds.BareWord, caseWord (t .bytes)) ∷ [])) (emitToken t)
@@ -280,7 +280,7 @@ unfoldable pub formatCaseExpression : Arms
 formatCaseExpression =
     record {
       begin = flagged false;
-      atToken = keeping caseToken;
+      atToken = localUnchanged caseToken;
       atNode = λ l k n. match k ((Kinds.WhenClause, (l, newline ∷ [], [])) ∷ []) (l, [], []);
       atEnd = noEnd;
     }
@@ -294,7 +294,7 @@ unfoldable pub whenToken : Seen → List Act
 whenToken t = match (t .kind) (withComments t ((Kinds.BareWord, whenWord (t .bytes)) ∷ [])) (emitToken t)
 
 unfoldable pub formatWhenClause : Arms
-formatWhenClause = simply whenToken
+formatWhenClause = tokensOnly whenToken
 
 -- ── format_subquery
 
@@ -302,13 +302,13 @@ unfoldable pub subqueryToken : Seen → List Act
 subqueryToken t =
     match (t .kind)
     (withComments t
-    ((Kinds.OpeningRoundBracket, sign 40 ∷ spacing newline ∷ spacing indent ∷ [])
-    ∷ (Kinds.ClosingRoundBracket, spacing dedent ∷ spacing newline ∷ sign 41 ∷ [])
+    ((Kinds.OpeningRoundBracket, writeSign 40 ∷ spacing newline ∷ spacing indent ∷ [])
+    ∷ (Kinds.ClosingRoundBracket, spacing dedent ∷ spacing newline ∷ writeSign 41 ∷ [])
     ∷ []))
     (emitToken t)
 
 unfoldable pub formatSubquery : Arms
-formatSubquery = simply subqueryToken
+formatSubquery = tokensOnly subqueryToken
 
 -- ── format_paren_list, format_bracket_list, format_brace_list: they have no comment arm
 
@@ -316,41 +316,41 @@ unfoldable pub parenListToken : Seen → List Act
 parenListToken t =
     match (t .kind)
     ((Kinds.Whitespace, noteSkippedWhitespace (t .bytes))
-    ∷ (Kinds.Comma, sign 44 ∷ spacing space ∷ [])
-    ∷ (Kinds.OpeningRoundBracket, sign 40 ∷ [])
-    ∷ (Kinds.ClosingRoundBracket, sign 41 ∷ [])
+    ∷ (Kinds.Comma, writeSign 44 ∷ spacing space ∷ [])
+    ∷ (Kinds.OpeningRoundBracket, writeSign 40 ∷ [])
+    ∷ (Kinds.ClosingRoundBracket, writeSign 41 ∷ [])
     ∷ [])
     (emitToken t)
 
 unfoldable pub formatParenList : Arms
-formatParenList = simply parenListToken
+formatParenList = tokensOnly parenListToken
 
 unfoldable pub bracketListToken : Seen → List Act
 bracketListToken t =
     match (t .kind)
     ((Kinds.Whitespace, noteSkippedWhitespace (t .bytes))
-    ∷ (Kinds.Comma, sign 44 ∷ spacing space ∷ [])
-    ∷ (Kinds.OpeningSquareBracket, sign 91 ∷ [])
-    ∷ (Kinds.ClosingSquareBracket, sign 93 ∷ [])
+    ∷ (Kinds.Comma, writeSign 44 ∷ spacing space ∷ [])
+    ∷ (Kinds.OpeningSquareBracket, writeSign 91 ∷ [])
+    ∷ (Kinds.ClosingSquareBracket, writeSign 93 ∷ [])
     ∷ [])
     (emitToken t)
 
 unfoldable pub formatBracketList : Arms
-formatBracketList = simply bracketListToken
+formatBracketList = tokensOnly bracketListToken
 
 unfoldable pub braceListToken : Seen → List Act
 braceListToken t =
     match (t .kind)
     ((Kinds.Whitespace, noteSkippedWhitespace (t .bytes))
-    ∷ (Kinds.Comma, sign 44 ∷ spacing space ∷ [])
-    ∷ (Kinds.Colon, sign 58 ∷ spacing space ∷ [])
-    ∷ (Kinds.OpeningCurlyBrace, sign 123 ∷ [])
-    ∷ (Kinds.ClosingCurlyBrace, sign 125 ∷ [])
+    ∷ (Kinds.Comma, writeSign 44 ∷ spacing space ∷ [])
+    ∷ (Kinds.Colon, writeSign 58 ∷ spacing space ∷ [])
+    ∷ (Kinds.OpeningCurlyBrace, writeSign 123 ∷ [])
+    ∷ (Kinds.ClosingCurlyBrace, writeSign 125 ∷ [])
     ∷ [])
     (emitToken t)
 
 unfoldable pub formatBraceList : Arms
-formatBraceList = simply braceListToken
+formatBraceList = tokensOnly braceListToken
 
 -- ── format_data_type
 
@@ -358,15 +358,15 @@ unfoldable pub dataTypeToken : Seen → List Act
 dataTypeToken t =
     match (t .kind)
     ((Kinds.Whitespace, noteSkippedWhitespace (t .bytes))
-    ∷ (Kinds.Comma, sign 44 ∷ spacing space ∷ [])
-    ∷ (Kinds.OpeningRoundBracket, sign 40 ∷ [])
-    ∷ (Kinds.ClosingRoundBracket, sign 41 ∷ [])
+    ∷ (Kinds.Comma, writeSign 44 ∷ spacing space ∷ [])
+    ∷ (Kinds.OpeningRoundBracket, writeSign 40 ∷ [])
+    ∷ (Kinds.ClosingRoundBracket, writeSign 41 ∷ [])
     ∷ (Kinds.Comment, emitComment (t .bytes))
     ∷ [])
-    (text ∷ [])
+    (writeText ∷ [])
 
 unfoldable pub formatDataType : Arms
-formatDataType = simply dataTypeToken
+formatDataType = tokensOnly dataTypeToken
 
 -- ── format_inline_tight_parens, format_inline: prev is prev_kind
 
@@ -402,7 +402,7 @@ formatInline = record { begin = flagged false; atToken = inlineToken; atNode = i
 -- ── format_inline_no_spaces
 
 unfoldable pub formatInlineNoSpaces : Arms
-formatInlineNoSpaces = simply emitOther
+formatInlineNoSpaces = tokensOnly emitOther
 
 -- ── format_passthrough
 
@@ -413,18 +413,18 @@ passthroughToken t =
     (emitToken t)
 
 unfoldable pub formatPassthrough : Arms
-formatPassthrough = simply passthroughToken
+formatPassthrough = tokensOnly passthroughToken
 
 -- ── format_alter_command_list: it has no comment arm
 
 unfoldable pub alterCommandListToken : Seen → List Act
 alterCommandListToken t =
     match (t .kind)
-    ((Kinds.Whitespace, noteSkippedWhitespace (t .bytes)) ∷ (Kinds.Comma, sign 44 ∷ spacing newline ∷ []) ∷ [])
+    ((Kinds.Whitespace, noteSkippedWhitespace (t .bytes)) ∷ (Kinds.Comma, writeSign 44 ∷ spacing newline ∷ []) ∷ [])
     (emitToken t)
 
 unfoldable pub formatAlterCommandList : Arms
-formatAlterCommandList = simply alterCommandListToken
+formatAlterCommandList = tokensOnly alterCommandListToken
 
 -- ── format_union_clause: it has no comment arm; the flag is after_first_select
 
@@ -433,7 +433,7 @@ unionToken l t = (
   l,
   match (t .kind)
       ((Kinds.Whitespace, noteSkippedWhitespace (t .bytes))
-      ∷ (Kinds.BareWord, cond (l .flag) (spacing space ∷ keyword ∷ []) keywordSpace)
+      ∷ (Kinds.BareWord, cond (l .flag) (spacing space ∷ writeKeyword ∷ []) keywordSpace)
       ∷ [])
       (emitToken t),
 )

@@ -1,4 +1,4 @@
--- The calls as the code makes them: each takes the context and the lent output space to the next. Assumes nothing.
+-- The calls as the code makes them: each takes the context and the lent output space to the next.
 use mathlib.Core.List.{List, [], _∷_}
 use Rattle.context.specs.Cells.{Text}
 use Rattle.context.specs.Store.{Store, stored}

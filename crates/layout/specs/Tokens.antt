@@ -1,4 +1,4 @@
--- The token helpers of format_node.rs: which tokens take a blank, and what emit_token and emit_comment do. Assumes nothing.
+-- The token helpers of format_node.rs: which tokens take a blank, and what emit_token and emit_comment do.
 use Prim.Native.Nat.{ℕ}
 use mathlib.Core.Bool.{Bool, false, cond, not, _&&_}
 use mathlib.Core.List.{List, [], _∷_}
@@ -6,7 +6,7 @@ use lib.Dec.{eqb}
 use Rattle.basics.specs.Match.{among, match}
 use Rattle.keywords.specs.Words.{isKeyword, isValueKeyword}
 use Rattle.tape.specs.Kinds
-use Rattle.layout.specs.Arms.{Act, spacing, text, keyword, newline, note, lineOrSpace, Seen}
+use Rattle.layout.specs.Arms.{Act, spacing, writeText, writeKeyword, newline, note, lineOrSpace, Seen}
 
 -- ── no_space_before
 
@@ -50,7 +50,7 @@ isLineComment (x ∷ []) = false
 isLineComment (x ∷ y ∷ b) = eqb x 45 && eqb y 45
 
 unfoldable pub emitComment : List ℕ → List Act
-emitComment b = spacing lineOrSpace ∷ text ∷ cond (isLineComment b) (spacing newline ∷ []) []
+emitComment b = spacing lineOrSpace ∷ writeText ∷ cond (isLineComment b) (spacing newline ∷ []) []
 
 -- ── emit_token
 
@@ -59,7 +59,7 @@ abbrev pub isCased : Seen → Bool
 isCased t = eqb (t .kind) Kinds.BareWord && (isKeyword (t .bytes) && not (isValueKeyword (t .bytes)))
 
 unfoldable pub emitToken : Seen → List Act
-emitToken t = cond (eqb (t .kind) Kinds.Whitespace) [] (cond (isCased t) (keyword ∷ []) (text ∷ []))
+emitToken t = cond (eqb (t .kind) Kinds.Whitespace) [] (cond (isCased t) (writeKeyword ∷ []) (writeText ∷ []))
 
 -- ── the arms that most routines share
 

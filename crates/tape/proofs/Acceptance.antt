@@ -1,5 +1,4 @@
 -- What an accepted tape, and an accepted call, give to those that walk the tape.
--- Assumes nothing.
 use Prim.Native.Nat.{ℕ, _+_, _≤_}
 use native.Mathlib.Omega.{arith}
 use mathlib.Core.Path.{_≡_, refl, sym, ap, _∙_}
@@ -18,9 +17,9 @@ use Rattle.tape.specs.declared.Place.the-variants.{Nowhere, At}
 use Rattle.tape.specs.Tree.{Children, Tree, height}
 use Rattle.tape.specs.Tape.{headAt, Command, ends, faulty, opens, isToken, closes, Read, refused, got, andThen, byRoot, byEnd, commandAt, checkedAt, readChildren, readTree, verdict}
 use Rattle.tape.specs.Call.{firstNonAscii, byPlace, readInput, readCall}
-use Rattle.tape.specs.Lies.{AcceptedTape, AcceptedCall, NodeAt}
+use Rattle.tape.specs.SpelledAt.{AcceptedTape, AcceptedCall, NodeAt}
 use Rattle.tape.proofs.Facts.{framed-of, known-of}
-use Rattle.tape.proofs.Trees.{lies-end}
+use Rattle.tape.proofs.Trees.{spelled-end}
 use Rattle.tape.proofs.Reading.{held}
 
 no-tree : {f : Fault} {p : ℕ} {e : Bool} → _≡_ {A = Checked} (Refused f p) (Accepted e) → ⊥
@@ -37,13 +36,13 @@ accepted-tape len tape {errors} v = top (checkedAt len tape 0 0) refl v
         → (x : Command) → commandAt tape p ≡ x → verdict (byEnd x (record { head = headAt tape 0; kids = kids }) p) ≡ Accepted errors → AcceptedTape len tape
     end kids p e r ends w u =
         let s = held len tape (length tape) 1 11 kids p r in
-        let out : p ≡ length tape = omega (arith, s .ends-at, lies-end len tape 11 kids (s .lies), framed-of tape p w) in
+        let out : p ≡ length tape = omega (arith, s .ends-at, spelled-end len tape 11 kids (s .spelled), framed-of tape p w) in
         let deep : 1 + height kids ≤ 64 = s .low (omega arith) in
         record {
           tree = record { head = headAt tape 0; kids = kids };
           read = rw (e, r, w, out);
           root = known-of len tape 0 0 e .0;
-          kids = s .lies;
+          kids = s .spelled;
           whole = sym (s .ends-at) ∙ out;
           depth = omega arith;
         }

@@ -1,5 +1,4 @@
 -- The two loops that look for a byte above 127, and what a text without one is.
--- Assumes nothing.
 use Prim.Native.Nat.{ℕ, zero, suc, _+_, _≤_, _<_}
 use native.Mathlib.Omega.{arith}
 use native.Mathlib.Numerals.{add-one}

@@ -1,5 +1,4 @@
 -- A tree without Error nodes: no node has one as direct child, and none is copied as typed.
--- Assumes nothing.
 use Prim.Native.Nat.{ℕ}
 use native.Mathlib.Omega.{arith}
 use mathlib.Core.Path.{_≡_, refl}

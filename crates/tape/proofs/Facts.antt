@@ -1,5 +1,4 @@
 -- What is known where a command is of one sort, and which sort it is by its bytes.
--- Assumes nothing.
 use Prim.Native.Nat.{ℕ, _+_, _≤_, _<_}
 use native.Mathlib.Omega.{arith}
 use mathlib.Core.Path.{_≡_, refl, ap, subst}
@@ -12,7 +11,7 @@ use Rattle.tape.specs.declared.Fault.the-variants.{UnknownCommand, CutCo
 use Rattle.tape.specs.declared.Finding.the-variants.{Sound, Faulty}
 use Rattle.tape.specs.Kinds.{notCarried}
 use Rattle.tape.specs.Tape.{headAt, Command, ends, faulty, opens, isToken, closes, commandAt, checkOpen, checkToken, byFinding, checked, checkedAt}
-use Rattle.tape.specs.Lies.{OpenAt, TokenAt, CloseAt}
+use Rattle.tape.specs.SpelledAt.{OpenAt, TokenAt, CloseAt}
 
 -- the command by its byte and by what is left of the tape
 module _ (tape : List ℕ) (p : ℕ) where

@@ -2,12 +2,12 @@
 pub mod Facts
 pub mod Trees
 pub mod Reading
-pub mod Turns
+pub mod CheckSteps
 pub mod Ascii
 pub mod Acceptance
 pub mod Errors
 pub mod Skips
-pub mod Looks
+pub mod Scans
 pub mod Order
 pub mod Samples
 pub mod Limits

@@ -1,5 +1,4 @@
 -- The kinds' numbers are their places in the source: 0, 1, .., 257.
--- Assumes nothing.
 use Prim.Native.Nat.{ℕ, suc}
 use mathlib.Core.Bool.{Bool, _&&_}
 use mathlib.Core.List.{List, [], _∷_}

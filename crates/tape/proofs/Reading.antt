@@ -1,5 +1,4 @@
 -- What readChildren reads lies on the tape, and its bound on the commands does not count where it is enough.
--- Assumes nothing.
 use Prim.Native.Nat.{ℕ, zero, suc, _+_, _-_, _≤_, _<_, max}
 use native.Mathlib.Omega.{arith}
 use native.Mathlib.Nat.{max-le}
@@ -10,7 +9,7 @@ use Rattle.tape.specs.declared.Fault.{Fault}
 use Rattle.tape.specs.declared.Fault.the-variants.{NotOneRoot}
 use Rattle.tape.specs.Tree.{Children, done, token, node, size, height}
 use Rattle.tape.specs.Tape.{headAt, Command, ends, faulty, opens, isToken, closes, Read, refused, got, andThen, byCommand, checkedAt, readChildren}
-use Rattle.tape.specs.Lies.{Lies}
+use Rattle.tape.specs.SpelledAt.{SpelledAt}
 use Rattle.tape.proofs.Facts.{at-end, known-of, checked-of}
 use Rattle.tape.proofs.Trees.{some-size}
 
@@ -18,7 +17,7 @@ module _ (len : ℕ) (tape : List ℕ) where
   -- the children c lie on the tape from p up to q, with depth nodes open
   pub record Held (depth p : ℕ) (c : Children) (q : ℕ) : Type 0 where
     pub ends-at : q ≡ p + size c
-    pub lies : Lies len tape p c
+    pub spelled : SpelledAt len tape p c
     pub low : depth ≤ 64 → depth + height c ≤ 64
 
   no-got : {f : Fault} {p q : ℕ} {c : Children} → _≡_ {A = Read Children} (refused f p) (got c q) → ⊥
@@ -36,21 +35,21 @@ module _ (len : ℕ) (tape : List ℕ) where
   same-end e = cc
 
   held-close : (depth p : ℕ) → checkedAt len tape depth p ≡ closes → Held depth p done (p + 1)
-  unfolding Lies size height
-  held-close depth p e = record { ends-at = refl; lies = known-of len tape depth p e; low = λ b. omega arith }
+  unfolding SpelledAt size height
+  held-close depth p e = record { ends-at = refl; spelled = known-of len tape depth p e; low = λ b. omega arith }
 
   held-token : (depth p q : ℕ) (c : Children) → checkedAt len tape depth p ≡ isToken → Held depth (p + 11) c q → Held depth p (token (headAt tape p) c) q
-  unfolding Lies size height
-  held-token depth p q c e s = record { ends-at = omega (arith, s .ends-at); lies = (known-of len tape depth p e, s .lies); low = s .low }
+  unfolding SpelledAt size height
+  held-token depth p q c e s = record { ends-at = omega (arith, s .ends-at); spelled = (known-of len tape depth p e, s .spelled); low = s .low }
 
   held-node : (depth p m q : ℕ) (c d : Children) → checkedAt len tape depth p ≡ opens → Held (suc depth) (p + 11) c m → Held depth m d q
       → Held depth p (node (headAt tape p) c d) q
-  unfolding Lies size height
+  unfolding SpelledAt size height
   held-node depth p m q c d e s t =
       let k = known-of len tape depth p e in
       record {
         ends-at = omega (arith, s .ends-at, t .ends-at);
-        lies = (k .0, s .lies, subst (λ x. Lies len tape x d) (s .ends-at) (t .lies));
+        spelled = (k .0, s .spelled, subst (λ x. SpelledAt len tape x d) (s .ends-at) (t .spelled));
         low =
             λ b.
             let u = s .low (omega (arith, k .1)) in

@@ -1,5 +1,4 @@
 -- A whole call: refusals 1 to 5 in their order, then those of the tape.
--- Assumes nothing.
 use Prim.Native.Nat.{ℕ, suc}
 use mathlib.Core.Bool.{cond}
 use mathlib.Core.List.{List, [], _∷_}

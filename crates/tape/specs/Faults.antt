@@ -1,5 +1,4 @@
 -- The refusals 1 to 12.
--- Assumes nothing.
 use Prim.Native.Nat.{ℕ}
 use Rattle.tape.specs.declared.Fault.{Fault}
 use Rattle.tape.specs.declared.Fault.the-variants.{IndentWidth, CaseByte, TextTooLong, NotAscii, TapeTooLong, UnknownCommand, CutCommand, UnknownKind, KindNotCarried, SpanOutside, TooDeep, NotOneRoot}

@@ -1,5 +1,4 @@
 -- The kinds of `SyntaxKind`. A kind's number is its place there, from 0; each name stands for its number.
--- Assumes nothing.
 use Prim.Native.Nat.{ℕ}
 use mathlib.Core.Bool.{Bool}
 use mathlib.Core.List.{List, [], _∷_}

@@ -4,5 +4,5 @@ pub mod Tree
 pub mod Faults
 pub mod Tape
 pub mod Call
-pub mod Lies
-pub mod SmallInputs
+pub mod SpelledAt
+pub mod ReadingInputs

@@ -1,5 +1,4 @@
 -- The tape: what each command is, which refusal it meets, and the tree that a tape holds. Of the text only its length counts.
--- Assumes nothing.
 use Prim.Native.Nat.{ℕ, zero, suc, _+_, _*_}
 use mathlib.Core.Bool.{cond, _&&_, _||_}
 use mathlib.Core.List.{List}

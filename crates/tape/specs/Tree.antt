@@ -1,5 +1,4 @@
 -- The syntax tree: the children of a node, first to last, and a root; what the routines look ahead for.
--- Assumes nothing.
 use Prim.Native.Nat.{ℕ, suc, _+_, max}
 use mathlib.Core.Bool.{Bool, false, not, _&&_, _||_}
 use lib.Dec.{eqb, ltb}

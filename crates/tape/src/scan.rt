@@ -2,7 +2,7 @@
 use crate::commands::u16_at;
 use crate::syntax_kind;
 ghost use Rattle.tape.specs.Tree.{hasChild, hasErrorChild, severalListItems};
-ghost use Rattle.tape.specs.Lies.{NodeAt, Skipped, Scanned};
+ghost use Rattle.tape.specs.SpelledAt.{NodeAt, Skipped, Scanned};
 
 // The place after the close of the node that opens at `at`.
 pub fn skip(tape: &[u8], at: usize) -> usize

@@ -1,4 +1,4 @@
--- What the routines' definitions come to in each arm, and spacing that may be none. Assumes nothing.
+-- What the routines' definitions come to in each arm, and spacing that may be none.
 use Prim.Native.Nat.{ℕ}
 use mathlib.Core.Path.{_≡_, refl, sym, ap, _∙_}
 use mathlib.Core.Bool.{Bool, true, false, cond, not, _||_, false≢true}
@@ -16,25 +16,25 @@ use Rattle.tape.specs.Kinds.{Whitespace, Comment, BareWord, SelectStatement, Un
 use Rattle.tape.specs.declared.Head.{Head}
 use Rattle.tape.specs.Tree.{Children, hasChild, countListItems, severalListItems}
 use Rattle.layout.specs.declared.Local.{Local}
-use Rattle.layout.specs.Arms.{Spacing, newline, space, indent, dedent, Act, spacing, text, keyword, Seen, seen}
+use Rattle.layout.specs.Arms.{Spacing, newline, space, indent, dedent, Act, spacing, writeText, writeKeyword, Seen, seen}
 use Rattle.layout.specs.Tokens.{noteSkippedWhitespace, emitComment, emitOther, emitToken, isOperator}
 use Rattle.layout.specs.Routines.{flagged, keywordSpace, spaceIf, spaced, orElse, binaryToken, listClauseNode, formatUnionClause, multiItem, caseWord, whenWord}
 use Rattle.tokens.specs.declared.Arm.{Arm}
-use Rattle.tokens.specs.Promise.{Silent, Spaced, Acted, TokenDone, TriviaDone, emitTrivia, isTrivia}
+use Rattle.tokens.specs.TokenPromises.{SpacedUnwritten, Spaced, Acted, TokenDone, TriviaDone, emitTrivia, isTrivia}
 use Rattle.tokens.proofs.Runs.{acted}
 
 -- ── spacing that writes no byte
 
 module _ {n : ℕ} {c r : FormatterContext} where
-  pub as-spaced : {x : List Spacing} {xs : List ℕ} → Silent n x c r → Spaced n x c xs r xs
+  pub as-spaced : {x : List Spacing} {xs : List ℕ} → SpacedUnwritten n x c r → Spaced n x c xs r xs
   as-spaced {xs = xs} d = record { did = d .did xs; spent = d .spent }
 
   -- the spacing is another name for the same
-  pub silently : {x : List Spacing} (y : List Spacing) → y ≡ x → Silent n x c r → Silent n y c r
-  silently y e d = rw e d
+  pub unwritten-as : {x : List Spacing} (y : List Spacing) → y ≡ x → SpacedUnwritten n x c r → SpacedUnwritten n y c r
+  unwritten-as y e d = rw e d
 
-pub no-silent : {c : FormatterContext} → Silent 0 [] c c
-no-silent = record { did = λ xs. refl; spent = spent-none }
+pub no-unwritten : {c : FormatterContext} → SpacedUnwritten 0 [] c c
+no-unwritten = record { did = λ xs. refl; spent = spent-none }
 
 -- ── arms
 
@@ -128,7 +128,7 @@ unfolding isOperator
 other-b = refl
 
 -- an operator is neither white space, nor a comment, nor a bare word
-pub operator-acts : (source : Text) (token : Head) → isOperator (token .kind) ≡ true → binaryToken (seen source token) ≡ spacing space ∷ text ∷ spacing space ∷ []
+pub operator-acts : (source : Text) (token : Head) → isOperator (token .kind) ≡ true → binaryToken (seen source token) ≡ spacing space ∷ writeText ∷ spacing space ∷ []
 unfolding binaryToken seen
 operator-acts source token e =
     let no : (x : ℕ) → isOperator x ≡ false → eqb (token .kind) x ≡ false = λ x f. ne-eqb (token .kind) x (λ q. false≢true (sym f ∙ ap isOperator (sym q) ∙ e)) in
@@ -151,15 +151,15 @@ union-local l k false e = rw e
 
 pub case-acts : (b : List ℕ) (p q r : Bool) → isWord "CASE" b ≡ p → isWord "ELSE" b ≡ q → isWord "END" b ≡ r
     → caseWord b
-    ≡ cond p (keyword ∷ spacing indent ∷ []) (cond q (spacing newline ∷ keywordSpace) (cond r (spacing dedent ∷ spacing newline ∷ keyword ∷ []) (spacing space ∷ keyword ∷ [])))
+    ≡ cond p (writeKeyword ∷ spacing indent ∷ []) (cond q (spacing newline ∷ keywordSpace) (cond r (spacing dedent ∷ spacing newline ∷ writeKeyword ∷ []) (spacing space ∷ writeKeyword ∷ [])))
 unfolding caseWord
 case-acts b p q r e f g =
-    ap (λ (t : Bool). cond t (keyword ∷ spacing indent ∷ []) (other (isWord "ELSE" b) (isWord "END" b))) e
-    ∙ ap (λ (t : Bool). cond p (keyword ∷ spacing indent ∷ []) (other t (isWord "END" b))) f
-    ∙ ap (λ (t : Bool). cond p (keyword ∷ spacing indent ∷ []) (other q t)) g
+    ap (λ (t : Bool). cond t (writeKeyword ∷ spacing indent ∷ []) (other (isWord "ELSE" b) (isWord "END" b))) e
+    ∙ ap (λ (t : Bool). cond p (writeKeyword ∷ spacing indent ∷ []) (other t (isWord "END" b))) f
+    ∙ ap (λ (t : Bool). cond p (writeKeyword ∷ spacing indent ∷ []) (other q t)) g
   where
     other : Bool → Bool → List Act
-    other s t = cond s (spacing newline ∷ keywordSpace) (cond t (spacing dedent ∷ spacing newline ∷ keyword ∷ []) (spacing space ∷ keyword ∷ []))
+    other s t = cond s (spacing newline ∷ keywordSpace) (cond t (spacing dedent ∷ spacing newline ∷ writeKeyword ∷ []) (spacing space ∷ writeKeyword ∷ []))
 
 pub when-acts : (b : List ℕ) (p q : Bool) → isWord "WHEN" b ≡ p → isWord "THEN" b ≡ q → whenWord b ≡ cond p keywordSpace (cond q (spacing space ∷ keywordSpace) keywordSpace)
 unfolding whenWord

@@ -1,4 +1,4 @@
--- Writes as calls: what a method of the context did is what a call does, and calls in a row. Assumes nothing.
+-- Writes as calls: what a method of the context did is what a call does, and calls in a row.
 use Prim.Native.Nat.{ℕ, _+_, _^_, _≤_, _<_}
 use native.Mathlib.Omega.{arith}
 use mathlib.Core.Path.{_≡_, refl, sym, ap, _∙_}
@@ -10,7 +10,8 @@ use borrow.Author.Tests.{eqb-true, ne-eqb, le-leb, lt-leb}
 use Rattle.keywords.specs.Words.{isKeyword, isValueKeyword}
 use Rattle.context.specs.Cells.{Text, Cell, fixed, fresh, bytesOf, tokenText, spanCells, cellInCase, isWhiteSpace}
 use Rattle.context.specs.Trim.{trimmedLength, trimmedAfter}
-use Rattle.context.specs.Context.{Step, afterWrite, lead, writeNewline, writeToken, writeKeyword, writeSpace, noteSkippedWhitespace, takePendingNewline, takePendingBlankLine, indent, dedent, writeRaw, cellIsWhiteSpace}
+use Rattle.context.specs.Context.{Step, afterWrite, lead, writeNewline, writeToken, writeSpace, noteSkippedWhitespace, takePendingNewline, takePendingBlankLine, indent, dedent, writeRaw, cellIsWhiteSpace}
+use Rattle.context.specs.Context as context
 use Rattle.context.specs.Store.{Store, advanced, appended, stored, withState, Wrote, Changed}
 use Rattle.context.specs.declared.FormatConfig.{FormatConfig}
 use Rattle.context.specs.declared.FormatterContext.{FormatterContext}
@@ -22,19 +23,19 @@ use Rattle.context.proofs.Writes.{appended-none, spent-none, spent-twice, store
 use Rattle.tape.specs.Kinds.{Whitespace, BareWord}
 use Rattle.tape.specs.declared.Head.{Head}
 use Rattle.layout.specs.Arms as arms
-use Rattle.layout.specs.Arms.{Spacing, Act, spacing, text, keyword, sign, isRead, seen}
+use Rattle.layout.specs.Arms.{Spacing, Act, spacing, writeText, writeKeyword, writeSign, isRead, seen}
 use Rattle.layout.specs.Tokens.{isLineComment, emitComment, emitToken}
-use Rattle.layout.specs.Calls.{Call, on, formatErrorVerbatim}
-use Rattle.layout.specs.Layout.{silent, doSpacing, step}
+use Rattle.layout.specs.Calls.{Call, actAt, formatErrorVerbatim}
+use Rattle.layout.specs.Layout.{nothingWritten, doSpacing, step}
 use Rattle.layout.specs.Run.{runSpacing, run}
 use Rattle.layout.proofs.Running.{run-append}
-use Rattle.tokens.specs.Promise.{Ran, Silent, Spaced, TokenReady, Acted}
+use Rattle.tokens.specs.TokenPromises.{Ran, SpacedUnwritten, Spaced, TokenReady, Acted}
 
 -- ── spacing
 
 module _ {c r : FormatterContext} {xs : List ℕ} where
   -- only the state changed
-  pub changed : {n : ℕ} {s : State} (x : Spacing) → doSpacing x (c .state) ≡ silent s → Changed n s c r → Spaced n (x ∷ []) c xs r xs
+  pub changed : {n : ℕ} {s : State} (x : Spacing) → doSpacing x (c .state) ≡ nothingWritten s → Changed n s c r → Spaced n (x ∷ []) c xs r xs
   changed {s = s} x e d =
       record { did = ap (λ (q : FormatterContext). (q, xs)) (d .did) ∙ appended-none s c xs ∙ ap (λ (q : Step). stored q (c, xs)) (sym e); spent = d .spent }
 
@@ -55,8 +56,8 @@ module _ {c r : FormatterContext} {xs : List ℕ} where
   did-newline w = record { did = w .did; spent = w .spent }
 
 -- no byte was written
-pub did-silent : {n : ℕ} {s : State} {c r : FormatterContext} (x : Spacing) → doSpacing x (c .state) ≡ silent s → Changed n s c r → Silent n (x ∷ []) c r
-did-silent x e d = record { did = λ xs. changed x e d .did; spent = d .spent }
+pub did-unwritten : {n : ℕ} {s : State} {c r : FormatterContext} (x : Spacing) → doSpacing x (c .state) ≡ nothingWritten s → Changed n s c r → SpacedUnwritten n (x ∷ []) c r
+did-unwritten x e d = record { did = λ xs. changed x e d .did; spent = d .spent }
 
 pub no-spacing : {c : FormatterContext} {xs : List ℕ} → Spaced 0 [] c xs c xs
 no-spacing = record { did = refl; spent = spent-none }
@@ -83,48 +84,48 @@ module _ {n : ℕ} {c r : FormatterContext} {xs ys : List ℕ} where
 -- ── acts at a token
 
 module _ (config : FormatConfig) (source : Text) (token : Head) where
-  on-spacing : (x : List Spacing) (w : Store) → run config source (map (on token) (map spacing x)) w ≡ runSpacing x w
+  act-spacing : (x : List Spacing) (w : Store) → run config source (map (actAt token) (map spacing x)) w ≡ runSpacing x w
   unfolding step
-  on-spacing [] w = refl
-  on-spacing (y ∷ x) w = on-spacing x _
+  act-spacing [] w = refl
+  act-spacing (y ∷ x) w = act-spacing x _
 
-  map-append : (x y : List Act) → map (on token) (x ++ y) ≡ map (on token) x ++ map (on token) y
+  map-append : (x y : List Act) → map (actAt token) (x ++ y) ≡ map (actAt token) x ++ map (actAt token) y
   map-append [] y = refl
-  map-append (a ∷ x) y = ap {B = List Call} (λ r. on token a ∷ r) (map-append x y)
+  map-append (a ∷ x) y = ap {B = List Call} (λ r. actAt token a ∷ r) (map-append x y)
 
-  run-acts : (x y : List Act) (w : Store) → run config source (map (on token) (x ++ y)) w ≡ run config source (map (on token) y) (run config source (map (on token) x) w)
-  run-acts x y w = ap (λ (l : List Call). run config source l w) (map-append x y) ∙ run-append config source (map (on token) x) (map (on token) y) w
+  run-acts : (x y : List Act) (w : Store) → run config source (map (actAt token) (x ++ y)) w ≡ run config source (map (actAt token) y) (run config source (map (actAt token) x) w)
+  run-acts x y w = ap (λ (l : List Call). run config source l w) (map-append x y) ∙ run-append config source (map (actAt token) x) (map (actAt token) y) w
 
 module _ {config : FormatConfig} {source : Text} {token : Head} {c r : FormatterContext} {xs ys : List ℕ} where
   pub as-acts : {n : ℕ} {x : List Spacing} → Spaced n x c xs r ys → Acted n config source token (map spacing x) c xs r ys
-  as-acts {x = x} d = record { did = d .did ∙ sym (on-spacing config source token x (c, xs)); spent = d .spent }
+  as-acts {x = x} d = record { did = d .did ∙ sym (act-spacing config source token x (c, xs)); spent = d .spent }
 
-  pub signed : (b : ℕ) → Wrote 1 (stored (writeToken config (fresh b ∷ []) (c .state)) (c, xs)) c r ys → Acted 1 config source token (sign b ∷ []) c xs r ys
+  pub did-sign : (b : ℕ) → Wrote 1 (stored (writeToken config (fresh b ∷ []) (c .state)) (c, xs)) c r ys → Acted 1 config source token (writeSign b ∷ []) c xs r ys
   unfolding step
-  signed b w = record { did = w .did; spent = w .spent }
+  did-sign b w = record { did = w .did; spent = w .spent }
 
   module _ (bs : List ℕ) (e : bs ≡ tokenText source (token .start) (token .end)) where
-    pub texted : Wrote 1 (stored (writeToken config (fixed bs) (c .state)) (c, xs)) c r ys → Acted 1 config source token (text ∷ []) c xs r ys
+    pub did-text : Wrote 1 (stored (writeToken config (fixed bs) (c .state)) (c, xs)) c r ys → Acted 1 config source token (writeText ∷ []) c xs r ys
     unfolding step
-    texted w = record { did = w .did ∙ stored-token (spanCells source (token .start) (token .end)) bs (bytes-span source (token .start) (token .end) ∙ sym e) (c .state) (c, xs) config; spent = w .spent }
+    did-text w = record { did = w .did ∙ stored-token (spanCells source (token .start) (token .end)) bs (bytes-span source (token .start) (token .end) ∙ sym e) (c .state) (c, xs) config; spent = w .spent }
 
-    pub cased : Wrote 1 (stored (writeKeyword config (fixed bs) (c .state)) (c, xs)) c r ys → Acted 1 config source token (keyword ∷ []) c xs r ys
+    pub did-keyword : Wrote 1 (stored (context.writeKeyword config (fixed bs) (c .state)) (c, xs)) c r ys → Acted 1 config source token (writeKeyword ∷ []) c xs r ys
     unfolding step
-    cased w = record { did = w .did ∙ stored-keyword (spanCells source (token .start) (token .end)) bs (bytes-span source (token .start) (token .end) ∙ sym e) (c .state) (c, xs) config; spent = w .spent }
+    did-keyword w = record { did = w .did ∙ stored-keyword (spanCells source (token .start) (token .end)) bs (bytes-span source (token .start) (token .end) ∙ sym e) (c .state) (c, xs) config; spent = w .spent }
 
   -- one after the other
   pub then : {m n : ℕ} {x y : List Act} {q : FormatterContext} {zs : List ℕ} → Acted m config source token x c xs r ys → Acted n config source token y r ys q zs
       → Acted (m + n) config source token (x ++ y) c xs q zs
   then {x = x} {y = y} a b =
       record {
-        did = b .did ∙ ap (run config source (map (on token) y)) (a .did) ∙ sym (run-acts config source token x y (c, xs));
+        did = b .did ∙ ap (run config source (map (actAt token) y)) (a .did) ∙ sym (run-acts config source token x y (c, xs));
         spent = spent-twice (a .spent) (b .spent);
       }
 
   -- at most n is at most m; the acts are what the routine does
   pub acted : {n : ℕ} {x : List Act} (m : ℕ) (y : List Act) → n ≤ m → y ≡ x → Acted n config source token x c xs r ys → Acted m config source token y c xs r ys
   acted m y h e d =
-      record { did = d .did ∙ ap (λ (l : List Act). run config source (map (on token) l) (c, xs)) (sym e); spent = record { level = omega arith; length = omega arith } }
+      record { did = d .did ∙ ap (λ (l : List Act). run config source (map (actAt token) l) (c, xs)) (sym e); spent = record { level = omega arith; length = omega arith } }
 
 module _ {config : FormatConfig} {source : Text} {token : Head} {c : FormatterContext} {xs : List ℕ} where
   pub no-acts : Acted 0 config source token [] c xs c xs
@@ -164,7 +165,7 @@ pub changed-after : {n : ℕ} {t : State} {c next r : FormatterContext} (f : Sta
 changed-after f d e = record { did = e .did ∙ ap (λ (q : FormatterContext). withState (f (q .state)) q) (d .did); spent = record { level = omega (arith, d .spent .level, e .spent .level); length = omega (arith, d .spent .length, e .spent .length) } }
 
 module _ (s : State) where
-  pub line-held : takePendingNewline s .0 ≡ true → takePendingNewline s .1 .«at_line_start» ≡ true → doSpacing arms.lineOrSpace s ≡ silent (takePendingNewline s .1)
+  pub line-held : takePendingNewline s .0 ≡ true → takePendingNewline s .1 .«at_line_start» ≡ true → doSpacing arms.lineOrSpace s ≡ nothingWritten (takePendingNewline s .1)
   unfolding doSpacing
   line-held e f = rw (e, f)
 
@@ -172,11 +173,11 @@ module _ (s : State) where
   unfolding doSpacing
   line-written e f = rw (e, f)
 
-  pub line-space : takePendingNewline s .0 ≡ false → doSpacing arms.lineOrSpace s ≡ silent (writeSpace (takePendingNewline s .1))
+  pub line-space : takePendingNewline s .0 ≡ false → doSpacing arms.lineOrSpace s ≡ nothingWritten (writeSpace (takePendingNewline s .1))
   unfolding doSpacing
   line-space e = rw e
 
-  pub blank-held : takePendingBlankLine s .0 ≡ false → doSpacing arms.blankLine s ≡ silent (takePendingBlankLine s .1)
+  pub blank-held : takePendingBlankLine s .0 ≡ false → doSpacing arms.blankLine s ≡ nothingWritten (takePendingBlankLine s .1)
   unfolding doSpacing
   blank-held e = rw e
 
@@ -185,7 +186,7 @@ module _ (s : State) where
   blank-written e = rw e
 
   pub comment-start : takePendingBlankLine s .0 ≡ true → takePendingBlankLine s .1 .«at_line_start» ≡ true
-      → doSpacing arms.blankLineBeforeComment s ≡ silent (takePendingBlankLine s .1)
+      → doSpacing arms.blankLineBeforeComment s ≡ nothingWritten (takePendingBlankLine s .1)
   unfolding doSpacing
   comment-start e f = rw (e, f)
 
@@ -194,7 +195,7 @@ module _ (s : State) where
   unfolding doSpacing
   comment-written e f = rw (e, f)
 
-  pub comment-held : takePendingBlankLine s .0 ≡ false → doSpacing arms.blankLineBeforeComment s ≡ silent (takePendingBlankLine s .1)
+  pub comment-held : takePendingBlankLine s .0 ≡ false → doSpacing arms.blankLineBeforeComment s ≡ nothingWritten (takePendingBlankLine s .1)
   unfolding doSpacing
   comment-held e = rw e
 
@@ -219,7 +220,7 @@ line-at (x ∷ y ∷ b) h = refl
 pub line-last : (b : List ℕ) → 2 ≤ length b → getD b 0 0 ≡ 45 → eqb (getD b 1 0) 45 ≡ isLineComment b
 line-last b h e = sym (line-at b h ∙ ap (λ (n : ℕ). eqb n 45 && eqb (getD b 1 0) 45) e)
 
-pub comment-acts : (b bs : List ℕ) (t : Bool) → bs ≡ b → isLineComment bs ≡ t → emitComment b ≡ spacing arms.lineOrSpace ∷ text ∷ cond t (spacing arms.newline ∷ []) []
+pub comment-acts : (b bs : List ℕ) (t : Bool) → bs ≡ b → isLineComment bs ≡ t → emitComment b ≡ spacing arms.lineOrSpace ∷ writeText ∷ cond t (spacing arms.newline ∷ []) []
 unfolding emitComment
 comment-acts b bs t e f = rw (← e, f)
 
@@ -228,10 +229,10 @@ abbrev pub changesCase : ℕ → List ℕ → Bool
 changesCase k b = eqb k BareWord && (isKeyword b && not (isValueKeyword b))
 
 pub token-acts : (source : Text) (token : Head) → (token .kind ≡ Whitespace → ⊥)
-    → emitToken (seen source token) ≡ cond (changesCase (token .kind) (tokenText source (token .start) (token .end))) (keyword ∷ []) (text ∷ [])
+    → emitToken (seen source token) ≡ cond (changesCase (token .kind) (tokenText source (token .start) (token .end))) (writeKeyword ∷ []) (writeText ∷ [])
 unfolding emitToken seen
 token-acts source token h =
-    ap (λ (t : Bool). cond t [] (cond (changesCase (token .kind) bytes) (keyword ∷ []) (text ∷ []))) (ne-eqb (token .kind) Whitespace h) ∙ go (eqb (token .kind) BareWord) refl
+    ap (λ (t : Bool). cond t [] (cond (changesCase (token .kind) bytes) (writeKeyword ∷ []) (writeText ∷ []))) (ne-eqb (token .kind) Whitespace h) ∙ go (eqb (token .kind) BareWord) refl
   where
     whole : List ℕ
     whole = tokenText source (token .start) (token .end)
@@ -240,14 +241,14 @@ token-acts source token h =
     bytes = cond (isRead (token .kind)) whole []
 
     go : (t : Bool) → eqb (token .kind) BareWord ≡ t
-        → cond (t && (isKeyword bytes && not (isValueKeyword bytes))) (keyword ∷ []) (text ∷ []) ≡ cond (t && (isKeyword whole && not (isValueKeyword whole))) (keyword ∷ []) (text ∷ [])
+        → cond (t && (isKeyword bytes && not (isValueKeyword bytes))) (writeKeyword ∷ []) (writeText ∷ []) ≡ cond (t && (isKeyword whole && not (isValueKeyword whole))) (writeKeyword ∷ []) (writeText ∷ [])
     go true e = rw (eqb-true (token .kind) BareWord e)
     go false e = refl
 
 -- where the space is full the case does not matter
 pub full-case : (config : FormatConfig) (cs : List Cell) (s : State) (c : FormatterContext) (xs : List ℕ) → length xs ≤ c .position .length
-    → stored (writeToken config cs s) (c, xs) ≡ stored (writeKeyword config cs s) (c, xs)
-unfolding writeKeyword writeToken appended advanced
+    → stored (writeToken config cs s) (c, xs) ≡ stored (context.writeKeyword config cs s) (c, xs)
+unfolding context.writeKeyword writeToken appended advanced
 full-case config cs s c xs h =
     let u = config .«uppercase_keywords» in
     let l = lead config s in
@@ -260,9 +261,9 @@ full-case config cs s c xs h =
 
 module _ {config : FormatConfig} {source : Text} {token : Head} {c r : FormatterContext} {xs ys : List ℕ} (bs : List ℕ) (e : bs ≡ tokenText source (token .start) (token .end)) where
   pub full-text : (b : Bool) → length xs ≤ c .position .length → Wrote 1 (stored (writeToken config (fixed bs) (c .state)) (c, xs)) c r ys
-      → Acted 1 config source token (cond b (keyword ∷ []) (text ∷ [])) c xs r ys
-  full-text true h w = cased bs e (record { did = w .did ∙ full-case config (fixed bs) (c .state) c xs h; spent = w .spent })
-  full-text false h w = texted bs e w
+      → Acted 1 config source token (cond b (writeKeyword ∷ []) (writeText ∷ [])) c xs r ys
+  full-text true h w = did-keyword bs e (record { did = w .did ∙ full-case config (fixed bs) (c .state) c xs h; spent = w .spent })
+  full-text false h w = did-text bs e w
 
 -- ── format_error_verbatim
 

@@ -1,2 +1,2 @@
 -- What the arms ask and promise.
-pub mod Promise
+pub mod TokenPromises

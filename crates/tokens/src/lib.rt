@@ -18,11 +18,11 @@ ghost use lib.Dec.{eqb};
 ghost use Rattle.context.specs.Cells.{tokenText};
 ghost use Rattle.keywords.specs.Words.{isKeyword, isValueKeyword};
 ghost use Rattle.tape.specs.Kinds.{BareWord, Whitespace};
-ghost use Rattle.layout.specs.Arms.{blankLine, blankLineBeforeComment, keyword, lineOrSpace, seen, text};
+ghost use Rattle.layout.specs.Arms.{blankLine, blankLineBeforeComment, lineOrSpace, seen, writeKeyword, writeText};
 ghost use Rattle.layout.specs.Calls.{formatErrorVerbatim};
 ghost use Rattle.layout.specs.Routines.{nameBefore, spaceAfter, spaceIf};
 ghost use Rattle.layout.specs.Tokens.{emitComment, emitOther, emitToken, isLineComment, isOperator, noSpaceAfter, noSpaceBefore, noteSkippedWhitespace};
-ghost use Rattle.tokens.specs.Promise.{Acted, Ran, Silent, Spaced, TokenReady, TriviaDone, emitTrivia, emitUncommented, isTrivia};
+ghost use Rattle.tokens.specs.TokenPromises.{Acted, Ran, Spaced, SpacedUnwritten, TokenReady, TriviaDone, emitTrivia, emitUncommented, isTrivia};
 
 // After a token: the context, and the routine's local variables.
 pub struct Arm {
@@ -108,7 +108,7 @@ pub fn name_before(prev: PrevKind) -> bool
 
 // write_space where it is wanted.
 pub fn space_if(ctx: FormatterContext, wanted: bool) -> FormatterContext
-    ensures { λ r. ⌜ Silent 0 (spaceIf wanted) ctx r ⌝ }
+    ensures { λ r. ⌜ SpacedUnwritten 0 (spaceIf wanted) ctx r ⌝ }
 {
     if wanted {
         return ctx.write_space();
@@ -142,7 +142,7 @@ pub fn write_text(
     token: Head,
 ) -> FormatterContext
     requires { ⌜ TokenReady 1 (now source) config token ctx ⌝ }
-    ensures { λ r. ⌜ Acted 1 config (now (source .entry)) token (text ∷ []) ctx (now (out .entry)) r (now (out .exit)) ⌝ }
+    ensures { λ r. ⌜ Acted 1 config (now (source .entry)) token (writeText ∷ []) ctx (now (out .entry)) r (now (out .exit)) ⌝ }
 {
     let start = token.start;
     let end = token.end;
@@ -159,7 +159,7 @@ pub fn write_word(
     token: Head,
 ) -> FormatterContext
     requires { ⌜ TokenReady 1 (now source) config token ctx ⌝ }
-    ensures { λ r. ⌜ Acted 1 config (now (source .entry)) token (keyword ∷ []) ctx (now (out .entry)) r (now (out .exit)) ⌝ }
+    ensures { λ r. ⌜ Acted 1 config (now (source .entry)) token (writeKeyword ∷ []) ctx (now (out .entry)) r (now (out .exit)) ⌝ }
 {
     let start = token.start;
     let end = token.end;

@@ -56,7 +56,7 @@ const ALIKE: [[&str; 2]; 2] =
 pub fn every() -> BTreeSet<String> {
     let mut names: BTreeSet<String> = COPIES.iter().map(|copy| copied(copy)).collect();
     names.insert(GOES_ON.to_string());
-    names.extend(carried().flat_map(|kind| others(kind).map(move |other| told(kind, other))));
+    names.extend(carried().flat_map(|kind| others(kind).map(move |other| dispatch_arm(kind, other))));
     names.extend(representatives().into_iter().flat_map(|kind| of_routine(kinds::routine(kind))));
     names
 }
@@ -83,7 +83,7 @@ fn others(kind: u16) -> impl Iterator<Item = u16> {
 }
 
 /// The arm of the dispatch that sends a kind to its routine and not to another.
-fn told(kind: u16, other: u16) -> String {
+fn dispatch_arm(kind: u16, other: u16) -> String {
     format!("dispatch: {} not to {}", kinds::name(kind), kinds::routine(other))
 }
 
@@ -122,7 +122,7 @@ fn add_dispatch(mut root: Node, case: &Case, names: &mut BTreeSet<String>) {
     for other in others(kind) {
         root.kind = other;
         if layout(&root) != own {
-            names.insert(told(kind, other));
+            names.insert(dispatch_arm(kind, other));
         }
     }
 }

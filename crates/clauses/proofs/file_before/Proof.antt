@@ -1,4 +1,4 @@
--- `file_before` meets its contract. Assumes nothing.
+-- `file_before` meets its contract.
 use borrow.Author.Needs.{needs}
 use native.Mathlib.Omega.{arith}
 use Rattle.tokens.proofs.Runs.{both, did-newline, spaced}

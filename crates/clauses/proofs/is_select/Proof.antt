@@ -1,4 +1,4 @@
--- `is_select` meets its contract. Assumes nothing.
+-- `is_select` meets its contract.
 use mathlib.Core.Bool.{or-false}
 use borrow.Author.Tests.{eq-eqb, ne-eqb}
 use Rattle.clauses.proofs.is_select.Statement.{statement}

@@ -1,4 +1,4 @@
--- `join_clause_token` meets its contract. Assumes nothing.
+-- `join_clause_token` meets its contract.
 use borrow.Author.Needs.{needs}
 use native.Mathlib.Omega.{arith}
 use mathlib.Core.Bool.{Bool, not}
@@ -7,7 +7,7 @@ use mathlib.Core.Path.{refl, sym, ap, _∙_}
 use borrow.Author.Tests.{ne-eqb}
 use Rattle.tokens.proofs.Choices.{as-spaced, spaced-as, other-done}
 use Rattle.tokens.proofs.Runs.{acted, as-acts, then}
-use Rattle.layout.specs.Arms.{keyword, seen}
+use Rattle.layout.specs.Arms.{seen, writeKeyword}
 use Rattle.layout.specs.Routines.{flagged, joinClauseToken}
 use Rattle.clauses.proofs.join_clause_token.Statement.{statement}
 use Rattle.clauses.proofs.join_clause_token.Tie as tie
@@ -39,7 +39,7 @@ unfolding joinClauseToken seen
 returns-2 c =
     other-done _ (sym (c .before .before .before .before .before .before .before .before .is-trivia .ensures) ∙ c .before .before .before .before .before .before .before .if1 .left)
     (record {
-      acted = acted 4 _ (omega arith) (rw (c .before .before .before .before .before .if2 .taken) (spaced-as (c .before .before .before .before .before .before .before .before .before .before .before .args .local .flag) (c .before .before .before .before .before .before .before .before .before .before .before .args .local .flag) (keyword ∷ []) refl)) (then (as-acts (as-spaced (c .before .before .before .before .space-if .ensures))) (c .before .before .write-word .ensures));
+      acted = acted 4 _ (omega arith) (rw (c .before .before .before .before .before .if2 .taken) (spaced-as (c .before .before .before .before .before .before .before .before .before .before .before .args .local .flag) (c .before .before .before .before .before .before .before .before .before .before .before .args .local .flag) (writeKeyword ∷ []) refl)) (then (as-acts (as-spaced (c .before .before .before .before .space-if .ensures))) (c .before .before .write-word .ensures));
       local = rw (c .before .before .before .before .before .if2 .taken);
     })
 

@@ -1,4 +1,4 @@
--- `list_clause_before` meets its contract. Assumes nothing.
+-- `list_clause_before` meets its contract.
 use borrow.Author.Needs.{needs}
 use native.Mathlib.Omega.{arith}
 use mathlib.Core.Path.{_∙_, sym}

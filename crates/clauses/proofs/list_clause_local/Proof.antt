@@ -1,4 +1,4 @@
--- `list_clause_local` meets its contract. Assumes nothing.
+-- `list_clause_local` meets its contract.
 use mathlib.Core.Bool.{false, true}
 use mathlib.Core.Path.{refl}
 use borrow.Author.Tests.{eq-eqb, ne-eqb}

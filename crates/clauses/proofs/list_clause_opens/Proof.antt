@@ -1,4 +1,4 @@
--- `list_clause_opens` meets its contract. Assumes nothing.
+-- `list_clause_opens` meets its contract.
 use borrow.Author.Tests.{eq-eqb, ne-eqb}
 use Rattle.clauses.proofs.list_clause_opens.Statement.{statement}
 use Rattle.clauses.proofs.list_clause_opens.Tie as tie

@@ -1,4 +1,4 @@
--- `multi_item` meets its contract. Assumes nothing.
+-- `multi_item` meets its contract.
 use borrow.Author.Needs.{needs}
 use mathlib.Core.Path.{_∙_, sym, ap}
 use mathlib.Core.Bool.{not}

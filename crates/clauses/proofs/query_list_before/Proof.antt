@@ -1,4 +1,4 @@
--- `query_list_before` meets its contract. Assumes nothing.
+-- `query_list_before` meets its contract.
 use borrow.Author.Needs.{needs}
 use native.Mathlib.Omega.{arith}
 use Rattle.tokens.proofs.Runs.{both, did-newline, no-spacing, spaced}

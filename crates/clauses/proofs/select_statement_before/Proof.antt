@@ -1,4 +1,4 @@
--- `select_statement_before` meets its contract. Assumes nothing.
+-- `select_statement_before` meets its contract.
 use borrow.Author.Needs.{needs}
 use native.Mathlib.Omega.{arith}
 use Rattle.tokens.proofs.Runs.{did-newline, no-spacing, spaced}

@@ -1,4 +1,4 @@
--- `select_statement_token` meets its contract. Assumes nothing.
+-- `select_statement_token` meets its contract.
 use borrow.Author.Needs.{needs}
 use native.Mathlib.Omega.{arith}
 use borrow.Author.Tests.{ne-eqb}

@@ -1,4 +1,4 @@
--- `several_items` meets its contract. Assumes nothing.
+-- `several_items` meets its contract.
 use borrow.Author.Needs.{needs}
 use mathlib.Core.Bool.{Bool, _&&_}
 use mathlib.Core.Path.{_∙_, ap, sym}

@@ -1,4 +1,4 @@
--- `simple_clause_token` meets its contract. Assumes nothing.
+-- `simple_clause_token` meets its contract.
 use borrow.Author.Needs.{needs}
 use native.Mathlib.Omega.{arith}
 use mathlib.Core.Bool.{Bool, not}

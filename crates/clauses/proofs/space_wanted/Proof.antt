@@ -1,4 +1,4 @@
--- `space_wanted` meets its contract. Assumes nothing.
+-- `space_wanted` meets its contract.
 use borrow.Author.Needs.{needs}
 use mathlib.Core.Bool.{Bool, _&&_, and-false, and-true, not}
 use mathlib.Core.Path.{_∙_, ap, sym}

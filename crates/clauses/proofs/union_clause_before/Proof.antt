@@ -1,4 +1,4 @@
--- `union_clause_before` meets its contract. Assumes nothing.
+-- `union_clause_before` meets its contract.
 use borrow.Author.Needs.{needs}
 use native.Mathlib.Omega.{arith}
 use mathlib.Core.Path.{_∙_, sym}

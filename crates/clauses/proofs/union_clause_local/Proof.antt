@@ -1,4 +1,4 @@
--- `union_clause_local` meets its contract. Assumes nothing.
+-- `union_clause_local` meets its contract.
 use borrow.Author.Needs.{needs}
 use mathlib.Core.Bool.{false, true}
 use mathlib.Core.Path.{_∙_, sym}

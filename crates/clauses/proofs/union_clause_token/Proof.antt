@@ -1,9 +1,9 @@
--- `union_clause_token` meets its contract. Assumes nothing.
+-- `union_clause_token` meets its contract.
 use borrow.Author.Needs.{needs}
 use native.Mathlib.Omega.{arith}
 use borrow.Author.Tests.{ne-eqb}
 use Rattle.tokens.proofs.Runs.{acted, as-acts, did-space, then}
-use Rattle.tokens.specs.Promise.{emitUncommented}
+use Rattle.tokens.specs.TokenPromises.{emitUncommented}
 use Rattle.layout.specs.Arms.{seen}
 use Rattle.layout.specs.Routines.{unionToken}
 use Rattle.clauses.proofs.union_clause_token.Statement.{statement}

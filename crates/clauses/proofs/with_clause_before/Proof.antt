@@ -1,4 +1,4 @@
--- `with_clause_before` meets its contract. Assumes nothing.
+-- `with_clause_before` meets its contract.
 use borrow.Author.Needs.{needs}
 use native.Mathlib.Omega.{arith}
 use mathlib.Core.Path.{refl}

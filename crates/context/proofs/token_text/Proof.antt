@@ -1,4 +1,4 @@
--- `context::token_text` meets its contract: the part that is lent is what the definition takes. Assumes nothing.
+-- `context::token_text` meets its contract: the part that is lent is what the definition takes.
 use Rattle.context.specs.Cells.{tokenText}
 use borrow.Author.Needs.{needs}
 use Rattle.context.proofs.token_text.Statement.{statement}

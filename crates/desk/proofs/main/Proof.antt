@@ -1,4 +1,4 @@
--- `main` meets its contract: what `print_job` answers lies within the output buffer. Assumes nothing.
+-- `main` meets its contract: what `print_job` answers lies within the output buffer.
 use borrow.Author.Needs.{needs}
 use mathlib.Core.Path.{sym}
 use lib.Seq.{length-take-le}

@@ -1,4 +1,4 @@
--- `has_command` meets its contract. Assumes nothing.
+-- `has_command` meets its contract.
 use borrow.Author.Needs.{needs}
 use borrow.Author.Tests.{le-leb, lt-leb}
 use Rattle.desk_job.specs.Job.{hasCommand}

@@ -1,4 +1,4 @@
--- `print_job` meets its contract, by the cases of the header. Assumes nothing.
+-- `print_job` meets its contract, by the cases of the header.
 use borrow.Author.Needs.{needs}
 use native.Mathlib.Omega.{arith}
 use mathlib.Core.Path.{_∙_, sym}

@@ -1,4 +1,4 @@
--- `print_layout` meets its contract, by the cases of what `layout` answers. Assumes nothing.
+-- `print_layout` meets its contract, by the cases of what `layout` answers.
 use borrow.Author.Needs.{needs}
 use Rattle.desk_job.proofs.Printing.{laid-printed, refused-printed}
 use Rattle.desk_job.proofs.print_layout.Statement.{statement}

@@ -1,4 +1,4 @@
--- `print_refusal` meets its contract: five writes in a row are one. Assumes nothing.
+-- `print_refusal` meets its contract: five writes in a row are one.
 use borrow.Author.Needs.{needs}
 use Rattle.desk_job.proofs.Writing.{within, wrote-then}
 use Rattle.desk_job.specs.Job.{refusedLine}

@@ -1,4 +1,4 @@
--- `routine_of` meets its contract: the keys of each arm against the dispatch of the definition. Assumes nothing.
+-- `routine_of` meets its contract: the keys of each arm against the dispatch of the definition.
 use mathlib.Core.List.{[], _∷_}
 use mathlib.Core.Path.{refl}
 use Rattle.basics.proofs.Match.{arm-is, other-is}

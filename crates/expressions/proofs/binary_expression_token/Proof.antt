@@ -1,4 +1,4 @@
--- `binary_expression_token` meets its contract. Assumes nothing.
+-- `binary_expression_token` meets its contract.
 use borrow.Author.Needs.{needs}
 use native.Mathlib.Omega.{arith}
 use mathlib.Core.Path.{_∙_, sym}

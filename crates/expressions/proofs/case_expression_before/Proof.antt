@@ -1,4 +1,4 @@
--- `case_expression_before` meets its contract. Assumes nothing.
+-- `case_expression_before` meets its contract.
 use borrow.Author.Needs.{needs}
 use native.Mathlib.Omega.{arith}
 use borrow.Author.Tests.{eq-eqb, ne-eqb}

@@ -1,4 +1,4 @@
--- `case_expression_token` meets its contract. Assumes nothing.
+-- `case_expression_token` meets its contract.
 use borrow.Author.Needs.{needs}
 use native.Mathlib.Omega.{arith}
 use borrow.Author.Tests.{ne-eqb}

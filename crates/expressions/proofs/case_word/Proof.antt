@@ -1,4 +1,4 @@
--- `case_word` meets its contract. Assumes nothing.
+-- `case_word` meets its contract.
 use borrow.Author.Needs.{needs}
 use native.Mathlib.Omega.{arith}
 use mathlib.Core.Bool.{false, true}

@@ -1,8 +1,8 @@
--- `function_call_token` meets its contract. Assumes nothing.
+-- `function_call_token` meets its contract.
 use borrow.Author.Needs.{needs}
 use native.Mathlib.Omega.{arith}
 use borrow.Author.Tests.{ne-eqb}
-use Rattle.tokens.proofs.Runs.{acted, signed}
+use Rattle.tokens.proofs.Runs.{acted, did-sign}
 use Rattle.layout.specs.Arms.{seen}
 use Rattle.layout.specs.Routines.{functionCallToken}
 use Rattle.layout.specs.Tokens.{emitOther}
@@ -17,7 +17,7 @@ same-length c = search needs
 
 returns : tie.Need-returns
 unfolding functionCallToken seen
-returns c = acted 4 _ (omega arith) (rw (c .before .before .before .before .if1 .taken)) (signed 40 (c .before .before .write-sign .ensures))
+returns c = acted 4 _ (omega arith) (rw (c .before .before .before .before .if1 .taken)) (did-sign 40 (c .before .before .write-sign .ensures))
 
 write-sign-requires-2 : tie.Need-write-sign-requires-2
 write-sign-requires-2 c κs = search needs
@@ -27,7 +27,7 @@ same-length-2 c = search needs
 
 returns-2 : tie.Need-returns-2
 unfolding functionCallToken seen
-returns-2 c = acted 4 _ (omega arith) (rw (c .before .before .before .before .if2 .taken)) (signed 41 (c .before .before .write-sign2 .ensures))
+returns-2 c = acted 4 _ (omega arith) (rw (c .before .before .before .before .if2 .taken)) (did-sign 41 (c .before .before .write-sign2 .ensures))
 
 write-text-requires : tie.Need-write-text-requires
 write-text-requires c κs = search needs

@@ -1,4 +1,4 @@
--- `inline_tight_parens_token` meets its contract. Assumes nothing.
+-- `inline_tight_parens_token` meets its contract.
 use borrow.Author.Needs.{needs}
 use native.Mathlib.Omega.{arith}
 use mathlib.Core.Path.{refl, sym, _∙_}

@@ -1,4 +1,4 @@
--- `space_between` meets its contract. Assumes nothing.
+-- `space_between` meets its contract.
 use borrow.Author.Needs.{needs}
 use Rattle.expressions.proofs.space_between.Statement.{statement}
 use Rattle.expressions.proofs.space_between.Tie as tie

@@ -1,4 +1,4 @@
--- `space_between_tight` meets its contract. Assumes nothing.
+-- `space_between_tight` meets its contract.
 use borrow.Author.Needs.{needs}
 use mathlib.Core.Bool.{and-false, and-true}
 use borrow.Author.Tests.{eq-eqb, ne-eqb}

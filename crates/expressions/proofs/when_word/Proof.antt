@@ -1,4 +1,4 @@
--- `when_word` meets its contract. Assumes nothing.
+-- `when_word` meets its contract.
 use borrow.Author.Needs.{needs}
 use native.Mathlib.Omega.{arith}
 use mathlib.Core.Bool.{false, true}

@@ -1,4 +1,4 @@
--- `layout` meets its contract. Assumes nothing.
+-- `layout` meets its contract.
 use borrow.Author.Needs.{needs}
 use mathlib.Core.Path.{_∙_, sym}
 use Rattle.formatter.proofs.Entries.{lays-out, ready, refused-layout}

@@ -1,4 +1,4 @@
--- `layout_accepted` meets its contract. Assumes nothing.
+-- `layout_accepted` meets its contract.
 use borrow.Author.Needs.{needs}
 use native.Mathlib.Omega.{arith}
 use Rattle.formatter.proofs.Entries.{laid-done, laid-none, laid-short}

@@ -1,4 +1,4 @@
--- `measure` meets its contract. Assumes nothing.
+-- `measure` meets its contract.
 use borrow.Author.Needs.{needs}
 use mathlib.Core.Path.{_∙_, sym}
 use Rattle.formatter.proofs.Entries.{measures, ready, refused-measure}

@@ -1,4 +1,4 @@
--- `measure_accepted` meets its contract. Assumes nothing.
+-- `measure_accepted` meets its contract.
 use borrow.Author.Needs.{needs}
 use Rattle.formatter.proofs.Entries.{measured-none, measured-some}
 use Rattle.formatter.specs.Entry.{allCells}

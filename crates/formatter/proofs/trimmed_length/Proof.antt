@@ -1,4 +1,4 @@
--- `trimmed_length` meets its contract. Assumes nothing.
+-- `trimmed_length` meets its contract.
 use borrow.Author.Needs.{needs}
 use Rattle.formatter.proofs.Entries.{root-ready, trims}
 use Rattle.formatter.proofs.trimmed_length.Statement.{statement}

@@ -1,4 +1,4 @@
--- `write_layout` meets its contract. Assumes nothing.
+-- `write_layout` meets its contract.
 use borrow.Author.Needs.{needs}
 use native.Mathlib.Omega.{arith}
 use mathlib.Core.Path.{sym}

@@ -1,4 +1,4 @@
--- `keywords::code_of` meets its contract: the bytes from i on are letters, and make the code. Assumes nothing.
+-- `keywords::code_of` meets its contract: the bytes from i on are letters, and make the code.
 use mathlib.Core.Path.{_≡_, sym, _∙_, subst}
 use mathlib.Core.Bool.{true, false, _&&_}
 use mathlib.Core.List.{List}

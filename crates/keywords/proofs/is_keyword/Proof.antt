@@ -1,4 +1,4 @@
--- `keywords::is_keyword` meets its contract. Assumes nothing.
+-- `keywords::is_keyword` meets its contract.
 use mathlib.Core.Path.{sym, ap, _∙_}
 use Prim.Native.Nat.{ℕ, _%_}
 use lib.Dec.{eqb}

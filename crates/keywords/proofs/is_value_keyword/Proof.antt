@@ -1,4 +1,4 @@
--- `keywords::is_value_keyword` meets its contract: words of other lengths are none of the three. Assumes nothing.
+-- `keywords::is_value_keyword` meets its contract: words of other lengths are none of the three.
 use mathlib.Core.Bool.{or-false}
 use mathlib.Core.Path.{sym, _∙_}
 use native.Mathlib.Omega.{arith}

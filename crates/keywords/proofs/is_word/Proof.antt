@@ -1,4 +1,4 @@
--- `keywords::is_word` meets its contract: after i turns what is left of the two decides. Assumes nothing.
+-- `keywords::is_word` meets its contract: after i passes what is left of the two decides.
 use mathlib.Core.Path.{_≡_, refl, sym, _∙_}
 use Prim.Native.Nat.{_≤_, _-_}
 use native.Mathlib.Omega.{arith}
@@ -7,7 +7,7 @@ use borrow.Author.Needs.{needs}
 use lib.ListN.{length, drop, drop-of-length-le, length-map}
 use Rattle.basics.specs.Case.{toUppercase}
 use Rattle.keywords.specs.Words.{same, capitals}
-use Rattle.keywords.proofs.Same.{same-lengths, same-turn, same-nil}
+use Rattle.keywords.proofs.Same.{same-lengths, same-step, same-nil}
 use Rattle.keywords.proofs.Capitals.{capitals-at}
 use Rattle.keywords.proofs.is_word.Statement.{statement}
 use Rattle.keywords.proofs.is_word.Tie as tie
@@ -43,7 +43,7 @@ returns-2 c =
     let w = a .word .now in
     let i = at .loop .i in
     let l = length-map w toUppercase in
-    let t = same-turn (capitals w) (a .caps .now) i (omega arith) (omega arith) in
+    let t = same-step (capitals w) (a .caps .now) i (omega arith) (omega arith) in
     sym (at .loop .inv .2 ∙ t ∙ rw (capitals-at w i (omega arith), ← (c .before .before .upper-of .ensures)) (simp (ne-eqb _ _ (c .if2 .taken))))
 
 add-i : tie.Need-add-i Inv-loop μ-loop
@@ -59,7 +59,7 @@ loop-again c =
     let w = a .word .now in
     let i = at .loop .i in
     let l = length-map w toUppercase in
-    let t = same-turn (capitals w) (a .caps .now) i (omega arith) (omega arith) in (
+    let t = same-step (capitals w) (a .caps .now) i (omega arith) (omega arith) in (
       omega arith,
       at .loop .inv .1,
       at .loop .inv .2 ∙ t ∙ rw (capitals-at w i (omega arith), ← (c .before .before .upper-of .ensures)) (simp (eq-eqb _ _ (c .if2 .left))),

@@ -1,4 +1,4 @@
--- `keywords::key_of` meets its contract. Assumes nothing.
+-- `keywords::key_of` meets its contract.
 use borrow.Author.Needs.{needs}
 use Rattle.keywords.specs.Index.{key}
 use Rattle.keywords.proofs.key_of.Statement.{statement}

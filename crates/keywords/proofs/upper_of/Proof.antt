@@ -1,4 +1,4 @@
--- `keywords::upper_of` meets its contract, by the two tests. Assumes nothing.
+-- `keywords::upper_of` meets its contract, by the two tests.
 use borrow.Author.Tests.{le-leb, lt-leb}
 use borrow.Author.Needs.{needs}
 use Rattle.basics.specs.Case.{toUppercase}

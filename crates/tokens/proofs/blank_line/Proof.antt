@@ -1,4 +1,4 @@
--- `blank_line` meets its contract. Assumes nothing.
+-- `blank_line` meets its contract.
 use borrow.Author.Needs.{needs}
 use native.Mathlib.Omega.{arith}
 use mathlib.Core.Path.{_∙_, refl, sym}

@@ -1,4 +1,4 @@
--- `emit_comment` meets its contract. Assumes nothing.
+-- `emit_comment` meets its contract.
 use borrow.Author.Needs.{needs}
 use native.Mathlib.Omega.{arith}
 use mathlib.Core.Bool.{false, true}

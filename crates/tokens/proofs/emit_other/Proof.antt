@@ -1,4 +1,4 @@
--- `emit_other` meets its contract. Assumes nothing.
+-- `emit_other` meets its contract.
 use borrow.Author.Needs.{needs}
 use mathlib.Core.Path.{sym, _∙_}
 use native.Mathlib.Omega.{arith}

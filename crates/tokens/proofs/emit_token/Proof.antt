@@ -1,12 +1,12 @@
--- `emit_token` meets its contract. Assumes nothing.
+-- `emit_token` meets its contract.
 use borrow.Author.Needs.{needs}
 use native.Mathlib.Omega.{arith}
 use mathlib.Core.Bool.{Bool, cond}
 use mathlib.Core.List.{[], _∷_}
 use mathlib.Core.Path.{_∙_, ap, sym}
-use Rattle.tokens.proofs.Runs.{acted, cased, changesCase, full-text, no-acts, text-fits, texted, token-acts}
+use Rattle.tokens.proofs.Runs.{acted, changesCase, did-keyword, did-text, full-text, no-acts, text-fits, token-acts}
 use Rattle.context.specs.Cells.{tokenText}
-use Rattle.layout.specs.Arms.{keyword, seen, text}
+use Rattle.layout.specs.Arms.{seen, writeKeyword, writeText}
 use Rattle.layout.specs.Tokens.{emitToken}
 use Rattle.tokens.proofs.emit_token.Statement.{statement}
 use Rattle.tokens.proofs.emit_token.Tie as tie
@@ -37,7 +37,7 @@ same-length-2 : tie.Need-same-length-2
 same-length-2 c = search needs
 
 returns-3 : tie.Need-returns-3
-returns-3 c = acted 1 _ (omega arith) (token-acts (c .before .before .before .before .before .before .before .before .before .before .before .before .before .before .args .source .now) (c .before .before .before .before .before .before .before .before .before .before .before .before .before .before .args .token) (c .before .before .before .before .before .before .before .before .before .before .if1 .left) ∙ ap (λ (b : Bool). cond b (keyword ∷ []) (text ∷ [])) (ap (changesCase (c .before .before .before .before .before .before .before .before .before .before .before .before .before .before .args .token .kind)) (sym (c .before .before .before .before .before .before .before .before .before .token-text .ensures)) ∙ sym (c .before .before .before .before .before .is-cased .ensures) ∙ c .before .before .before .before .if3 .taken)) (cased (c .before .before .before .before .before .before .before .before .before .token-text .result .now) (c .before .before .before .before .before .before .before .before .before .token-text .ensures) (c .before .before .write-keyword .ensures))
+returns-3 c = acted 1 _ (omega arith) (token-acts (c .before .before .before .before .before .before .before .before .before .before .before .before .before .before .args .source .now) (c .before .before .before .before .before .before .before .before .before .before .before .before .before .before .args .token) (c .before .before .before .before .before .before .before .before .before .before .if1 .left) ∙ ap (λ (b : Bool). cond b (writeKeyword ∷ []) (writeText ∷ [])) (ap (changesCase (c .before .before .before .before .before .before .before .before .before .before .before .before .before .before .args .token .kind)) (sym (c .before .before .before .before .before .before .before .before .before .token-text .ensures)) ∙ sym (c .before .before .before .before .before .is-cased .ensures) ∙ c .before .before .before .before .if3 .taken)) (did-keyword (c .before .before .before .before .before .before .before .before .before .token-text .result .now) (c .before .before .before .before .before .before .before .before .before .token-text .ensures) (c .before .before .write-keyword .ensures))
 
 write-token-requires-2 : tie.Need-write-token-requires-2
 write-token-requires-2 c κs = (c .before .before .before .before .before .before .before .before .before .before .before .pre .room, (c .before .before .before .before .before .before .before .before .before .before .before .pre .width-fits, text-fits (c .before .before .before .before .before .before .before .before .before .before .before .pre) (c .before .before .before .before .before .before .token-text .ensures)))
@@ -46,7 +46,7 @@ same-length-3 : tie.Need-same-length-3
 same-length-3 c = search needs
 
 returns-4 : tie.Need-returns-4
-returns-4 c = acted 1 _ (omega arith) (token-acts (c .before .before .before .before .before .before .before .before .before .before .before .before .before .before .args .source .now) (c .before .before .before .before .before .before .before .before .before .before .before .before .before .before .args .token) (c .before .before .before .before .before .before .before .before .before .before .if1 .left) ∙ ap (λ (b : Bool). cond b (keyword ∷ []) (text ∷ [])) (ap (changesCase (c .before .before .before .before .before .before .before .before .before .before .before .before .before .before .args .token .kind)) (sym (c .before .before .before .before .before .before .before .before .before .token-text .ensures)) ∙ sym (c .before .before .before .before .before .is-cased .ensures) ∙ c .before .before .before .before .if3 .left)) (texted (c .before .before .before .before .before .before .before .before .before .token-text .result .now) (c .before .before .before .before .before .before .before .before .before .token-text .ensures) (c .before .before .write-token2 .ensures))
+returns-4 c = acted 1 _ (omega arith) (token-acts (c .before .before .before .before .before .before .before .before .before .before .before .before .before .before .args .source .now) (c .before .before .before .before .before .before .before .before .before .before .before .before .before .before .args .token) (c .before .before .before .before .before .before .before .before .before .before .if1 .left) ∙ ap (λ (b : Bool). cond b (writeKeyword ∷ []) (writeText ∷ [])) (ap (changesCase (c .before .before .before .before .before .before .before .before .before .before .before .before .before .before .args .token .kind)) (sym (c .before .before .before .before .before .before .before .before .before .token-text .ensures)) ∙ sym (c .before .before .before .before .before .is-cased .ensures) ∙ c .before .before .before .before .if3 .left)) (did-text (c .before .before .before .before .before .before .before .before .before .token-text .result .now) (c .before .before .before .before .before .before .before .before .before .token-text .ensures) (c .before .before .write-token2 .ensures))
 
 pub emit-token-spec : {M : Type 1} → statement M
 emit-token-spec =

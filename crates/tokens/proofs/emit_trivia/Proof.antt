@@ -1,4 +1,4 @@
--- `emit_trivia` meets its contract. Assumes nothing.
+-- `emit_trivia` meets its contract.
 use borrow.Author.Needs.{needs}
 use native.Mathlib.Omega.{arith}
 use borrow.Author.Tests.{eq-eqb, ne-eqb}

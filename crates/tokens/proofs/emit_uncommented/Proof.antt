@@ -1,9 +1,9 @@
--- `emit_uncommented` meets its contract. Assumes nothing.
+-- `emit_uncommented` meets its contract.
 use borrow.Author.Needs.{needs}
 use native.Mathlib.Omega.{arith}
 use borrow.Author.Tests.{ne-eqb}
 use Rattle.tokens.proofs.Runs.{acted}
-use Rattle.tokens.specs.Promise.{emitUncommented}
+use Rattle.tokens.specs.TokenPromises.{emitUncommented}
 use Rattle.layout.specs.Arms.{seen}
 use Rattle.tokens.proofs.emit_uncommented.Statement.{statement}
 use Rattle.tokens.proofs.emit_uncommented.Tie as tie

@@ -1,4 +1,4 @@
--- `format_error_verbatim` meets its contract. Assumes nothing.
+-- `format_error_verbatim` meets its contract.
 use borrow.Author.Needs.{needs}
 use native.Mathlib.Omega.{arith}
 use mathlib.Core.Path.{ap}

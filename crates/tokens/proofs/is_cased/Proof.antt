@@ -1,4 +1,4 @@
--- `is_cased` meets its contract. Assumes nothing.
+-- `is_cased` meets its contract.
 use borrow.Author.Needs.{needs}
 use borrow.Author.Tests.{eq-eqb, ne-eqb}
 use Rattle.tokens.proofs.is_cased.Statement.{statement}

@@ -1,4 +1,4 @@
--- `is_line_comment` meets its contract. Assumes nothing.
+-- `is_line_comment` meets its contract.
 use borrow.Author.Needs.{needs}
 use mathlib.Core.Path.{_∙_, sym}
 use borrow.Author.Tests.{ne-eqb}

@@ -1,4 +1,4 @@
--- `is_trivia` meets its contract. Assumes nothing.
+-- `is_trivia` meets its contract.
 use borrow.Author.Tests.{eq-eqb, ne-eqb}
 use Rattle.tokens.proofs.is_trivia.Statement.{statement}
 use Rattle.tokens.proofs.is_trivia.Tie as tie

@@ -1,4 +1,4 @@
--- `line_or_space` meets its contract. Assumes nothing.
+-- `line_or_space` meets its contract.
 use borrow.Author.Needs.{needs}
 use native.Mathlib.Omega.{arith}
 use mathlib.Core.Path.{_∙_, refl, sym}

@@ -1,4 +1,4 @@
--- `name_before` meets its contract. Assumes nothing.
+-- `name_before` meets its contract.
 use borrow.Author.Needs.{needs}
 use mathlib.Core.Bool.{or-false}
 use borrow.Author.Tests.{eq-eqb, ne-eqb}

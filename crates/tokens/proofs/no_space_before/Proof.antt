@@ -1,4 +1,4 @@
--- `no_space_before` meets its contract: the keys of its arms against the list of the definition. Assumes nothing.
+-- `no_space_before` meets its contract: the keys of its arms against the list of the definition.
 use mathlib.Core.List.{[], _∷_}
 use mathlib.Core.Bool.{true}
 use mathlib.Core.Path.{refl}

@@ -1,4 +1,4 @@
--- `note` meets its contract. Assumes nothing.
+-- `note` meets its contract.
 use borrow.Author.Needs.{needs}
 use Rattle.tokens.proofs.Runs.{as-note}
 use Rattle.tokens.proofs.note.Statement.{statement}

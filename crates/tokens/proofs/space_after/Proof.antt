@@ -1,4 +1,4 @@
--- `space_after` meets its contract. Assumes nothing.
+-- `space_after` meets its contract.
 use borrow.Author.Needs.{needs}
 use Rattle.layout.specs.Routines.{spaceAfter}
 use Rattle.tokens.proofs.space_after.Statement.{statement}

@@ -1,7 +1,7 @@
--- `space_if` meets its contract. Assumes nothing.
+-- `space_if` meets its contract.
 use borrow.Author.Needs.{needs}
 use mathlib.Core.Path.{refl}
-use Rattle.tokens.proofs.Runs.{did-silent}
+use Rattle.tokens.proofs.Runs.{did-unwritten}
 use Rattle.context.proofs.Writes.{spent-none}
 use Rattle.layout.specs.Arms.{space}
 use Rattle.layout.specs.Layout.{doSpacing}
@@ -13,7 +13,7 @@ write-space-requires c κs = search needs
 
 returns : tie.Need-returns
 unfolding doSpacing
-returns c = rw (c .before .if1 .taken) (did-silent space refl (c .write-space .ensures))
+returns c = rw (c .before .if1 .taken) (did-unwritten space refl (c .write-space .ensures))
 
 returns-2 : tie.Need-returns-2
 returns-2 c = rw (c .if1 .left) record { did = λ xs. refl; spent = spent-none }

@@ -1,6 +1,6 @@
--- `write_text` meets its contract. Assumes nothing.
+-- `write_text` meets its contract.
 use borrow.Author.Needs.{needs}
-use Rattle.tokens.proofs.Runs.{text-fits, texted}
+use Rattle.tokens.proofs.Runs.{did-text, text-fits}
 use Rattle.tokens.proofs.write_text.Statement.{statement}
 use Rattle.tokens.proofs.write_text.Tie as tie
 
@@ -14,7 +14,7 @@ same-length : tie.Need-same-length
 same-length c = search needs
 
 returns : tie.Need-returns
-returns c = texted (c .before .before .before .before .token-text .result .now) (c .before .before .before .before .token-text .ensures) (c .before .before .write-token .ensures)
+returns c = did-text (c .before .before .before .before .token-text .result .now) (c .before .before .before .before .token-text .ensures) (c .before .before .write-token .ensures)
 
 pub write-text-spec : {M : Type 1} → statement M
 write-text-spec = tie.close (tie.spec token-text-requires write-token-requires same-length returns)

@@ -1,6 +1,6 @@
--- `write_word` meets its contract. Assumes nothing.
+-- `write_word` meets its contract.
 use borrow.Author.Needs.{needs}
-use Rattle.tokens.proofs.Runs.{cased, text-fits}
+use Rattle.tokens.proofs.Runs.{did-keyword, text-fits}
 use Rattle.tokens.proofs.write_word.Statement.{statement}
 use Rattle.tokens.proofs.write_word.Tie as tie
 
@@ -14,7 +14,7 @@ same-length : tie.Need-same-length
 same-length c = search needs
 
 returns : tie.Need-returns
-returns c = cased (c .before .before .before .before .token-text .result .now) (c .before .before .before .before .token-text .ensures) (c .before .before .write-keyword .ensures)
+returns c = did-keyword (c .before .before .before .before .token-text .result .now) (c .before .before .before .before .token-text .ensures) (c .before .before .write-keyword .ensures)
 
 pub write-word-spec : {M : Type 1} → statement M
 write-word-spec =

@@ -1,4 +1,4 @@
--- `context::FormatterContext::dedent` meets its contract: at 0 it stays 0. Assumes nothing.
+-- `context::FormatterContext::dedent` meets its contract: at 0 it stays 0.
 use mathlib.Core.Path.{_≡_, ap}
 use Prim.Native.Nat.{ℕ, pred, _-_}
 use native.Mathlib.Omega.{arith}

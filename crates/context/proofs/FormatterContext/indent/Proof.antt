@@ -1,4 +1,4 @@
--- `context::FormatterContext::indent` meets its contract. Assumes nothing.
+-- `context::FormatterContext::indent` meets its contract.
 use mathlib.Core.Path.{ap}
 use Prim.Native.Nat.{ℕ}
 use native.Mathlib.Numerals.{add-one}

@@ -1,4 +1,4 @@
--- `context::FormatterContext::note_skipped_whitespace` meets its contract: the two tests of the count. Assumes nothing.
+-- `context::FormatterContext::note_skipped_whitespace` meets its contract: the two tests of the count.
 use native.Mathlib.Omega.{arith}
 use Rattle.context.specs.Context.{noteSkippedWhitespace}
 use borrow.Author.Needs.{needs}

@@ -1,4 +1,4 @@
--- `context::FormatterContext::take_pending_blank_line` meets its contract. Assumes nothing.
+-- `context::FormatterContext::take_pending_blank_line` meets its contract.
 use borrow.Author.Needs.{needs}
 use Rattle.context.specs.Context.{takePendingBlankLine}
 use Rattle.context.proofs.FormatterContext.take_pending_blank_line.Statement.{statement}

@@ -1,4 +1,4 @@
--- `context::FormatterContext::take_pending_newline` meets its contract. Assumes nothing.
+-- `context::FormatterContext::take_pending_newline` meets its contract.
 use borrow.Author.Needs.{needs}
 use Rattle.context.specs.Context.{takePendingNewline}
 use Rattle.context.proofs.FormatterContext.take_pending_newline.Statement.{statement}

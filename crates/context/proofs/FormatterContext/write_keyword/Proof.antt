@@ -1,4 +1,4 @@
--- `context::FormatterContext::write_keyword` meets its contract: the blanks and then the text in its case are one write. Assumes nothing.
+-- `context::FormatterContext::write_keyword` meets its contract: the blanks and then the text in its case are one write.
 use native.Mathlib.Omega.{arith}
 use Rattle.context.proofs.Writes.{keyword-wrote}
 use borrow.Author.Needs.{needs}

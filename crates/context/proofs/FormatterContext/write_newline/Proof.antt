@@ -1,4 +1,4 @@
--- `context::FormatterContext::write_newline` meets its contract. Assumes nothing.
+-- `context::FormatterContext::write_newline` meets its contract.
 use mathlib.Core.Path.{refl}
 use mathlib.Core.List.{[], _∷_}
 use native.Mathlib.Omega.{arith}

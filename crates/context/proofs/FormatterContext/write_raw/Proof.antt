@@ -1,4 +1,4 @@
--- `context::FormatterContext::write_raw` meets its contract. Assumes nothing.
+-- `context::FormatterContext::write_raw` meets its contract.
 use mathlib.Core.Path.{refl, sym, ap, _∙_}
 use mathlib.Core.Bool.{Bool}
 use native.Mathlib.Omega.{arith}

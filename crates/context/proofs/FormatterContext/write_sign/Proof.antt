@@ -1,4 +1,4 @@
--- `context::FormatterContext::write_sign` meets its contract: the blanks and then the sign are one write. Assumes nothing.
+-- `context::FormatterContext::write_sign` meets its contract: the blanks and then the sign are one write.
 use mathlib.Core.Path.{refl}
 use mathlib.Core.List.{[], _∷_}
 use native.Mathlib.Omega.{arith}

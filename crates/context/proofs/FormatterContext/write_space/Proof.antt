@@ -1,4 +1,4 @@
--- `context::FormatterContext::write_space` meets its contract. Assumes nothing.
+-- `context::FormatterContext::write_space` meets its contract.
 use mathlib.Core.Path.{_≡_, refl}
 use mathlib.Core.Bool.{Bool, true, false, cond, not, _||_}
 use native.Mathlib.Omega.{arith}

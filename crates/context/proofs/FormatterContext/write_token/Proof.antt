@@ -1,4 +1,4 @@
--- `context::FormatterContext::write_token` meets its contract: the blanks and then the text are one write. Assumes nothing.
+-- `context::FormatterContext::write_token` meets its contract: the blanks and then the text are one write.
 use native.Mathlib.Omega.{arith}
 use Rattle.context.specs.Cells.{fixed}
 use Rattle.context.proofs.Bytes.{bytes-fixed}

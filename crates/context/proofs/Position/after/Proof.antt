@@ -1,4 +1,4 @@
--- `context::Position::after` meets its contract. Assumes nothing.
+-- `context::Position::after` meets its contract.
 use mathlib.Core.Path.{refl, ap, _∙_}
 use Prim.Native.Nat.{_+_}
 use native.Mathlib.Omega.{arith}

@@ -1,10 +1,10 @@
--- `context::Position::after_byte` meets its contract. Assumes nothing.
+-- `context::Position::after_byte` meets its contract.
 use mathlib.Core.Path.{refl, sym, ap, _∙_}
 use mathlib.Core.List.{[], _∷_}
 use Prim.Native.Nat.{_+_}
 use Rattle.context.specs.Cells.{isWhiteSpace}
 use Rattle.context.specs.Trim.{trimmedAfter}
-use Rattle.context.proofs.Trimming.{trimmed-white, trimmed-solid}
+use Rattle.context.proofs.Trimming.{trimmed-white, trimmed-not-white}
 use Rattle.context.proofs.Writes.{advanced-blanks}
 use borrow.Author.Needs.{needs}
 use Rattle.context.proofs.Position.after_byte.Statement.{statement}
@@ -29,7 +29,7 @@ returns-2 : tie.Need-returns-2
 returns-2 c =
     let a = c .before .before .before .args in
     advanced-blanks (a .blanks) (a .b ∷ []) (a .self) _ _ refl
-    (sym (ap (trimmedAfter (a .self .length + a .blanks) (a .self .trimmed)) (trimmed-solid isWhiteSpace (a .b) (sym (c .before .is-white-space .ensures) ∙ c .if1 .left))))
+    (sym (ap (trimmedAfter (a .self .length + a .blanks) (a .self .trimmed)) (trimmed-not-white isWhiteSpace (a .b) (sym (c .before .is-white-space .ensures) ∙ c .if1 .left))))
 
 pub after-byte-spec : {M : Type 1} → statement M
 after-byte-spec = tie.close (tie.spec add-end add-end-2 is-white-space-requires returns returns-2)

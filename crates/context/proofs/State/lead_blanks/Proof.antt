@@ -1,4 +1,4 @@
--- `context::State::lead_blanks` meets its contract, by the test that leads to each answer. Assumes nothing.
+-- `context::State::lead_blanks` meets its contract, by the test that leads to each answer.
 use mathlib.Core.Path.{_≡_, refl}
 use mathlib.Core.Bool.{Bool, true, false, cond}
 use mathlib.Core.List.{[], _∷_}

@@ -1,4 +1,4 @@
--- `context::buffer::copy` meets its contract: after i turns the first i bytes of the text are laid over the part. Assumes nothing.
+-- `context::buffer::copy` meets its contract: after i passes the first i bytes of the text are laid over the part.
 use borrow.Author.Needs.{needs}
 use mathlib.Core.Path.{_≡_, refl, sym, _∙_}
 use Prim.Native.Nat.{_≤_, _<_, _-_, min}
@@ -6,7 +6,7 @@ use native.Mathlib.Nat.{min-le-left, min-le-right}
 use native.Mathlib.Omega.{arith}
 use lib.ListN.{length, take, getD, length-set}
 use Rattle.context.specs.Splice.{splice}
-use Rattle.context.proofs.Splicing.{splice-nil, loop-turn, loop-end}
+use Rattle.context.proofs.Splicing.{splice-nil, loop-step, loop-end}
 use Rattle.context.proofs.buffer.copy.Statement.{statement}
 use Rattle.context.proofs.buffer.copy.Tie as tie
 
@@ -40,7 +40,7 @@ loop-again c =
     let l = c .before .before .loop in
     let low = min-le-left (length (a .text .now)) (length (a .out .now)) in
     let more : l .i < length (a .text .now) = omega arith in (
-      loop-turn (a .text .now) (a .out .now) (l .out) (l .i) (getD (a .text .now) (l .i) 0) 0 (l .inv .0) more refl,
+      loop-step (a .text .now) (a .out .now) (l .out) (l .i) (getD (a .text .now) (l .i) 0) 0 (l .inv .0) more refl,
       length-set (l .out) (l .i) (getD (a .text .now) (l .i) 0) ∙ l .inv .1,
       omega arith,
       l .inv .3,

@@ -1,4 +1,4 @@
--- `context::buffer::copy_at` meets its contract: the part that starts at `at` is lent, or nothing is where there is none. Assumes nothing.
+-- `context::buffer::copy_at` meets its contract: the part that starts at `at` is lent, or nothing is where there is none.
 use mathlib.Core.Path.{sym}
 use Rattle.context.proofs.Splicing.{part-back, splice-past}
 use borrow.Author.Needs.{needs}

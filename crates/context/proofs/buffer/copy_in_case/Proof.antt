@@ -1,4 +1,4 @@
--- `context::buffer::copy_in_case` meets its contract: after i turns the first i bytes of the text, in the asked case, are laid over the part. Assumes nothing.
+-- `context::buffer::copy_in_case` meets its contract: after i passes the first i bytes of the text, in the asked case, are laid over the part.
 use mathlib.Core.Path.{_≡_, refl, sym, _∙_}
 use mathlib.Core.List.{map}
 use Prim.Native.Nat.{_≤_, _<_, _-_, min}
@@ -7,7 +7,7 @@ use native.Mathlib.Omega.{arith}
 use lib.ListN.{length, take, length-map, length-set, List·getD-map}
 use borrow.Author.Needs.{needs}
 use Rattle.context.specs.Splice.{splice}
-use Rattle.context.proofs.Splicing.{splice-nil, loop-turn, loop-end}
+use Rattle.context.proofs.Splicing.{splice-nil, loop-step, loop-end}
 use Rattle.context.specs.Cells.{toCase}
 use Rattle.context.proofs.buffer.copy_in_case.Statement.{statement}
 use Rattle.context.proofs.buffer.copy_in_case.Tie as tie
@@ -52,7 +52,7 @@ loop-again c =
     let f = toCase (a .uppercase) in
     let low = min-le-left (length p) (length (a .out .now)) in
     let more : at .loop .i < length p = omega arith in (
-      loop-turn (map f p) (a .out .now) (at .loop .out) (at .loop .i) (c .to-case .result) (f 0) (at .loop .inv .0) (rw length-map more) (List·getD-map f p (at .loop .i) 0 ∙ sym (c .to-case .ensures)),
+      loop-step (map f p) (a .out .now) (at .loop .out) (at .loop .i) (c .to-case .result) (f 0) (at .loop .inv .0) (rw length-map more) (List·getD-map f p (at .loop .i) 0 ∙ sym (c .to-case .ensures)),
       length-set (at .loop .out) (at .loop .i) (c .to-case .result) ∙ at .loop .inv .1,
       omega arith,
       at .loop .inv .3,

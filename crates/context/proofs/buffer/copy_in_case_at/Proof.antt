@@ -1,4 +1,4 @@
--- `context::buffer::copy_in_case_at` meets its contract: the part that starts at `at` is lent, or nothing is where there is none. Assumes nothing.
+-- `context::buffer::copy_in_case_at` meets its contract: the part that starts at `at` is lent, or nothing is where there is none.
 use mathlib.Core.Path.{sym}
 use mathlib.Core.List.{map}
 use Rattle.context.proofs.Splicing.{part-back, splice-past}

@@ -1,4 +1,4 @@
--- `context::buffer::count_newlines` meets its contract: after i turns the newlines among the first i bytes are counted. Assumes nothing.
+-- `context::buffer::count_newlines` meets its contract: after i passes the newlines among the first i bytes are counted.
 use mathlib.Core.Path.{_≡_, refl, ap, _∙_}
 use mathlib.Core.Bool.{Bool, true, false, cond}
 use mathlib.Core.List.{List, [], _∷_}
@@ -25,12 +25,12 @@ one-more true x = omega arith
 one-more false x = omega arith
 
 -- one byte more at the end
-count-turn : (s : List ℕ) (i : ℕ) → i < length s
+count-step : (s : List ℕ) (i : ℕ) → i < length s
     → count 10 (take (suc i) s) ≡ cond (eqb (getD s i 0) 10) (suc (count 10 (take i s))) (count 10 (take i s))
-count-turn [] i h = absurd (not-suc-le-zero h)
-count-turn (b ∷ s) zero h = one-more (eqb b 10) 0
-count-turn (b ∷ s) (suc i) h =
-    ap (λ (k : ℕ). cond (eqb b 10) 1 0 + k) (count-turn s i (le-of-suc-le-suc h)) ∙ swap (eqb b 10) (eqb (getD s i 0) 10) (count 10 (take i s))
+count-step [] i h = absurd (not-suc-le-zero h)
+count-step (b ∷ s) zero h = one-more (eqb b 10) 0
+count-step (b ∷ s) (suc i) h =
+    ap (λ (k : ℕ). cond (eqb b 10) 1 0 + k) (count-step s i (le-of-suc-le-suc h)) ∙ swap (eqb b 10) (eqb (getD s i 0) 10) (count 10 (take i s))
 
 abbrev Inv-loop : tie.InvT-loop
 Inv-loop s k₀ i₀ k i = (i ≤ length s) × (k ≤ i) × (k ≡ count 10 (take i s))
@@ -59,7 +59,7 @@ loop-again c =
     let s = at .before .args .text .now in
     let i = at .loop .i in
     let t : i < length s = omega arith in
-    let e = count-turn s i t in
+    let e = count-step s i t in
     ⊎-elim
     (λ w. (omega arith, omega arith, rw (add-one i, e, eq-eqb _ _ (w .0 .taken)) (w .1 ∙ add-one _ ∙ ap suc (at .loop .inv .2))))
     (λ w. (omega arith, omega arith, rw (add-one i, e, ne-eqb _ _ (w .0 .left)) (w .1 ∙ at .loop .inv .2)))

@@ -1,4 +1,4 @@
--- `context::buffer::ends_in_newline` meets its contract. Assumes nothing.
+-- `context::buffer::ends_in_newline` meets its contract.
 use mathlib.Core.Path.{_≡_, refl}
 use mathlib.Core.List.{List, [], _∷_}
 use mathlib.Core.Bool.{false}

@@ -1,4 +1,4 @@
--- `context::buffer::fill` meets its contract: after i turns the first i of the n bytes are laid over the part. Assumes nothing.
+-- `context::buffer::fill` meets its contract: after i passes the first i of the n bytes are laid over the part.
 use mathlib.Core.Path.{_≡_, refl, sym, _∙_}
 use Prim.Native.Nat.{_≤_, _<_, _-_, min}
 use native.Mathlib.Nat.{min-le-left, min-le-right}
@@ -6,7 +6,7 @@ use native.Mathlib.Omega.{arith}
 use lib.ListN.{length, take, replicate, length-replicate, getD-replicate, length-set}
 use borrow.Author.Needs.{needs}
 use Rattle.context.specs.Splice.{splice}
-use Rattle.context.proofs.Splicing.{splice-nil, loop-turn, loop-end}
+use Rattle.context.proofs.Splicing.{splice-nil, loop-step, loop-end}
 use Rattle.context.proofs.buffer.fill.Statement.{statement}
 use Rattle.context.proofs.buffer.fill.Tie as tie
 
@@ -39,7 +39,7 @@ loop-again c =
     let len = length-replicate n (a .b) in
     let low = min-le-left n (length (a .out .now)) in
     let more : at .loop .i < n = omega arith in (
-      loop-turn (replicate n (a .b)) (a .out .now) (at .loop .out) (at .loop .i) (a .b) 0 (at .loop .inv .0) (rw len more) (getD-replicate n (at .loop .i) (a .b) 0 more),
+      loop-step (replicate n (a .b)) (a .out .now) (at .loop .out) (at .loop .i) (a .b) 0 (at .loop .inv .0) (rw len more) (getD-replicate n (at .loop .i) (a .b) 0 more),
       length-set (at .loop .out) (at .loop .i) (a .b) ∙ at .loop .inv .1,
       omega arith,
       at .loop .inv .3,

@@ -1,4 +1,4 @@
--- `context::buffer::is_white_space` meets its contract. Assumes nothing.
+-- `context::buffer::is_white_space` meets its contract.
 use borrow.Author.Tests.{eq-eqb, ne-eqb, le-leb, lt-leb}
 use Rattle.context.specs.Cells.{isWhiteSpace}
 use Rattle.context.proofs.buffer.is_white_space.Statement.{statement}

@@ -1,4 +1,4 @@
--- `context::buffer::to_case` meets its contract, by the tests that lead to each answer. Assumes nothing.
+-- `context::buffer::to_case` meets its contract, by the tests that lead to each answer.
 use borrow.Author.Tests.{le-leb, lt-leb}
 use Rattle.basics.specs.Case.{toUppercase, toLowercase}
 use borrow.Author.Needs.{needs}

@@ -1,4 +1,4 @@
--- `context::buffer::trimmed_after` meets its contract. Assumes nothing.
+-- `context::buffer::trimmed_after` meets its contract.
 use Rattle.context.proofs.Trimming.{after-some}
 use borrow.Author.Needs.{needs}
 use Rattle.context.proofs.buffer.trimmed_after.Statement.{statement}

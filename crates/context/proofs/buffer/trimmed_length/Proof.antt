@@ -1,4 +1,4 @@
--- `context::buffer::trimmed_length` meets its contract: what lies from n on is white space. Assumes nothing.
+-- `context::buffer::trimmed_length` meets its contract: what lies from n on is white space.
 use mathlib.Core.Path.{_≡_, sym, ap, _∙_}
 use Prim.Native.Nat.{ℕ, _≤_}
 use native.Mathlib.Nat.{le-refl}

@@ -1,4 +1,4 @@
--- `put_decimal` meets its contract. The measure is the places left. Assumes nothing.
+-- `put_decimal` meets its contract. The measure is the places left.
 use mathlib.Core.Path.{_∙_}
 use native.Mathlib.Omega.{arith}
 use Rattle.desk_job.proofs.Writing.{decimal-last, decimal-more, decimal-none, same-length-of, within, wrote-nothing, wrote-then}

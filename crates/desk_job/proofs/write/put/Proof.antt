@@ -1,4 +1,4 @@
--- `put` meets its contract. Assumes nothing.
+-- `put` meets its contract.
 use borrow.Author.Needs.{needs}
 use native.Mathlib.Omega.{arith}
 use Rattle.desk_job.proofs.Writing.{wrote-one, wrote-past}

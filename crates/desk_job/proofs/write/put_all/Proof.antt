@@ -1,9 +1,9 @@
--- `put_all` meets its contract: after i turns the first i bytes are written. Assumes nothing.
+-- `put_all` meets its contract: after i passes the first i bytes are written.
 use borrow.Author.Needs.{needs}
 use Prim.Native.Nat.{_-_, _≤_}
 use native.Mathlib.Omega.{arith}
 use lib.ListN.{length, take}
-use Rattle.desk_job.proofs.Writing.{Wrote, same-length-of, within, wrote-all, wrote-nothing, wrote-turn}
+use Rattle.desk_job.proofs.Writing.{Wrote, same-length-of, within, wrote-all, wrote-nothing, wrote-step}
 use Rattle.desk_job.proofs.write.put_all.Statement.{statement}
 use Rattle.desk_job.proofs.write.put_all.Tie as tie
 
@@ -29,7 +29,7 @@ loop-less : tie.Need-loop-less Inv-loop μ-loop
 loop-less c = search needs
 
 loop-again : tie.Need-loop-again Inv-loop μ-loop
-loop-again c = (wrote-turn (c .before .before .before .before .before .before .before .before .before .args .start) (c .before .before .before .before .before .before .before .before .before .args .out .now) (c .before .before .before .before .before .before .before .before .before .args .text .now) (c .before .before .before .before .before .before .loop .i) (c .before .before .before .before .before .loop-test .taken) (c .before .before .before .before .before .before .loop .inv .0) (c .before .before .put .ensures), omega arith)
+loop-again c = (wrote-step (c .before .before .before .before .before .before .before .before .before .args .start) (c .before .before .before .before .before .before .before .before .before .args .out .now) (c .before .before .before .before .before .before .before .before .before .args .text .now) (c .before .before .before .before .before .before .loop .i) (c .before .before .before .before .before .loop-test .taken) (c .before .before .before .before .before .before .loop .inv .0) (c .before .before .put .ensures), omega arith)
 
 same-length : tie.Need-same-length Inv-loop μ-loop
 same-length c = same-length-of (c .before .before .before .before .args .start) _ (c .before .before .before .before .args .out .now) (c .before .loop .inv .0)

@@ -1,4 +1,4 @@
--- `is_copied` meets its contract. Assumes nothing.
+-- `is_copied` meets its contract.
 use borrow.Author.Needs.{needs}
 use mathlib.Core.Path.{_∙_}
 use Rattle.formatter.proofs.Copied.{copied-error, copied-list, copied-other}

@@ -1,4 +1,4 @@
--- `blank` meets its contract: after i turns the first i bytes are 255. Assumes nothing.
+-- `blank` meets its contract: after i passes the first i bytes are 255.
 use mathlib.Core.List.{List, _++_}
 use Prim.Native.Nat.{ℕ, _≤_, _-_}
 use lib.ListN.{set, length, drop, replicate, length-set}

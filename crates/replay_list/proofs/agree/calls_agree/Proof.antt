@@ -1,4 +1,4 @@
--- `calls_agree` meets its contract, by the first comparison that fails. Assumes nothing.
+-- `calls_agree` meets its contract, by the first comparison that fails.
 use lib.ListN.{length}
 use Rattle.layout.specs.Layout.{original}
 use Rattle.layout.specs.Outcome.{outcome}

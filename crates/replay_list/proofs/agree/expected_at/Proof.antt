@@ -1,4 +1,4 @@
--- `expected_at` meets its contract. Assumes nothing.
+-- `expected_at` meets its contract.
 use mathlib.Core.Path.{sym}
 use borrow.Author.Needs.{needs}
 use lib.ListN.{List·getD-eq-default}

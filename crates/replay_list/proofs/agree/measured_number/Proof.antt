@@ -1,4 +1,4 @@
--- `measured_number` meets its contract. Assumes nothing.
+-- `measured_number` meets its contract.
 use borrow.Author.Tests.{eq-eqb, ne-eqb}
 use Rattle.replay_list.proofs.agree.measured_number.Statement.{statement}
 use Rattle.replay_list.proofs.agree.measured_number.Tie as tie

@@ -1,4 +1,4 @@
--- `same_answer` meets its contract. Assumes nothing.
+-- `same_answer` meets its contract.
 use borrow.Author.Tests.{eq-eqb, ne-eqb}
 use Rattle.replay_list.proofs.agree.same_answer.Statement.{statement}
 use Rattle.replay_list.proofs.agree.same_answer.Tie as tie

@@ -1,4 +1,4 @@
--- `same_space` meets its contract: after i turns what is left of the two decides. Assumes nothing.
+-- `same_space` meets its contract: after i passes what is left of the two decides.
 use mathlib.Core.Path.{_≡_, refl, sym, _∙_}
 use Prim.Native.Nat.{_≤_, _-_}
 use native.Mathlib.Omega.{arith}
@@ -6,7 +6,7 @@ use borrow.Author.Needs.{needs}
 use borrow.Author.Tests.{eq-eqb, ne-eqb}
 use lib.ListN.{length, drop, drop-of-length-le}
 use Rattle.keywords.specs.Words.{same}
-use Rattle.keywords.proofs.Same.{same-lengths, same-turn, same-nil}
+use Rattle.keywords.proofs.Same.{same-lengths, same-step, same-nil}
 use Rattle.replay_list.proofs.Agreeing.{expected, expected-byte, length-expected, longer-expected}
 use Rattle.replay_list.proofs.agree.same_space.Statement.{statement}
 use Rattle.replay_list.proofs.agree.same_space.Tie as tie
@@ -41,7 +41,7 @@ returns-2 c =
     let i = at .loop .i in
     let all = expected (a .expected .now) (length out) in
     let l = length-expected (a .expected .now) (length out) (at .loop .inv .1) in
-    let t = same-turn out all i (omega arith) (omega arith) in
+    let t = same-step out all i (omega arith) (omega arith) in
     sym (at .loop .inv .2 ∙ t ∙ rw (expected-byte (a .expected .now) (length out) i (omega arith), ← (c .before .expected-at .ensures)) (simp (ne-eqb _ _ (c .if2 .taken))))
 
 add-i : tie.Need-add-i Inv-loop μ-loop
@@ -58,7 +58,7 @@ loop-again c =
     let i = at .loop .i in
     let all = expected (a .expected .now) (length out) in
     let l = length-expected (a .expected .now) (length out) (at .loop .inv .1) in
-    let t = same-turn out all i (omega arith) (omega arith) in
+    let t = same-step out all i (omega arith) (omega arith) in
     (omega arith, at .loop .inv .1, at .loop .inv .2 ∙ t ∙ rw (expected-byte (a .expected .now) (length out) i (omega arith), ← (c .before .expected-at .ensures)) (simp (eq-eqb _ _ (c .if2 .left))))
 
 returns-3 : tie.Need-returns-3 Inv-loop μ-loop

@@ -1,4 +1,4 @@
--- `print_bad` meets its contract: three writes in a row are one. Assumes nothing.
+-- `print_bad` meets its contract: three writes in a row are one.
 use Rattle.desk_job.proofs.Writing.{within, wrote-then}
 use Rattle.replay_list.specs.Line.{badLine}
 use borrow.Author.Needs.{needs}

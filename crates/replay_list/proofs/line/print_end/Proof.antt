@@ -1,4 +1,4 @@
--- `print_end` meets its contract: writes in a row are one. Assumes nothing.
+-- `print_end` meets its contract: writes in a row are one.
 use borrow.Author.Tests.{eq-eqb, ne-eqb}
 use Rattle.desk_job.proofs.Writing.{within, wrote-then}
 use Rattle.replay_list.specs.Line.{endLine}

@@ -1,6 +1,6 @@
--- `fits` meets its contract: its tests are those of the definition. Assumes nothing.
+-- `fits` meets its contract: its tests are those of the definition.
 use borrow.Author.Tests.{lt-leb}
-use Rattle.desk_job.proofs.Reading.{told-false, told-true}
+use Rattle.desk_job.proofs.Reading.{answered-false, answered-true}
 use Rattle.replay_list.specs.Record.{fitting}
 use Rattle.replay_list.proofs.Limits.{layout-left}
 use borrow.Author.Needs.{needs}
@@ -12,24 +12,24 @@ run-fits-requires c κs = search needs
 
 returns : tie.Need-returns
 unfolding fitting
-returns c = simp (told-false (c .before .run-fits .ensures) (c .if1 .taken))
+returns c = simp (answered-false (c .before .run-fits .ensures) (c .if1 .taken))
 
 run-fits-requires-2 : tie.Need-run-fits-requires-2
 run-fits-requires-2 c κs = search needs
 
 returns-2 : tie.Need-returns-2
 unfolding fitting
-returns-2 c = simp (told-true (c .before .before .before .run-fits .ensures) (c .before .before .if1 .left), told-false (c .before .run-fits2 .ensures) (c .if2 .taken))
+returns-2 c = simp (answered-true (c .before .before .before .run-fits .ensures) (c .before .before .if1 .left), answered-false (c .before .run-fits2 .ensures) (c .if2 .taken))
 
 returns-3 : tie.Need-returns-3
 unfolding fitting
-returns-3 c = simp (told-true (c .before .before .before .before .before .run-fits .ensures) (c .before .before .before .before .if1 .left), told-true (c .before .before .before .run-fits2 .ensures) (c .before .before .if2 .left), lt-leb _ _ (c .if3 .taken))
+returns-3 c = simp (answered-true (c .before .before .before .before .before .run-fits .ensures) (c .before .before .before .before .if1 .left), answered-true (c .before .before .before .run-fits2 .ensures) (c .before .before .if2 .left), lt-leb _ _ (c .if3 .taken))
 
 layout-length-requires : tie.Need-layout-length-requires
 layout-length-requires c κs = search needs
 
 returns-4 : tie.Need-returns-4
-returns-4 c = layout-left (c .before .before .before .before .before .before .before .before .args .head) _ (told-true (c .before .before .before .before .before .before .before .run-fits .ensures) (c .before .before .before .before .before .before .if1 .left)) (told-true (c .before .before .before .before .before .run-fits2 .ensures) (c .before .before .before .before .if2 .left)) (c .before .before .if3 .left) (c .before .layout-length .ensures)
+returns-4 c = layout-left (c .before .before .before .before .before .before .before .before .args .head) _ (answered-true (c .before .before .before .before .before .before .before .run-fits .ensures) (c .before .before .before .before .before .before .if1 .left)) (answered-true (c .before .before .before .before .before .run-fits2 .ensures) (c .before .before .before .before .if2 .left)) (c .before .before .if3 .left) (c .before .layout-length .ensures)
 
 pub fits-spec : {M : Type 1} → statement M
 fits-spec =

@@ -1,4 +1,4 @@
--- `layout_length` meets its contract. Assumes nothing.
+-- `layout_length` meets its contract.
 use borrow.Author.Tests.{eq-eqb, ne-eqb}
 use Rattle.replay_list.proofs.record.layout_length.Statement.{statement}
 use Rattle.replay_list.proofs.record.layout_length.Tie as tie

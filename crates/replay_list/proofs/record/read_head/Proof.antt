@@ -1,4 +1,4 @@
--- `read_head` meets its contract. Assumes nothing.
+-- `read_head` meets its contract.
 use borrow.Author.Needs.{needs}
 use Rattle.replay_list.specs.Record.{headOf}
 use Rattle.replay_list.proofs.record.read_head.Statement.{statement}

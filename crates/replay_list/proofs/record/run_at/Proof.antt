@@ -1,4 +1,4 @@
--- `run_at` meets its contract. Assumes nothing.
+-- `run_at` meets its contract.
 use borrow.Author.Needs.{needs}
 use Rattle.replay_list.proofs.record.run_at.Statement.{statement}
 use Rattle.replay_list.proofs.record.run_at.Tie as tie

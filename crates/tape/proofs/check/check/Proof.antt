@@ -1,11 +1,11 @@
--- `check` meets its contract. The loop's invariant is `Checking`, the measure what is left of the tape; each exit and each turn is one law of `Turns`. Assumes nothing.
+-- `check` meets its contract. The loop's invariant is `Checking`, the measure what is left of the tape; each exit and each turn is one law of `Turns`.
 use Prim.Native.Nat.{_-_}
 use native.Mathlib.Omega.{arith}
 use mathlib.Core.Path.{sym, _∙_}
 use mathlib.Core.Logic.{⊎-elim}
 use lib.ListN.{length}
 use Rattle.tape.proofs.Facts.{at-close, at-open, at-token, at-cut, at-unknown}
-use Rattle.tape.proofs.Turns.{Checking, start, broken, stray-close, stray-token, second-root, faulty-token, faulty-open, next-close, next-token, next-open, end-open, no-root, end-root}
+use Rattle.tape.proofs.CheckSteps.{Checking, start, broken, stray-close, stray-token, second-root, faulty-token, faulty-open, next-close, next-token, next-open, end-open, no-root, end-root}
 use borrow.Author.Needs.{needs}
 use Rattle.tape.proofs.check.check.Statement.{statement}
 use Rattle.tape.proofs.check.check.Tie as tie

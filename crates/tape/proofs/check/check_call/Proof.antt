@@ -1,4 +1,4 @@
--- `check_call` meets its contract: each answer by the tests that led to it. Assumes nothing.
+-- `check_call` meets its contract: each answer by the tests that led to it.
 use borrow.Author.Tests.{lt-ltb, le-ltb}
 use Rattle.tape.specs.Call.{readCall}
 use borrow.Author.Needs.{needs}

@@ -1,4 +1,4 @@
--- `check_input` meets its contract: each answer by the tests that led to it. Assumes nothing.
+-- `check_input` meets its contract: each answer by the tests that led to it.
 use mathlib.Core.Path.{sym, _∙_}
 use borrow.Author.Tests.{lt-ltb, le-ltb}
 use Rattle.tape.specs.Call.{readInput}

@@ -1,4 +1,4 @@
--- `first_non_ascii` meets its contract: the first such byte of the text is the first of what is left. Assumes nothing.
+-- `first_non_ascii` meets its contract: the first such byte of the text is the first of what is left.
 use Prim.Native.Nat.{_≤_, _-_}
 use native.Mathlib.Omega.{arith}
 use mathlib.Core.Path.{_≡_, refl, sym, _∙_}

@@ -1,4 +1,4 @@
--- `is_ascii` meets its contract: no byte passed is above the highest. Assumes nothing.
+-- `is_ascii` meets its contract: no byte passed is above the highest.
 use Prim.Native.Nat.{ℕ, _≤_, _<_, _-_}
 use native.Mathlib.Omega.{arith}
 use mathlib.Core.Logic.{⊎-elim}

@@ -1,4 +1,4 @@
--- `check_open` meets its contract: each answer by the tests that led to it. Assumes nothing.
+-- `check_open` meets its contract: each answer by the tests that led to it.
 use Rattle.tape.specs.Tape.{checkOpen}
 use mathlib.Core.Logic.{⊎-elim}
 use borrow.Author.Tests.{lt-ltb, le-ltb, le-leb, lt-leb}

@@ -1,4 +1,4 @@
--- `check_token` meets its contract: each answer by the tests that led to it. Assumes nothing.
+-- `check_token` meets its contract: each answer by the tests that led to it.
 use Rattle.tape.specs.Tape.{checkToken}
 use borrow.Author.Tests.{lt-ltb, le-ltb}
 use Rattle.tape.proofs.commands.check_token.Statement.{statement}

@@ -1,4 +1,4 @@
--- `head_at` meets its contract: its parts are what `u16_at` and `u32_at` promise. Assumes nothing.
+-- `head_at` meets its contract: its parts are what `u16_at` and `u32_at` promise.
 use Rattle.tape.specs.Tape.{headAt}
 use borrow.Author.Needs.{needs}
 use Rattle.tape.proofs.commands.head_at.Statement.{statement}

@@ -1,4 +1,4 @@
--- `not_carried` meets its contract: the keys of its arms against the list of the definition, by computed tests. Assumes nothing.
+-- `not_carried` meets its contract: the keys of its arms against the list of the definition, by computed tests.
 use Rattle.basics.proofs.Match.{arm-is, not-among}
 use Rattle.tape.specs.Kinds.{notCarried, kindsNotCarried}
 use mathlib.Core.List.{[], _∷_}

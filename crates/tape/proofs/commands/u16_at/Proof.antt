@@ -1,4 +1,4 @@
--- `u16_at` meets its contract: bytes are below 256, so that nothing wraps. Assumes nothing.
+-- `u16_at` meets its contract: bytes are below 256, so that nothing wraps.
 use Prim.Native.Nat.{_+_}
 use native.Mathlib.Omega.{arith}
 use borrow.Author.Needs.{needs}

@@ -1,10 +1,10 @@
--- `has_child` meets its contract: what is asked of all children is asked of those left. Assumes nothing.
+-- `has_child` meets its contract: what is asked of all children is asked of those left.
 use Prim.Native.Nat.{_-_}
 use native.Mathlib.Omega.{arith}
 use mathlib.Core.Path.{sym, _∙_}
 use lib.ListN.{length}
 use Rattle.tape.specs.Tree.{hasChild}
-use Rattle.tape.proofs.Looks.{Looking, look-first, look-inside, look-node, look-token, look-past, look-found, look-end, child-found, child-past, child-token, child-end}
+use Rattle.tape.proofs.Scans.{Looking, look-first, look-inside, look-node, look-token, look-past, look-found, look-end, child-found, child-past, child-token, child-end}
 use Rattle.tape.proofs.scan.has_child.Statement.{statement}
 use Rattle.tape.proofs.scan.has_child.Tie as tie
 
@@ -39,7 +39,7 @@ skip-requires : tie.Need-skip-requires Inv-loop μ-loop
 skip-requires c κs = look-node _ _ (c .before .before .before .before .before .before .loop .inv) (c .before .before .if2 .taken)
 
 loop-less : tie.Need-loop-less Inv-loop μ-loop
-loop-less c = omega (arith, look-inside _ _ (c .before .before .before .before .before .before .before .loop .inv), c .skip .ensures .on)
+loop-less c = omega (arith, look-inside _ _ (c .before .before .before .before .before .before .before .loop .inv), c .skip .ensures .forward)
 
 loop-again : tie.Need-loop-again Inv-loop μ-loop
 loop-again c = look-past _ _ (c .before .before .before .before .before .before .before .loop .inv) _ (child-past _ _ _ (λ e. c .before .if3 .left (c .before .before .u16-at .ensures ∙ e))) (c .before .before .before .if2 .taken) (c .skip .ensures)

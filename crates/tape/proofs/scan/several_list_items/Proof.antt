@@ -1,9 +1,9 @@
--- `several_list_items` meets its contract: what is asked of all children is asked of those left. Assumes nothing.
+-- `several_list_items` meets its contract: what is asked of all children is asked of those left.
 use Prim.Native.Nat.{_-_}
 use native.Mathlib.Omega.{arith}
 use lib.ListN.{length}
 use Rattle.tape.specs.Tree.{severalListItems}
-use Rattle.tape.proofs.Looks.{Looking, look-inside, look-node, look-token, look-past, look-found, look-end, more, more-first, more-found, more-past, more-token, more-end}
+use Rattle.tape.proofs.Scans.{Looking, look-inside, look-node, look-token, look-past, look-found, look-end, more, more-first, more-found, more-past, more-token, more-end}
 use Rattle.tape.proofs.scan.several_list_items.Statement.{statement}
 use Rattle.tape.proofs.scan.several_list_items.Tie as tie
 
@@ -32,7 +32,7 @@ skip-requires : tie.Need-skip-requires Inv-loop μ-loop
 skip-requires c κs = look-node _ _ (c .before .before .before .before .before .loop .inv) (c .before .if2 .taken)
 
 loop-less : tie.Need-loop-less Inv-loop μ-loop
-loop-less c = omega (arith, look-inside _ _ (c .before .before .before .before .before .before .loop .inv), c .skip .ensures .on)
+loop-less c = omega (arith, look-inside _ _ (c .before .before .before .before .before .before .loop .inv), c .skip .ensures .forward)
 
 loop-again : tie.Need-loop-again Inv-loop μ-loop
 loop-again c = look-past _ _ (c .before .before .before .before .before .before .loop .inv) _ (more-past _ _ (c .before .if3 .left)) (c .before .before .if2 .taken) (c .skip .ensures)

@@ -1,4 +1,4 @@
--- `skip` meets its contract. The loops' invariant is `Skipping`, the measure what is left of the tape. Assumes nothing.
+-- `skip` meets its contract. The loops' invariant is `Skipping`, the measure what is left of the tape.
 use Prim.Native.Nat.{_-_, _≤_, _<_}
 use native.Mathlib.Omega.{arith}
 use lib.ListN.{length}

@@ -1,5 +1,4 @@
 -- Small inputs and their answers: document 01's table, what else is refused or accepted, and which of several faults decides.
--- Assumes nothing.
 use Prim.Native.Nat.{ℕ, zero, suc}
 use mathlib.Core.Bool.{Bool, true, _&&_}
 use mathlib.Core.List.{List, [], _∷_, _++_}
@@ -19,13 +18,13 @@ pub record Sample : Type 0 where
   pub number : ℕ
   pub place : ℕ
 
-abbrev pub told : Read Tree → ℕ → ℕ → Bool
-told (refused f p) n q = eqb (number f) n && eqb p q
-told (got t p) n q = eqb n 0
+abbrev pub answeredAs : Read Tree → ℕ → ℕ → Bool
+answeredAs (refused f p) n q = eqb (number f) n && eqb p q
+answeredAs (got t p) n q = eqb n 0
 
 abbrev pub hold : List Sample → Bool
 hold [] = true
-hold (s ∷ ss) = told (readCall (s .width) (s .case) (s .text) (s .tape)) (s .number) (s .place) && hold ss
+hold (s ∷ ss) = answeredAs (readCall (s .width) (s .case) (s .text) (s .tape)) (s .number) (s .place) && hold ss
 
 -- width 4, upper case
 abbrev pub sample : List ℕ → List ℕ → ℕ → ℕ → Sample

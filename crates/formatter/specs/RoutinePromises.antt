@@ -1,4 +1,4 @@
--- What the routines and the dispatch ask and promise. Assumes nothing: these are definitions.
+-- What the routines and the dispatch ask and promise.
 use mathlib.Core.Path.{_≡_}
 use mathlib.Core.Bool.{Bool, false}
 use mathlib.Core.List.{List}
@@ -10,7 +10,7 @@ use Rattle.context.specs.declared.FormatConfig.{FormatConfig}
 use Rattle.context.specs.declared.FormatterContext.{FormatterContext}
 use Rattle.tape.specs.Tree.{Children, size, height, hasError}
 use Rattle.tape.specs.Tape.{headAt}
-use Rattle.tape.specs.Lies.{Lies}
+use Rattle.tape.specs.SpelledAt.{SpelledAt}
 use Rattle.layout.specs.Arms.{Arms}
 use Rattle.layout.specs.FormatNode.{formatNode}
 use Rattle.layout.specs.Calls.{Call, walk, calls}
@@ -40,12 +40,12 @@ pub record NodeReady (source tape : List ℕ) (config : FormatConfig) (errors : 
   pub room : RoomAt 8 i c
   pub span : headAt tape i .start ≤ headAt tape i .end → headAt tape i .end ≤ length source
   pub kids : Children
-  pub lies : Lies (length source) tape (i + 11) kids
+  pub spelled : SpelledAt (length source) tape (i + 11) kids
   pub low : height kids ≤ left
   pub clean : errors ≡ false → hasError (record { head = headAt tape i; kids = kids }) ≡ false
 
 -- for these children, w and ys come of the calls
-pub record Comes (source : Text) (config : FormatConfig) (i : ℕ) (cs : List Call) (c : FormatterContext) (xs : List ℕ) (w : Walk) (ys : List ℕ) (kids : Children) : Type 0 where
+pub record WalkDone (source : Text) (config : FormatConfig) (i : ℕ) (cs : List Call) (c : FormatterContext) (xs : List ℕ) (w : Walk) (ys : List ℕ) (kids : Children) : Type 0 where
   pub at : w .at ≡ i + 11 + size kids
   pub did : _≡_ {A = Store} (w .context, ys) (run config source cs (c, xs))
 
@@ -55,14 +55,14 @@ always r kids = r
 
 -- by a routine
 pub record RoutineDone (source tape : List ℕ) (config : FormatConfig) (i : ℕ) (R : Children → Arms) (c : FormatterContext) (xs : List ℕ) (w : Walk) (ys : List ℕ) : Type 0 where
-  pub on : i < w .at
+  pub forward : i < w .at
   pub inside : w .at ≤ length tape
   pub grew : Grew 8 i c (w .at) (w .context)
-  pub all : (kids : Children) → Lies (length source) tape (i + 11) kids → Comes source config i (walk formatNode source (R kids) (R kids .begin) kids) c xs w ys kids
+  pub all : (kids : Children) → SpelledAt (length source) tape (i + 11) kids → WalkDone source config i (walk formatNode source (R kids) (R kids .begin) kids) c xs w ys kids
 
 -- by the node's own routine, or copied as typed
 pub record NodeDone (source tape : List ℕ) (config : FormatConfig) (i : ℕ) (c : FormatterContext) (xs : List ℕ) (w : Walk) (ys : List ℕ) : Type 0 where
-  pub on : i < w .at
+  pub forward : i < w .at
   pub inside : w .at ≤ length tape
   pub grew : Grew 8 i c (w .at) (w .context)
-  pub all : (kids : Children) → Lies (length source) tape (i + 11) kids → Comes source config i (calls formatNode source (record { head = headAt tape i; kids = kids })) c xs w ys kids
+  pub all : (kids : Children) → SpelledAt (length source) tape (i + 11) kids → WalkDone source config i (calls formatNode source (record { head = headAt tape i; kids = kids })) c xs w ys kids

@@ -1,6 +1,5 @@
 -- The loop of the check: the verdict is that on the rest of the tape, a function of the place and of the number of open nodes,
 -- joined with the Error nodes seen so far.
--- Assumes nothing.
 use Prim.Native.Nat.{ℕ, zero, suc, _+_, _-_, _≤_, _<_}
 use native.Mathlib.Omega.{arith}
 use native.Mathlib.Numerals.{add-one}
@@ -33,26 +32,26 @@ seen-seen false b (Accepted e) = refl
 seen-seen a b (Refused f p) = refl
 
 -- a reading, and the verdict on what comes after it
-abbrev pub on : Read Children → (ℕ → Checked) → Checked
-on (refused f p) k = Refused f p
-on (got c p) k = seen (hasErrorBelow c) (k p)
+abbrev pub readThen : Read Children → (ℕ → Checked) → Checked
+readThen (refused f p) k = Refused f p
+readThen (got c p) k = seen (hasErrorBelow c) (k p)
 
-on-token : (r : Read Children) (h : Head) (k : ℕ → Checked) → on (andThen r (λ x q. got (token h x) q)) k ≡ on r k
+readThen-token : (r : Read Children) (h : Head) (k : ℕ → Checked) → readThen (andThen r (λ x q. got (token h x) q)) k ≡ readThen r k
 unfolding hasErrorBelow
-on-token (refused f p) h k = refl
-on-token (got c p) h k = refl
+readThen-token (refused f p) h k = refl
+readThen-token (got c p) h k = refl
 
-on-rest : (h : Head) (c : Children) (r : Read Children) (k : ℕ → Checked)
-    → on (andThen r (λ y m. got (node h c y) m)) k ≡ seen (eqb (h .kind) Error) (seen (hasErrorBelow c) (on r k))
+readThen-rest : (h : Head) (c : Children) (r : Read Children) (k : ℕ → Checked)
+    → readThen (andThen r (λ y m. got (node h c y) m)) k ≡ seen (eqb (h .kind) Error) (seen (hasErrorBelow c) (readThen r k))
 unfolding hasErrorBelow
-on-rest h c (refused f p) k = refl
-on-rest h c (got d p) k =
+readThen-rest h c (refused f p) k = refl
+readThen-rest h c (got d p) k =
     sym (ap (seen (eqb (h .kind) Error)) (seen-seen (hasErrorBelow c) (hasErrorBelow d) (k p)) ∙ seen-seen (eqb (h .kind) Error) (hasErrorBelow c || hasErrorBelow d) (k p))
 
-on-node : (h : Head) (r : Read Children) (g : ℕ → Read Children) (k : ℕ → Checked)
-    → on (andThen r (λ x q. andThen (g q) (λ y m. got (node h x y) m))) k ≡ seen (eqb (h .kind) Error) (on r (λ q. on (g q) k))
-on-node h (refused f p) g k = refl
-on-node h (got c p) g k = on-rest h c (g p) k
+readThen-node : (h : Head) (r : Read Children) (g : ℕ → Read Children) (k : ℕ → Checked)
+    → readThen (andThen r (λ x q. andThen (g q) (λ y m. got (node h x y) m))) k ≡ seen (eqb (h .kind) Error) (readThen r (λ q. readThen (g q) k))
+readThen-node h (refused f p) g k = refl
+readThen-node h (got c p) g k = readThen-rest h c (g p) k
 
 -- the verdict after the root's close
 abbrev pub endVerdict : Command → ℕ → Checked
@@ -62,12 +61,12 @@ endVerdict opens p = Refused NotOneRoot p
 endVerdict isToken p = Refused NotOneRoot p
 endVerdict closes p = Refused NotOneRoot p
 
-on-end : (tape : List ℕ) (h : Head) (r : Read Children)
+readThen-end : (tape : List ℕ) (h : Head) (r : Read Children)
     → verdict (andThen r (λ kids p. byEnd (commandAt tape p) (record { head = h; kids = kids }) p))
-    ≡ seen (eqb (h .kind) Error) (on r (λ p. endVerdict (commandAt tape p) p))
+    ≡ seen (eqb (h .kind) Error) (readThen r (λ p. endVerdict (commandAt tape p) p))
 unfolding hasError
-on-end tape h (refused f p) = refl
-on-end tape h (got kids p) = go (commandAt tape p)
+readThen-end tape h (refused f p) = refl
+readThen-end tape h (got kids p) = go (commandAt tape p)
   where
     go : (x : Command) → verdict (byEnd x (record { head = h; kids = kids }) p) ≡ seen (eqb (h .kind) Error) (seen (hasErrorBelow kids) (endVerdict x p))
     go ends = ap (λ x. Accepted (eqb (h .kind) Error || x)) (sym (or-false (hasErrorBelow kids)))
@@ -80,19 +79,19 @@ module _ (len : ℕ) (tape : List ℕ) where
   -- the verdict on the tape from p on, after the root's open, with so many nodes open
   unfoldable pub rest : ℕ → ℕ → Checked
   rest zero p = endVerdict (commandAt tape p) p
-  rest (suc d) p = on (read len tape (suc d) p) (λ q. rest d q)
+  rest (suc d) p = readThen (read len tape (suc d) p) (λ q. rest d q)
 
-  turn : (d p : ℕ) (x : Command) → checkedAt len tape (suc d) p ≡ x → rest (suc d) p ≡ on (step len tape (read len tape) (suc d) p x) (λ q. rest d q)
+  rest-step : (d p : ℕ) (x : Command) → checkedAt len tape (suc d) p ≡ x → rest (suc d) p ≡ readThen (step len tape (read len tape) (suc d) p x) (λ q. rest d q)
   unfolding rest
-  turn d p x e = ap (λ r. on r (λ q. rest d q)) (reads len tape (suc d) p ∙ ap (step len tape (read len tape) (suc d) p) e)
+  rest-step d p x e = ap (λ r. readThen r (λ q. rest d q)) (reads len tape (suc d) p ∙ ap (step len tape (read len tape) (suc d) p) e)
 
   rest-open : (d p : ℕ) → checkedAt len tape (suc d) p ≡ opens → rest (suc d) p ≡ seen (eqb (headAt tape p .kind) Error) (rest (suc (suc d)) (p + 11))
   unfolding rest
-  rest-open d p e = turn d p opens e ∙ on-node (headAt tape p) (read len tape (suc (suc d)) (p + 11)) (λ q. read len tape (suc d) q) (λ q. rest d q)
+  rest-open d p e = rest-step d p opens e ∙ readThen-node (headAt tape p) (read len tape (suc (suc d)) (p + 11)) (λ q. read len tape (suc d) q) (λ q. rest d q)
 
   rest-token : (d p : ℕ) → checkedAt len tape (suc d) p ≡ isToken → rest (suc d) p ≡ rest (suc d) (p + 11)
   unfolding rest
-  rest-token d p e = turn d p isToken e ∙ on-token (read len tape (suc d) (p + 11)) (headAt tape p) (λ q. rest d q)
+  rest-token d p e = rest-step d p isToken e ∙ readThen-token (read len tape (suc d) (p + 11)) (headAt tape p) (λ q. rest d q)
 
   seen-none : (x : Checked) → seen false x ≡ x
   seen-none (Accepted e) = refl
@@ -100,7 +99,7 @@ module _ (len : ℕ) (tape : List ℕ) where
 
   rest-close : (d p : ℕ) → checkedAt len tape (suc d) p ≡ closes → rest (suc d) p ≡ rest d (p + 1)
   unfolding hasErrorBelow
-  rest-close d p e = turn d p closes e ∙ seen-none (rest d (p + 1))
+  rest-close d p e = rest-step d p closes e ∙ seen-none (rest d (p + 1))
 
   -- the first command
   root : (x : Command) → checkedAt len tape 0 0 ≡ x → verdict (readTree len tape)
@@ -110,7 +109,7 @@ module _ (len : ℕ) (tape : List ℕ) where
 
   root-open : checkedAt len tape 0 0 ≡ opens → verdict (readTree len tape) ≡ seen (eqb (headAt tape 0 .kind) Error) (rest 1 11)
   unfolding rest
-  root-open e = root opens e ∙ on-end tape (headAt tape 0) (read len tape 1 11)
+  root-open e = root opens e ∙ readThen-end tape (headAt tape 0) (read len tape 1 11)
 
   pub no-root : length tape ≡ 0 → verdict (readTree len tape) ≡ Refused NotOneRoot 0
   no-root e = root ends (checked-of len tape 0 0 (at-end tape 0 (omega arith))) ∙ ap (Refused NotOneRoot) e
@@ -129,7 +128,7 @@ module _ (len : ℕ) (tape : List ℕ) where
       → verdict (readTree len tape) ≡ Refused f p
   within depth zero errors c z {f} e = root (faulty f) (subst (λ (d : ℕ). checkedAt len tape d 0 ≡ faulty f) (c .first refl .0) e)
   within zero (suc p) errors c z e = absurd (omega (arith, z refl))
-  within (suc d) (suc p) errors c z {f} e = c .later (omega arith) ∙ ap (seen errors) (turn d (suc p) (faulty f) e)
+  within (suc d) (suc p) errors c z {f} e = c .later (omega arith) ∙ ap (seen errors) (rest-step d (suc p) (faulty f) e)
 
   -- with a node open something was read
   inside : (depth p : ℕ) (errors : Bool) → Checking depth p errors → (depth ≡ 0 → ⊥) → verdict (readTree len tape) ≡ seen errors (rest depth p)
@@ -226,7 +225,7 @@ module _ (len : ℕ) (tape : List ℕ) where
       where
         go : (d : ℕ) → depth ≡ d → rest depth p ≡ Refused NotOneRoot (length tape)
         go zero w = absurd (z w)
-        go (suc d) w = ap (λ (x : ℕ). rest x p) w ∙ turn d p ends (checked-of len tape (suc d) p (at-end tape p h))
+        go (suc d) w = ap (λ (x : ℕ). rest x p) w ∙ rest-step d p ends (checked-of len tape (suc d) p (at-end tape p h))
 
     pub end-root : length tape ≤ p → depth ≡ 0 → (p ≡ 0 → ⊥) → verdict (readTree len tape) ≡ Accepted errors
     end-root h z n =

@@ -1,4 +1,4 @@
--- What the functions of this crate ask and promise. Assumes nothing: these are definitions.
+-- What the functions of this crate ask and promise.
 use Prim.Native.Nat.{ℕ, _≤_}
 use mathlib.Core.Path.{_≡_}
 use mathlib.Core.Bool.{Bool, cond, _||_}
@@ -16,7 +16,7 @@ use Rattle.layout.specs.declared.Local.{Local}
 use Rattle.layout.specs.Arms.{Spacing, Act, Seen, seen}
 use Rattle.layout.specs.Tokens.{noteSkippedWhitespace, emitComment, emitToken}
 use Rattle.layout.specs.Routines.{orElse}
-use Rattle.layout.specs.Calls.{Call, on}
+use Rattle.layout.specs.Calls.{Call, actAt}
 use Rattle.layout.specs.Run.{runSpacing, run}
 use Rattle.tokens.specs.declared.Arm.{Arm}
 
@@ -31,7 +31,7 @@ pub record Spaced (n : ℕ) (spacing : List Spacing) (c : FormatterContext) (xs 
   pub spent : Spent n c r
 
 -- the same where no byte is written
-pub record Silent (n : ℕ) (spacing : List Spacing) (c r : FormatterContext) : Type 0 where
+pub record SpacedUnwritten (n : ℕ) (spacing : List Spacing) (c r : FormatterContext) : Type 0 where
   pub did : (xs : List ℕ) → _≡_ {A = Store} (r, xs) (runSpacing spacing (c, xs))
   pub spent : Spent n c r
 
@@ -45,7 +45,7 @@ pub record TokenReady (n : ℕ) (source : Text) (config : FormatConfig) (token :
 
 -- the acts were done at the token
 pub record Acted (n : ℕ) (config : FormatConfig) (source : Text) (token : Head) (acts : List Act) (c : FormatterContext) (xs : List ℕ) (r : FormatterContext) (ys : List ℕ) : Type 0 where
-  pub did : _≡_ {A = Store} (r, ys) (run config source (map (on token) acts) (c, xs))
+  pub did : _≡_ {A = Store} (r, ys) (run config source (map (actAt token) acts) (c, xs))
   pub spent : Spent n c r
 
 -- what a routine does at the token was done, and its local variables were set

@@ -1,5 +1,4 @@
 -- Both calls on the small inputs of the refusals, which stand in tape; and the small inputs that need a layout: 13, and lengths.
--- Assumes nothing.
 use Prim.Native.Nat.{ℕ}
 use mathlib.Core.Bool.{Bool, true, cond, _&&_}
 use mathlib.Core.List.{List, [], _∷_, _++_}
@@ -7,7 +6,7 @@ use lib.ListN.{replicate}
 use lib.Dec.{eqb}
 use Rattle.keywords.specs.Words.{bytes, same}
 use Rattle.tape.specs.Kinds
-use Rattle.tape.specs.SmallInputs.{Sample, command, close}
+use Rattle.tape.specs.ReadingInputs.{Sample, command, close}
 use Rattle.layout.specs.declared.Answer.{Answer}
 use Rattle.layout.specs.Layout.{original}
 use Rattle.layout.specs.Outcome.{Outcome, outcome, measured, laidOut}

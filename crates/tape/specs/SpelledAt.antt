@@ -1,5 +1,4 @@
 -- Where a tree lies on a tape, and what an accepted tape gives to those that walk it.
--- Assumes nothing.
 use Prim.Native.Nat.{ℕ, suc, _+_, _≤_, _<_}
 use mathlib.Core.Path.{_≡_}
 use mathlib.Core.Bool.{Bool, false}
@@ -36,17 +35,17 @@ module _ (len : ℕ) (tape : List ℕ) where
     pub inside : p + 1 ≤ length tape
 
   -- the children lie on the tape from p on, the close of their node with them
-  unfoldable pub Lies : ℕ → Children → Type 0
-  Lies p done = CloseAt p
-  Lies p (token h rest) = TokenAt p h × Lies (p + 11) rest
-  Lies p (node h kids rest) = OpenAt p h × Lies (p + 11) kids × Lies (p + 11 + size kids) rest
+  unfoldable pub SpelledAt : ℕ → Children → Type 0
+  SpelledAt p done = CloseAt p
+  SpelledAt p (token h rest) = TokenAt p h × SpelledAt (p + 11) rest
+  SpelledAt p (node h kids rest) = OpenAt p h × SpelledAt (p + 11) kids × SpelledAt (p + 11 + size kids) rest
 
   -- what is known of an accepted tape: its tree, which is the whole tape
   pub record AcceptedTape : Type 0 where
     pub tree : Tree
     pub read : readTree len tape ≡ got tree (length tape)
     pub root : OpenAt 0 (tree .head)
-    pub kids : Lies 11 (tree .kids)
+    pub kids : SpelledAt 11 (tree .kids)
     pub whole : 11 + size (tree .kids) ≡ length tape
     pub depth : suc (height (tree .kids)) ≤ 64
 
@@ -66,14 +65,14 @@ pub record NodeAt (tape : List ℕ) (p : ℕ) : Type 0 where
   pub len : ℕ
   pub kids : Children
   pub inside : p + 11 ≤ length tape
-  pub lies : Lies len tape (p + 11) kids
+  pub spelled : SpelledAt len tape (p + 11) kids
 
 -- r is the place after the close of the node that opens at p
 pub record Skipped (tape : List ℕ) (p r : ℕ) : Type 0 where
-  pub on : p < r
+  pub forward : p < r
   pub inside : r ≤ length tape
-  pub past : (len : ℕ) (kids : Children) → Lies len tape (p + 11) kids → r ≡ p + 11 + size kids
+  pub past : (len : ℕ) (kids : Children) → SpelledAt len tape (p + 11) kids → r ≡ p + 11 + size kids
 
 -- r is what f says of the children of the node that opens at p
 pub record Scanned {A : Type 0} (f : Children → A) (tape : List ℕ) (p : ℕ) (r : A) : Type 0 where
-  pub all : (len : ℕ) (kids : Children) → Lies len tape (p + 11) kids → r ≡ f kids
+  pub all : (len : ℕ) (kids : Children) → SpelledAt len tape (p + 11) kids → r ≡ f kids

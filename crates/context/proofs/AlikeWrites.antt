@@ -1,5 +1,4 @@
 -- The masking rule for one write: cells that are alike before it are alike after it, and so is what `finish` makes of them.
--- Assumes nothing.
 use mathlib.Core.Path.{_≡_, refl, sym, ap, subst₂, _∙_}
 use mathlib.Core.Bool.{Bool, false}
 use mathlib.Core.List.{List, [], _∷_, _++_, map}
