@@ -3,12 +3,20 @@
 
     python3 scripts/renames.py
 
-It is kept until change requests E3 and E8 have landed: work on them was begun at commit 02ad397, which has the old names. Apply such work
-there, run this, commit, and merge; then this script goes. Nothing of the project rests on it.
+It is kept until change requests E3 and E8 have landed: work on them was begun at commit 02ad397, which has the old names. Then it goes;
+nothing of the project rests on it. To carry over a branch that was begun with the old names, with RENAMED for the commit "Names: what
+scripts/renames.py writes":
 
-It renames files, names in code, in must-fail edits and in scripts, and names between backticks in documents, and it takes the sentence
-"Assumes nothing." out of the heads. It leaves the generated proof of the cycle alone (crates/formatter/proofs/format/+..): a merge brings the
-new one, or scripts/cycle_proof.py writes it. Lines change their length, so run `rt fmt` afterwards.
+    git merge -s ours --no-commit RENAMED
+    git checkout RENAMED -- scripts/renames.py
+    python3 scripts/renames.py
+    rt fmt
+    git add -A
+    git commit
+
+After that the branch merges with main as one that was begun with the new names. The script renames files, names in code, in must-fail edits
+and in scripts, and names between backticks in documents, and it takes the sentence "Assumes nothing." out of the heads. It leaves the
+generated proof of the cycle alone (crates/formatter/proofs/format/+..): the merge brings the new one, or scripts/cycle_proof.py writes it.
 """
 import fnmatch
 import os
