@@ -26,6 +26,7 @@ PRINTED = COPY + "/printed"
 RECORDS = COPY + "/target/goals/formatter"
 
 HEAD = """\
+-- Written by scripts/cycle_proof.py; do not edit.
 -- The routines and the dispatch meet their contracts: one proof for the cycle of calls. The answers are alike for each routine; the laws
 -- are those of Walks. The measure is twice the levels left, one more for the dispatch.
 use borrow.Author.Needs.{needs}
@@ -41,7 +42,6 @@ use Rattle.formatter.proofs.RoutineLaws.{USED}
 use Rattle.formatter.proofs.Walks.{USED}
 use Rattle.formatter.specs.RoutinePromises.{always}
 use Rattle.layout.specs.FormatNode.{armsOf}
-use Rattle.layout.specs.MaskingNeeds.{all}
 use Rattle.layout.specs.Routines.{USED}
 use Rattle.layout.specs.declared.Routine.the-variants as the-variants
 """

@@ -1,5 +1,6 @@
+-- Written by scripts/cycle_proof.py; do not edit.
 -- The routines and the dispatch meet their contracts: one proof for the cycle of calls. The answers are alike for each routine; the laws
--- are those of Walks. The measure is twice the levels left, one more for the dispatch. Assumes nothing.
+-- are those of Walks. The measure is twice the levels left, one more for the dispatch.
 use borrow.Author.Needs.{needs}
 use Prim.Native.Nat.{_*_, _+_, _-_}
 use native.Mathlib.Omega.{arith}
@@ -11,9 +12,8 @@ use Rattle.tokens.proofs.Choices.{as-spaced}
 use Rattle.tokens.proofs.Runs.{no-spacing, spaced}
 use Rattle.formatter.proofs.RoutineLaws.{case-after, case-kept, list-known, list-node, listNode, select-kept, settings-kept, union-after}
 use Rattle.formatter.proofs.Walks.{Loop, child-at, clean-node, copy-ready, left-pos, loop-first, loop-fits, loop-last, node-by, node-copied, node-next, node-ready, opened-at, scanned-as, side-ready, token-next, token-ready}
-use Rattle.formatter.specs.Promise.{always}
+use Rattle.formatter.specs.RoutinePromises.{always}
 use Rattle.layout.specs.FormatNode.{armsOf}
-use Rattle.layout.specs.MaskingNeeds.{all}
 use Rattle.layout.specs.Routines.{flagged, formatAlterCommandList, formatBinaryExpression, formatBraceList, formatBracketList, formatCaseExpression, formatCommaList, formatDataType, formatFile, formatFunctionCall, formatInline, formatInlineCommaList, formatInlineNoSpaces, formatInlineTightParens, formatJoinClause, formatListClause, formatParenList, formatPassthrough, formatQueryList, formatSelectClause, formatSelectStatement, formatSettingsClause, formatSimpleClause, formatSubquery, formatUnaryExpression, formatUnionClause, formatWhenClause, formatWithClause, inlineNode, listClauseArms, spaceAfter, spaceIf, unionToken}
 use Rattle.layout.specs.declared.Routine.the-variants as the-variants
 use Prim.Native.Nat.{ℕ, _<_}
@@ -21,88 +21,88 @@ use borrow.Fn.Kinds.{In}
 use borrow.Fn.PlainCycle.{Measures, is, falls, and}
 use Rattle.formatter.proofs.format.alter.Reads as alter
 use Rattle.formatter.proofs.format.alter.Kinds as alter-kinds
-use Rattle.formatter.proofs.format.+alter+binary+braces+brackets+call+cases+commas+file+inline+join+list_by+node+parens+pass+queries+query+row+select+settings+simple+solid+subquery+tight+types+unary+unions+when_of+with_of.Lts-alter as alter-lts
+use Rattle.formatter.proofs.format.+alter+binary+brace+bracket+call+case+comma+dtype+file+inl_list+inline+join+list_by+no_spaces+node+paren+pass+queries+sel_stmt+select+settings+simple+subquery+tight_paren+unary+union+when+with.Lts-alter as alter-lts
 use Rattle.formatter.proofs.format.binary.Reads as binary
 use Rattle.formatter.proofs.format.binary.Kinds as binary-kinds
-use Rattle.formatter.proofs.format.+alter+binary+braces+brackets+call+cases+commas+file+inline+join+list_by+node+parens+pass+queries+query+row+select+settings+simple+solid+subquery+tight+types+unary+unions+when_of+with_of.Lts-binary as binary-lts
-use Rattle.formatter.proofs.format.braces.Reads as braces
-use Rattle.formatter.proofs.format.braces.Kinds as braces-kinds
-use Rattle.formatter.proofs.format.+alter+binary+braces+brackets+call+cases+commas+file+inline+join+list_by+node+parens+pass+queries+query+row+select+settings+simple+solid+subquery+tight+types+unary+unions+when_of+with_of.Lts-braces as braces-lts
-use Rattle.formatter.proofs.format.brackets.Reads as brackets
-use Rattle.formatter.proofs.format.brackets.Kinds as brackets-kinds
-use Rattle.formatter.proofs.format.+alter+binary+braces+brackets+call+cases+commas+file+inline+join+list_by+node+parens+pass+queries+query+row+select+settings+simple+solid+subquery+tight+types+unary+unions+when_of+with_of.Lts-brackets as brackets-lts
+use Rattle.formatter.proofs.format.+alter+binary+brace+bracket+call+case+comma+dtype+file+inl_list+inline+join+list_by+no_spaces+node+paren+pass+queries+sel_stmt+select+settings+simple+subquery+tight_paren+unary+union+when+with.Lts-binary as binary-lts
+use Rattle.formatter.proofs.format.brace.Reads as brace
+use Rattle.formatter.proofs.format.brace.Kinds as brace-kinds
+use Rattle.formatter.proofs.format.+alter+binary+brace+bracket+call+case+comma+dtype+file+inl_list+inline+join+list_by+no_spaces+node+paren+pass+queries+sel_stmt+select+settings+simple+subquery+tight_paren+unary+union+when+with.Lts-brace as brace-lts
+use Rattle.formatter.proofs.format.bracket.Reads as bracket
+use Rattle.formatter.proofs.format.bracket.Kinds as bracket-kinds
+use Rattle.formatter.proofs.format.+alter+binary+brace+bracket+call+case+comma+dtype+file+inl_list+inline+join+list_by+no_spaces+node+paren+pass+queries+sel_stmt+select+settings+simple+subquery+tight_paren+unary+union+when+with.Lts-bracket as bracket-lts
 use Rattle.formatter.proofs.format.call.Reads as call
 use Rattle.formatter.proofs.format.call.Kinds as call-kinds
-use Rattle.formatter.proofs.format.+alter+binary+braces+brackets+call+cases+commas+file+inline+join+list_by+node+parens+pass+queries+query+row+select+settings+simple+solid+subquery+tight+types+unary+unions+when_of+with_of.Lts-call as call-lts
-use Rattle.formatter.proofs.format.cases.Reads as cases
-use Rattle.formatter.proofs.format.cases.Kinds as cases-kinds
-use Rattle.formatter.proofs.format.+alter+binary+braces+brackets+call+cases+commas+file+inline+join+list_by+node+parens+pass+queries+query+row+select+settings+simple+solid+subquery+tight+types+unary+unions+when_of+with_of.Lts-cases as cases-lts
-use Rattle.formatter.proofs.format.commas.Reads as commas
-use Rattle.formatter.proofs.format.commas.Kinds as commas-kinds
-use Rattle.formatter.proofs.format.+alter+binary+braces+brackets+call+cases+commas+file+inline+join+list_by+node+parens+pass+queries+query+row+select+settings+simple+solid+subquery+tight+types+unary+unions+when_of+with_of.Lts-commas as commas-lts
+use Rattle.formatter.proofs.format.+alter+binary+brace+bracket+call+case+comma+dtype+file+inl_list+inline+join+list_by+no_spaces+node+paren+pass+queries+sel_stmt+select+settings+simple+subquery+tight_paren+unary+union+when+with.Lts-call as call-lts
+use Rattle.formatter.proofs.format.case.Reads as case
+use Rattle.formatter.proofs.format.case.Kinds as case-kinds
+use Rattle.formatter.proofs.format.+alter+binary+brace+bracket+call+case+comma+dtype+file+inl_list+inline+join+list_by+no_spaces+node+paren+pass+queries+sel_stmt+select+settings+simple+subquery+tight_paren+unary+union+when+with.Lts-case as case-lts
+use Rattle.formatter.proofs.format.comma.Reads as comma
+use Rattle.formatter.proofs.format.comma.Kinds as comma-kinds
+use Rattle.formatter.proofs.format.+alter+binary+brace+bracket+call+case+comma+dtype+file+inl_list+inline+join+list_by+no_spaces+node+paren+pass+queries+sel_stmt+select+settings+simple+subquery+tight_paren+unary+union+when+with.Lts-comma as comma-lts
+use Rattle.formatter.proofs.format.dtype.Reads as dtype
+use Rattle.formatter.proofs.format.dtype.Kinds as dtype-kinds
+use Rattle.formatter.proofs.format.+alter+binary+brace+bracket+call+case+comma+dtype+file+inl_list+inline+join+list_by+no_spaces+node+paren+pass+queries+sel_stmt+select+settings+simple+subquery+tight_paren+unary+union+when+with.Lts-dtype as dtype-lts
 use Rattle.formatter.proofs.format.file.Reads as file
 use Rattle.formatter.proofs.format.file.Kinds as file-kinds
-use Rattle.formatter.proofs.format.+alter+binary+braces+brackets+call+cases+commas+file+inline+join+list_by+node+parens+pass+queries+query+row+select+settings+simple+solid+subquery+tight+types+unary+unions+when_of+with_of.Lts-file as file-lts
+use Rattle.formatter.proofs.format.+alter+binary+brace+bracket+call+case+comma+dtype+file+inl_list+inline+join+list_by+no_spaces+node+paren+pass+queries+sel_stmt+select+settings+simple+subquery+tight_paren+unary+union+when+with.Lts-file as file-lts
+use Rattle.formatter.proofs.format.inl_list.Reads as inl-list
+use Rattle.formatter.proofs.format.inl_list.Kinds as inl-list-kinds
+use Rattle.formatter.proofs.format.+alter+binary+brace+bracket+call+case+comma+dtype+file+inl_list+inline+join+list_by+no_spaces+node+paren+pass+queries+sel_stmt+select+settings+simple+subquery+tight_paren+unary+union+when+with.Lts-inl_list as inl-list-lts
 use Rattle.formatter.proofs.format.inline.Reads as inline
 use Rattle.formatter.proofs.format.inline.Kinds as inline-kinds
-use Rattle.formatter.proofs.format.+alter+binary+braces+brackets+call+cases+commas+file+inline+join+list_by+node+parens+pass+queries+query+row+select+settings+simple+solid+subquery+tight+types+unary+unions+when_of+with_of.Lts-inline as inline-lts
+use Rattle.formatter.proofs.format.+alter+binary+brace+bracket+call+case+comma+dtype+file+inl_list+inline+join+list_by+no_spaces+node+paren+pass+queries+sel_stmt+select+settings+simple+subquery+tight_paren+unary+union+when+with.Lts-inline as inline-lts
 use Rattle.formatter.proofs.format.join.Reads as join
 use Rattle.formatter.proofs.format.join.Kinds as join-kinds
-use Rattle.formatter.proofs.format.+alter+binary+braces+brackets+call+cases+commas+file+inline+join+list_by+node+parens+pass+queries+query+row+select+settings+simple+solid+subquery+tight+types+unary+unions+when_of+with_of.Lts-join as join-lts
+use Rattle.formatter.proofs.format.+alter+binary+brace+bracket+call+case+comma+dtype+file+inl_list+inline+join+list_by+no_spaces+node+paren+pass+queries+sel_stmt+select+settings+simple+subquery+tight_paren+unary+union+when+with.Lts-join as join-lts
 use Rattle.formatter.proofs.format.list_by.Reads as list-by
 use Rattle.formatter.proofs.format.list_by.Kinds as list-by-kinds
-use Rattle.formatter.proofs.format.+alter+binary+braces+brackets+call+cases+commas+file+inline+join+list_by+node+parens+pass+queries+query+row+select+settings+simple+solid+subquery+tight+types+unary+unions+when_of+with_of.Lts-list_by as list-by-lts
+use Rattle.formatter.proofs.format.+alter+binary+brace+bracket+call+case+comma+dtype+file+inl_list+inline+join+list_by+no_spaces+node+paren+pass+queries+sel_stmt+select+settings+simple+subquery+tight_paren+unary+union+when+with.Lts-list_by as list-by-lts
+use Rattle.formatter.proofs.format.no_spaces.Reads as no-spaces
+use Rattle.formatter.proofs.format.no_spaces.Kinds as no-spaces-kinds
+use Rattle.formatter.proofs.format.+alter+binary+brace+bracket+call+case+comma+dtype+file+inl_list+inline+join+list_by+no_spaces+node+paren+pass+queries+sel_stmt+select+settings+simple+subquery+tight_paren+unary+union+when+with.Lts-no_spaces as no-spaces-lts
 use Rattle.formatter.proofs.format.node.Reads as node
 use Rattle.formatter.proofs.format.node.Kinds as node-kinds
-use Rattle.formatter.proofs.format.+alter+binary+braces+brackets+call+cases+commas+file+inline+join+list_by+node+parens+pass+queries+query+row+select+settings+simple+solid+subquery+tight+types+unary+unions+when_of+with_of.Lts-node as node-lts
-use Rattle.formatter.proofs.format.parens.Reads as parens
-use Rattle.formatter.proofs.format.parens.Kinds as parens-kinds
-use Rattle.formatter.proofs.format.+alter+binary+braces+brackets+call+cases+commas+file+inline+join+list_by+node+parens+pass+queries+query+row+select+settings+simple+solid+subquery+tight+types+unary+unions+when_of+with_of.Lts-parens as parens-lts
+use Rattle.formatter.proofs.format.+alter+binary+brace+bracket+call+case+comma+dtype+file+inl_list+inline+join+list_by+no_spaces+node+paren+pass+queries+sel_stmt+select+settings+simple+subquery+tight_paren+unary+union+when+with.Lts-node as node-lts
+use Rattle.formatter.proofs.format.paren.Reads as paren
+use Rattle.formatter.proofs.format.paren.Kinds as paren-kinds
+use Rattle.formatter.proofs.format.+alter+binary+brace+bracket+call+case+comma+dtype+file+inl_list+inline+join+list_by+no_spaces+node+paren+pass+queries+sel_stmt+select+settings+simple+subquery+tight_paren+unary+union+when+with.Lts-paren as paren-lts
 use Rattle.formatter.proofs.format.pass.Reads as pass
 use Rattle.formatter.proofs.format.pass.Kinds as pass-kinds
-use Rattle.formatter.proofs.format.+alter+binary+braces+brackets+call+cases+commas+file+inline+join+list_by+node+parens+pass+queries+query+row+select+settings+simple+solid+subquery+tight+types+unary+unions+when_of+with_of.Lts-pass as pass-lts
+use Rattle.formatter.proofs.format.+alter+binary+brace+bracket+call+case+comma+dtype+file+inl_list+inline+join+list_by+no_spaces+node+paren+pass+queries+sel_stmt+select+settings+simple+subquery+tight_paren+unary+union+when+with.Lts-pass as pass-lts
 use Rattle.formatter.proofs.format.queries.Reads as queries
 use Rattle.formatter.proofs.format.queries.Kinds as queries-kinds
-use Rattle.formatter.proofs.format.+alter+binary+braces+brackets+call+cases+commas+file+inline+join+list_by+node+parens+pass+queries+query+row+select+settings+simple+solid+subquery+tight+types+unary+unions+when_of+with_of.Lts-queries as queries-lts
-use Rattle.formatter.proofs.format.query.Reads as query
-use Rattle.formatter.proofs.format.query.Kinds as query-kinds
-use Rattle.formatter.proofs.format.+alter+binary+braces+brackets+call+cases+commas+file+inline+join+list_by+node+parens+pass+queries+query+row+select+settings+simple+solid+subquery+tight+types+unary+unions+when_of+with_of.Lts-query as query-lts
-use Rattle.formatter.proofs.format.row.Reads as row
-use Rattle.formatter.proofs.format.row.Kinds as row-kinds
-use Rattle.formatter.proofs.format.+alter+binary+braces+brackets+call+cases+commas+file+inline+join+list_by+node+parens+pass+queries+query+row+select+settings+simple+solid+subquery+tight+types+unary+unions+when_of+with_of.Lts-row as row-lts
+use Rattle.formatter.proofs.format.+alter+binary+brace+bracket+call+case+comma+dtype+file+inl_list+inline+join+list_by+no_spaces+node+paren+pass+queries+sel_stmt+select+settings+simple+subquery+tight_paren+unary+union+when+with.Lts-queries as queries-lts
+use Rattle.formatter.proofs.format.sel_stmt.Reads as sel-stmt
+use Rattle.formatter.proofs.format.sel_stmt.Kinds as sel-stmt-kinds
+use Rattle.formatter.proofs.format.+alter+binary+brace+bracket+call+case+comma+dtype+file+inl_list+inline+join+list_by+no_spaces+node+paren+pass+queries+sel_stmt+select+settings+simple+subquery+tight_paren+unary+union+when+with.Lts-sel_stmt as sel-stmt-lts
 use Rattle.formatter.proofs.format.select.Reads as select
 use Rattle.formatter.proofs.format.select.Kinds as select-kinds
-use Rattle.formatter.proofs.format.+alter+binary+braces+brackets+call+cases+commas+file+inline+join+list_by+node+parens+pass+queries+query+row+select+settings+simple+solid+subquery+tight+types+unary+unions+when_of+with_of.Lts-select as select-lts
+use Rattle.formatter.proofs.format.+alter+binary+brace+bracket+call+case+comma+dtype+file+inl_list+inline+join+list_by+no_spaces+node+paren+pass+queries+sel_stmt+select+settings+simple+subquery+tight_paren+unary+union+when+with.Lts-select as select-lts
 use Rattle.formatter.proofs.format.settings.Reads as settings
 use Rattle.formatter.proofs.format.settings.Kinds as settings-kinds
-use Rattle.formatter.proofs.format.+alter+binary+braces+brackets+call+cases+commas+file+inline+join+list_by+node+parens+pass+queries+query+row+select+settings+simple+solid+subquery+tight+types+unary+unions+when_of+with_of.Lts-settings as settings-lts
+use Rattle.formatter.proofs.format.+alter+binary+brace+bracket+call+case+comma+dtype+file+inl_list+inline+join+list_by+no_spaces+node+paren+pass+queries+sel_stmt+select+settings+simple+subquery+tight_paren+unary+union+when+with.Lts-settings as settings-lts
 use Rattle.formatter.proofs.format.simple.Reads as simple
 use Rattle.formatter.proofs.format.simple.Kinds as simple-kinds
-use Rattle.formatter.proofs.format.+alter+binary+braces+brackets+call+cases+commas+file+inline+join+list_by+node+parens+pass+queries+query+row+select+settings+simple+solid+subquery+tight+types+unary+unions+when_of+with_of.Lts-simple as simple-lts
-use Rattle.formatter.proofs.format.solid.Reads as solid
-use Rattle.formatter.proofs.format.solid.Kinds as solid-kinds
-use Rattle.formatter.proofs.format.+alter+binary+braces+brackets+call+cases+commas+file+inline+join+list_by+node+parens+pass+queries+query+row+select+settings+simple+solid+subquery+tight+types+unary+unions+when_of+with_of.Lts-solid as solid-lts
+use Rattle.formatter.proofs.format.+alter+binary+brace+bracket+call+case+comma+dtype+file+inl_list+inline+join+list_by+no_spaces+node+paren+pass+queries+sel_stmt+select+settings+simple+subquery+tight_paren+unary+union+when+with.Lts-simple as simple-lts
 use Rattle.formatter.proofs.format.subquery.Reads as subquery
 use Rattle.formatter.proofs.format.subquery.Kinds as subquery-kinds
-use Rattle.formatter.proofs.format.+alter+binary+braces+brackets+call+cases+commas+file+inline+join+list_by+node+parens+pass+queries+query+row+select+settings+simple+solid+subquery+tight+types+unary+unions+when_of+with_of.Lts-subquery as subquery-lts
-use Rattle.formatter.proofs.format.tight.Reads as tight
-use Rattle.formatter.proofs.format.tight.Kinds as tight-kinds
-use Rattle.formatter.proofs.format.+alter+binary+braces+brackets+call+cases+commas+file+inline+join+list_by+node+parens+pass+queries+query+row+select+settings+simple+solid+subquery+tight+types+unary+unions+when_of+with_of.Lts-tight as tight-lts
-use Rattle.formatter.proofs.format.types.Reads as types
-use Rattle.formatter.proofs.format.types.Kinds as types-kinds
-use Rattle.formatter.proofs.format.+alter+binary+braces+brackets+call+cases+commas+file+inline+join+list_by+node+parens+pass+queries+query+row+select+settings+simple+solid+subquery+tight+types+unary+unions+when_of+with_of.Lts-types as types-lts
+use Rattle.formatter.proofs.format.+alter+binary+brace+bracket+call+case+comma+dtype+file+inl_list+inline+join+list_by+no_spaces+node+paren+pass+queries+sel_stmt+select+settings+simple+subquery+tight_paren+unary+union+when+with.Lts-subquery as subquery-lts
+use Rattle.formatter.proofs.format.tight_paren.Reads as tight-paren
+use Rattle.formatter.proofs.format.tight_paren.Kinds as tight-paren-kinds
+use Rattle.formatter.proofs.format.+alter+binary+brace+bracket+call+case+comma+dtype+file+inl_list+inline+join+list_by+no_spaces+node+paren+pass+queries+sel_stmt+select+settings+simple+subquery+tight_paren+unary+union+when+with.Lts-tight_paren as tight-paren-lts
 use Rattle.formatter.proofs.format.unary.Reads as unary
 use Rattle.formatter.proofs.format.unary.Kinds as unary-kinds
-use Rattle.formatter.proofs.format.+alter+binary+braces+brackets+call+cases+commas+file+inline+join+list_by+node+parens+pass+queries+query+row+select+settings+simple+solid+subquery+tight+types+unary+unions+when_of+with_of.Lts-unary as unary-lts
-use Rattle.formatter.proofs.format.unions.Reads as unions
-use Rattle.formatter.proofs.format.unions.Kinds as unions-kinds
-use Rattle.formatter.proofs.format.+alter+binary+braces+brackets+call+cases+commas+file+inline+join+list_by+node+parens+pass+queries+query+row+select+settings+simple+solid+subquery+tight+types+unary+unions+when_of+with_of.Lts-unions as unions-lts
-use Rattle.formatter.proofs.format.when_of.Reads as when-of
-use Rattle.formatter.proofs.format.when_of.Kinds as when-of-kinds
-use Rattle.formatter.proofs.format.+alter+binary+braces+brackets+call+cases+commas+file+inline+join+list_by+node+parens+pass+queries+query+row+select+settings+simple+solid+subquery+tight+types+unary+unions+when_of+with_of.Lts-when_of as when-of-lts
-use Rattle.formatter.proofs.format.with_of.Reads as with-of
-use Rattle.formatter.proofs.format.with_of.Kinds as with-of-kinds
-use Rattle.formatter.proofs.format.+alter+binary+braces+brackets+call+cases+commas+file+inline+join+list_by+node+parens+pass+queries+query+row+select+settings+simple+solid+subquery+tight+types+unary+unions+when_of+with_of.Lts-with_of as with-of-lts
+use Rattle.formatter.proofs.format.+alter+binary+brace+bracket+call+case+comma+dtype+file+inl_list+inline+join+list_by+no_spaces+node+paren+pass+queries+sel_stmt+select+settings+simple+subquery+tight_paren+unary+union+when+with.Lts-unary as unary-lts
+use Rattle.formatter.proofs.format.union.Reads as union
+use Rattle.formatter.proofs.format.union.Kinds as union-kinds
+use Rattle.formatter.proofs.format.+alter+binary+brace+bracket+call+case+comma+dtype+file+inl_list+inline+join+list_by+no_spaces+node+paren+pass+queries+sel_stmt+select+settings+simple+subquery+tight_paren+unary+union+when+with.Lts-union as union-lts
+use Rattle.formatter.proofs.format.when.Reads as when
+use Rattle.formatter.proofs.format.when.Kinds as when-kinds
+use Rattle.formatter.proofs.format.+alter+binary+brace+bracket+call+case+comma+dtype+file+inl_list+inline+join+list_by+no_spaces+node+paren+pass+queries+sel_stmt+select+settings+simple+subquery+tight_paren+unary+union+when+with.Lts-when as when-lts
+use Rattle.formatter.proofs.format.with.Reads as with
+use Rattle.formatter.proofs.format.with.Kinds as with-kinds
+use Rattle.formatter.proofs.format.+alter+binary+brace+bracket+call+case+comma+dtype+file+inl_list+inline+join+list_by+no_spaces+node+paren+pass+queries+sel_stmt+select+settings+simple+subquery+tight_paren+unary+union+when+with.Lts-with as with-lts
 use Rattle.clauses.proofs.file_before.Reads as file-before-reads
 use Rattle.clauses.proofs.file_token.Reads as file-token-reads
 use Rattle.clauses.proofs.join_clause_token.Reads as join-clause-token-reads
@@ -128,6 +128,7 @@ use Rattle.clauses.proofs.union_clause_local.Reads as union-clause-local-reads
 use Rattle.clauses.proofs.union_clause_token.Reads as union-clause-token-reads
 use Rattle.clauses.proofs.with_clause_after.Reads as with-clause-after-reads
 use Rattle.clauses.proofs.with_clause_before.Reads as with-clause-before-reads
+use Rattle.dispatch.proofs.routine_of.Reads as routine-of-reads
 use Rattle.expressions.proofs.alter_command_list_token.Reads as alter-command-list-token-reads
 use Rattle.expressions.proofs.binary_expression_token.Reads as binary-expression-token-reads
 use Rattle.expressions.proofs.brace_list_token.Reads as brace-list-token-reads
@@ -145,7 +146,6 @@ use Rattle.expressions.proofs.passthrough_token.Reads as passthrough-token-read
 use Rattle.expressions.proofs.subquery_token.Reads as subquery-token-reads
 use Rattle.expressions.proofs.unary_expression_token.Reads as unary-expression-token-reads
 use Rattle.expressions.proofs.when_clause_token.Reads as when-clause-token-reads
-use Rattle.dispatch.proofs.routine_of.Reads as routine-of-reads
 use Rattle.formatter.proofs.format.is_copied.Reads as is-copied-reads
 use Rattle.tape.proofs.commands.head_at.Reads as head-at-reads
 use Rattle.tape.proofs.scan.skip.Reads as skip-reads
@@ -153,8 +153,8 @@ use Rattle.tokens.proofs.emit_other.Reads as emit-other-reads
 use Rattle.tokens.proofs.format_error_verbatim.Reads as format-error-verbatim-reads
 use Rattle.tokens.proofs.space_after.Reads as space-after-reads
 use Rattle.tokens.proofs.space_if.Reads as space-if-reads
-use Rattle.formatter.proofs.format.+alter+binary+braces+brackets+call+cases+commas+file+inline+join+list_by+node+parens+pass+queries+query+row+select+settings+simple+solid+subquery+tight+types+unary+unions+when_of+with_of.{statement}
-use Rattle.formatter.proofs.format.+alter+binary+braces+brackets+call+cases+commas+file+inline+join+list_by+node+parens+pass+queries+query+row+select+settings+simple+solid+subquery+tight+types+unary+unions+when_of+with_of.Tie.{close}
+use Rattle.formatter.proofs.format.+alter+binary+brace+bracket+call+case+comma+dtype+file+inl_list+inline+join+list_by+no_spaces+node+paren+pass+queries+sel_stmt+select+settings+simple+subquery+tight_paren+unary+union+when+with.{statement}
+use Rattle.formatter.proofs.format.+alter+binary+brace+bracket+call+case+comma+dtype+file+inl_list+inline+join+list_by+no_spaces+node+paren+pass+queries+sel_stmt+select+settings+simple+subquery+tight_paren+unary+union+when+with.Tie.{close}
 
 abbrev μ-alter : Measures 3 alter-kinds.ps ℕ
 μ-alter κs a = 2 * a .1 .1 .1 .1 .1 .0
@@ -162,23 +162,29 @@ abbrev μ-alter : Measures 3 alter-kinds.ps ℕ
 abbrev μ-binary : Measures 3 binary-kinds.ps ℕ
 μ-binary κs a = 2 * a .1 .1 .1 .1 .1 .0
 
-abbrev μ-braces : Measures 3 braces-kinds.ps ℕ
-μ-braces κs a = 2 * a .1 .1 .1 .1 .1 .0
+abbrev μ-brace : Measures 3 brace-kinds.ps ℕ
+μ-brace κs a = 2 * a .1 .1 .1 .1 .1 .0
 
-abbrev μ-brackets : Measures 3 brackets-kinds.ps ℕ
-μ-brackets κs a = 2 * a .1 .1 .1 .1 .1 .0
+abbrev μ-bracket : Measures 3 bracket-kinds.ps ℕ
+μ-bracket κs a = 2 * a .1 .1 .1 .1 .1 .0
 
 abbrev μ-call : Measures 3 call-kinds.ps ℕ
 μ-call κs a = 2 * a .1 .1 .1 .1 .1 .0
 
-abbrev μ-cases : Measures 3 cases-kinds.ps ℕ
-μ-cases κs a = 2 * a .1 .1 .1 .1 .1 .0
+abbrev μ-case : Measures 3 case-kinds.ps ℕ
+μ-case κs a = 2 * a .1 .1 .1 .1 .1 .0
 
-abbrev μ-commas : Measures 3 commas-kinds.ps ℕ
-μ-commas κs a = 2 * a .1 .1 .1 .1 .1 .0
+abbrev μ-comma : Measures 3 comma-kinds.ps ℕ
+μ-comma κs a = 2 * a .1 .1 .1 .1 .1 .0
+
+abbrev μ-dtype : Measures 3 dtype-kinds.ps ℕ
+μ-dtype κs a = 2 * a .1 .1 .1 .1 .1 .0
 
 abbrev μ-file : Measures 3 file-kinds.ps ℕ
 μ-file κs a = 2 * a .1 .1 .1 .1 .1 .0
+
+abbrev μ-inl-list : Measures 3 inl-list-kinds.ps ℕ
+μ-inl-list κs a = 2 * a .1 .1 .1 .1 .1 .0
 
 abbrev μ-inline : Measures 3 inline-kinds.ps ℕ
 μ-inline κs a = 2 * a .1 .1 .1 .1 .1 .0
@@ -189,11 +195,14 @@ abbrev μ-join : Measures 3 join-kinds.ps ℕ
 abbrev μ-list-by : Measures 3 list-by-kinds.ps ℕ
 μ-list-by κs a = 2 * a .1 .1 .1 .1 .1 .0
 
+abbrev μ-no-spaces : Measures 3 no-spaces-kinds.ps ℕ
+μ-no-spaces κs a = 2 * a .1 .1 .1 .1 .1 .0
+
 abbrev μ-node : Measures 3 node-kinds.ps ℕ
 μ-node κs a = 2 * a .1 .1 .1 .1 .1 .0 + 1
 
-abbrev μ-parens : Measures 3 parens-kinds.ps ℕ
-μ-parens κs a = 2 * a .1 .1 .1 .1 .1 .0
+abbrev μ-paren : Measures 3 paren-kinds.ps ℕ
+μ-paren κs a = 2 * a .1 .1 .1 .1 .1 .0
 
 abbrev μ-pass : Measures 3 pass-kinds.ps ℕ
 μ-pass κs a = 2 * a .1 .1 .1 .1 .1 .0
@@ -201,11 +210,8 @@ abbrev μ-pass : Measures 3 pass-kinds.ps ℕ
 abbrev μ-queries : Measures 3 queries-kinds.ps ℕ
 μ-queries κs a = 2 * a .1 .1 .1 .1 .1 .0
 
-abbrev μ-query : Measures 3 query-kinds.ps ℕ
-μ-query κs a = 2 * a .1 .1 .1 .1 .1 .0
-
-abbrev μ-row : Measures 3 row-kinds.ps ℕ
-μ-row κs a = 2 * a .1 .1 .1 .1 .1 .0
+abbrev μ-sel-stmt : Measures 3 sel-stmt-kinds.ps ℕ
+μ-sel-stmt κs a = 2 * a .1 .1 .1 .1 .1 .0
 
 abbrev μ-select : Measures 3 select-kinds.ps ℕ
 μ-select κs a = 2 * a .1 .1 .1 .1 .1 .0
@@ -216,29 +222,23 @@ abbrev μ-settings : Measures 3 settings-kinds.ps ℕ
 abbrev μ-simple : Measures 3 simple-kinds.ps ℕ
 μ-simple κs a = 2 * a .1 .1 .1 .1 .1 .0
 
-abbrev μ-solid : Measures 3 solid-kinds.ps ℕ
-μ-solid κs a = 2 * a .1 .1 .1 .1 .1 .0
-
 abbrev μ-subquery : Measures 3 subquery-kinds.ps ℕ
 μ-subquery κs a = 2 * a .1 .1 .1 .1 .1 .0
 
-abbrev μ-tight : Measures 3 tight-kinds.ps ℕ
-μ-tight κs a = 2 * a .1 .1 .1 .1 .1 .0
-
-abbrev μ-types : Measures 3 types-kinds.ps ℕ
-μ-types κs a = 2 * a .1 .1 .1 .1 .1 .0
+abbrev μ-tight-paren : Measures 3 tight-paren-kinds.ps ℕ
+μ-tight-paren κs a = 2 * a .1 .1 .1 .1 .1 .0
 
 abbrev μ-unary : Measures 3 unary-kinds.ps ℕ
 μ-unary κs a = 2 * a .1 .1 .1 .1 .1 .0
 
-abbrev μ-unions : Measures 3 unions-kinds.ps ℕ
-μ-unions κs a = 2 * a .1 .1 .1 .1 .1 .0
+abbrev μ-union : Measures 3 union-kinds.ps ℕ
+μ-union κs a = 2 * a .1 .1 .1 .1 .1 .0
 
-abbrev μ-when-of : Measures 3 when-of-kinds.ps ℕ
-μ-when-of κs a = 2 * a .1 .1 .1 .1 .1 .0
+abbrev μ-when : Measures 3 when-kinds.ps ℕ
+μ-when κs a = 2 * a .1 .1 .1 .1 .1 .0
 
-abbrev μ-with-of : Measures 3 with-of-kinds.ps ℕ
-μ-with-of κs a = 2 * a .1 .1 .1 .1 .1 .0
+abbrev μ-with : Measures 3 with-kinds.ps ℕ
+μ-with κs a = 2 * a .1 .1 .1 .1 .1 .0
 
 abbrev alter-at : ℕ → In 3 alter-kinds.ps
 alter-at t = and 3 alter-kinds.ps (is 3 alter-kinds.ps μ-alter t) alter.Pre
@@ -252,18 +252,17 @@ binary-at t = and 3 binary-kinds.ps (is 3 binary-kinds.ps μ-binary t) binary.Pr
 abbrev binary-below : ℕ → In 3 binary-kinds.ps
 binary-below t = and 3 binary-kinds.ps (falls 3 binary-kinds.ps _<_ μ-binary t) binary.Pre
 
-abbrev braces-at : ℕ → In 3 braces-kinds.ps
-braces-at t = and 3 braces-kinds.ps (is 3 braces-kinds.ps μ-braces t) braces.Pre
+abbrev brace-at : ℕ → In 3 brace-kinds.ps
+brace-at t = and 3 brace-kinds.ps (is 3 brace-kinds.ps μ-brace t) brace.Pre
 
-abbrev braces-below : ℕ → In 3 braces-kinds.ps
-braces-below t = and 3 braces-kinds.ps (falls 3 braces-kinds.ps _<_ μ-braces t) braces.Pre
+abbrev brace-below : ℕ → In 3 brace-kinds.ps
+brace-below t = and 3 brace-kinds.ps (falls 3 brace-kinds.ps _<_ μ-brace t) brace.Pre
 
-abbrev brackets-at : ℕ → In 3 brackets-kinds.ps
-brackets-at t = and 3 brackets-kinds.ps (is 3 brackets-kinds.ps μ-brackets t) brackets.Pre
+abbrev bracket-at : ℕ → In 3 bracket-kinds.ps
+bracket-at t = and 3 bracket-kinds.ps (is 3 bracket-kinds.ps μ-bracket t) bracket.Pre
 
-abbrev brackets-below : ℕ → In 3 brackets-kinds.ps
-brackets-below t =
-    and 3 brackets-kinds.ps (falls 3 brackets-kinds.ps _<_ μ-brackets t) brackets.Pre
+abbrev bracket-below : ℕ → In 3 bracket-kinds.ps
+bracket-below t = and 3 bracket-kinds.ps (falls 3 bracket-kinds.ps _<_ μ-bracket t) bracket.Pre
 
 abbrev call-at : ℕ → In 3 call-kinds.ps
 call-at t = and 3 call-kinds.ps (is 3 call-kinds.ps μ-call t) call.Pre
@@ -271,23 +270,36 @@ call-at t = and 3 call-kinds.ps (is 3 call-kinds.ps μ-call t) call.Pre
 abbrev call-below : ℕ → In 3 call-kinds.ps
 call-below t = and 3 call-kinds.ps (falls 3 call-kinds.ps _<_ μ-call t) call.Pre
 
-abbrev cases-at : ℕ → In 3 cases-kinds.ps
-cases-at t = and 3 cases-kinds.ps (is 3 cases-kinds.ps μ-cases t) cases.Pre
+abbrev case-at : ℕ → In 3 case-kinds.ps
+case-at t = and 3 case-kinds.ps (is 3 case-kinds.ps μ-case t) case.Pre
 
-abbrev cases-below : ℕ → In 3 cases-kinds.ps
-cases-below t = and 3 cases-kinds.ps (falls 3 cases-kinds.ps _<_ μ-cases t) cases.Pre
+abbrev case-below : ℕ → In 3 case-kinds.ps
+case-below t = and 3 case-kinds.ps (falls 3 case-kinds.ps _<_ μ-case t) case.Pre
 
-abbrev commas-at : ℕ → In 3 commas-kinds.ps
-commas-at t = and 3 commas-kinds.ps (is 3 commas-kinds.ps μ-commas t) commas.Pre
+abbrev comma-at : ℕ → In 3 comma-kinds.ps
+comma-at t = and 3 comma-kinds.ps (is 3 comma-kinds.ps μ-comma t) comma.Pre
 
-abbrev commas-below : ℕ → In 3 commas-kinds.ps
-commas-below t = and 3 commas-kinds.ps (falls 3 commas-kinds.ps _<_ μ-commas t) commas.Pre
+abbrev comma-below : ℕ → In 3 comma-kinds.ps
+comma-below t = and 3 comma-kinds.ps (falls 3 comma-kinds.ps _<_ μ-comma t) comma.Pre
+
+abbrev dtype-at : ℕ → In 3 dtype-kinds.ps
+dtype-at t = and 3 dtype-kinds.ps (is 3 dtype-kinds.ps μ-dtype t) dtype.Pre
+
+abbrev dtype-below : ℕ → In 3 dtype-kinds.ps
+dtype-below t = and 3 dtype-kinds.ps (falls 3 dtype-kinds.ps _<_ μ-dtype t) dtype.Pre
 
 abbrev file-at : ℕ → In 3 file-kinds.ps
 file-at t = and 3 file-kinds.ps (is 3 file-kinds.ps μ-file t) file.Pre
 
 abbrev file-below : ℕ → In 3 file-kinds.ps
 file-below t = and 3 file-kinds.ps (falls 3 file-kinds.ps _<_ μ-file t) file.Pre
+
+abbrev inl-list-at : ℕ → In 3 inl-list-kinds.ps
+inl-list-at t = and 3 inl-list-kinds.ps (is 3 inl-list-kinds.ps μ-inl-list t) inl-list.Pre
+
+abbrev inl-list-below : ℕ → In 3 inl-list-kinds.ps
+inl-list-below t =
+    and 3 inl-list-kinds.ps (falls 3 inl-list-kinds.ps _<_ μ-inl-list t) inl-list.Pre
 
 abbrev inline-at : ℕ → In 3 inline-kinds.ps
 inline-at t = and 3 inline-kinds.ps (is 3 inline-kinds.ps μ-inline t) inline.Pre
@@ -307,17 +319,24 @@ list-by-at t = and 3 list-by-kinds.ps (is 3 list-by-kinds.ps μ-list-by t) list-
 abbrev list-by-below : ℕ → In 3 list-by-kinds.ps
 list-by-below t = and 3 list-by-kinds.ps (falls 3 list-by-kinds.ps _<_ μ-list-by t) list-by.Pre
 
+abbrev no-spaces-at : ℕ → In 3 no-spaces-kinds.ps
+no-spaces-at t = and 3 no-spaces-kinds.ps (is 3 no-spaces-kinds.ps μ-no-spaces t) no-spaces.Pre
+
+abbrev no-spaces-below : ℕ → In 3 no-spaces-kinds.ps
+no-spaces-below t =
+    and 3 no-spaces-kinds.ps (falls 3 no-spaces-kinds.ps _<_ μ-no-spaces t) no-spaces.Pre
+
 abbrev node-at : ℕ → In 3 node-kinds.ps
 node-at t = and 3 node-kinds.ps (is 3 node-kinds.ps μ-node t) node.Pre
 
 abbrev node-below : ℕ → In 3 node-kinds.ps
 node-below t = and 3 node-kinds.ps (falls 3 node-kinds.ps _<_ μ-node t) node.Pre
 
-abbrev parens-at : ℕ → In 3 parens-kinds.ps
-parens-at t = and 3 parens-kinds.ps (is 3 parens-kinds.ps μ-parens t) parens.Pre
+abbrev paren-at : ℕ → In 3 paren-kinds.ps
+paren-at t = and 3 paren-kinds.ps (is 3 paren-kinds.ps μ-paren t) paren.Pre
 
-abbrev parens-below : ℕ → In 3 parens-kinds.ps
-parens-below t = and 3 parens-kinds.ps (falls 3 parens-kinds.ps _<_ μ-parens t) parens.Pre
+abbrev paren-below : ℕ → In 3 paren-kinds.ps
+paren-below t = and 3 paren-kinds.ps (falls 3 paren-kinds.ps _<_ μ-paren t) paren.Pre
 
 abbrev pass-at : ℕ → In 3 pass-kinds.ps
 pass-at t = and 3 pass-kinds.ps (is 3 pass-kinds.ps μ-pass t) pass.Pre
@@ -331,17 +350,12 @@ queries-at t = and 3 queries-kinds.ps (is 3 queries-kinds.ps μ-queries t) queri
 abbrev queries-below : ℕ → In 3 queries-kinds.ps
 queries-below t = and 3 queries-kinds.ps (falls 3 queries-kinds.ps _<_ μ-queries t) queries.Pre
 
-abbrev query-at : ℕ → In 3 query-kinds.ps
-query-at t = and 3 query-kinds.ps (is 3 query-kinds.ps μ-query t) query.Pre
+abbrev sel-stmt-at : ℕ → In 3 sel-stmt-kinds.ps
+sel-stmt-at t = and 3 sel-stmt-kinds.ps (is 3 sel-stmt-kinds.ps μ-sel-stmt t) sel-stmt.Pre
 
-abbrev query-below : ℕ → In 3 query-kinds.ps
-query-below t = and 3 query-kinds.ps (falls 3 query-kinds.ps _<_ μ-query t) query.Pre
-
-abbrev row-at : ℕ → In 3 row-kinds.ps
-row-at t = and 3 row-kinds.ps (is 3 row-kinds.ps μ-row t) row.Pre
-
-abbrev row-below : ℕ → In 3 row-kinds.ps
-row-below t = and 3 row-kinds.ps (falls 3 row-kinds.ps _<_ μ-row t) row.Pre
+abbrev sel-stmt-below : ℕ → In 3 sel-stmt-kinds.ps
+sel-stmt-below t =
+    and 3 sel-stmt-kinds.ps (falls 3 sel-stmt-kinds.ps _<_ μ-sel-stmt t) sel-stmt.Pre
 
 abbrev select-at : ℕ → In 3 select-kinds.ps
 select-at t = and 3 select-kinds.ps (is 3 select-kinds.ps μ-select t) select.Pre
@@ -362,12 +376,6 @@ simple-at t = and 3 simple-kinds.ps (is 3 simple-kinds.ps μ-simple t) simple.Pr
 abbrev simple-below : ℕ → In 3 simple-kinds.ps
 simple-below t = and 3 simple-kinds.ps (falls 3 simple-kinds.ps _<_ μ-simple t) simple.Pre
 
-abbrev solid-at : ℕ → In 3 solid-kinds.ps
-solid-at t = and 3 solid-kinds.ps (is 3 solid-kinds.ps μ-solid t) solid.Pre
-
-abbrev solid-below : ℕ → In 3 solid-kinds.ps
-solid-below t = and 3 solid-kinds.ps (falls 3 solid-kinds.ps _<_ μ-solid t) solid.Pre
-
 abbrev subquery-at : ℕ → In 3 subquery-kinds.ps
 subquery-at t = and 3 subquery-kinds.ps (is 3 subquery-kinds.ps μ-subquery t) subquery.Pre
 
@@ -375,17 +383,13 @@ abbrev subquery-below : ℕ → In 3 subquery-kinds.ps
 subquery-below t =
     and 3 subquery-kinds.ps (falls 3 subquery-kinds.ps _<_ μ-subquery t) subquery.Pre
 
-abbrev tight-at : ℕ → In 3 tight-kinds.ps
-tight-at t = and 3 tight-kinds.ps (is 3 tight-kinds.ps μ-tight t) tight.Pre
+abbrev tight-paren-at : ℕ → In 3 tight-paren-kinds.ps
+tight-paren-at t =
+    and 3 tight-paren-kinds.ps (is 3 tight-paren-kinds.ps μ-tight-paren t) tight-paren.Pre
 
-abbrev tight-below : ℕ → In 3 tight-kinds.ps
-tight-below t = and 3 tight-kinds.ps (falls 3 tight-kinds.ps _<_ μ-tight t) tight.Pre
-
-abbrev types-at : ℕ → In 3 types-kinds.ps
-types-at t = and 3 types-kinds.ps (is 3 types-kinds.ps μ-types t) types.Pre
-
-abbrev types-below : ℕ → In 3 types-kinds.ps
-types-below t = and 3 types-kinds.ps (falls 3 types-kinds.ps _<_ μ-types t) types.Pre
+abbrev tight-paren-below : ℕ → In 3 tight-paren-kinds.ps
+tight-paren-below t =
+    and 3 tight-paren-kinds.ps (falls 3 tight-paren-kinds.ps _<_ μ-tight-paren t) tight-paren.Pre
 
 abbrev unary-at : ℕ → In 3 unary-kinds.ps
 unary-at t = and 3 unary-kinds.ps (is 3 unary-kinds.ps μ-unary t) unary.Pre
@@ -393,23 +397,23 @@ unary-at t = and 3 unary-kinds.ps (is 3 unary-kinds.ps μ-unary t) unary.Pre
 abbrev unary-below : ℕ → In 3 unary-kinds.ps
 unary-below t = and 3 unary-kinds.ps (falls 3 unary-kinds.ps _<_ μ-unary t) unary.Pre
 
-abbrev unions-at : ℕ → In 3 unions-kinds.ps
-unions-at t = and 3 unions-kinds.ps (is 3 unions-kinds.ps μ-unions t) unions.Pre
+abbrev union-at : ℕ → In 3 union-kinds.ps
+union-at t = and 3 union-kinds.ps (is 3 union-kinds.ps μ-union t) union.Pre
 
-abbrev unions-below : ℕ → In 3 unions-kinds.ps
-unions-below t = and 3 unions-kinds.ps (falls 3 unions-kinds.ps _<_ μ-unions t) unions.Pre
+abbrev union-below : ℕ → In 3 union-kinds.ps
+union-below t = and 3 union-kinds.ps (falls 3 union-kinds.ps _<_ μ-union t) union.Pre
 
-abbrev when-of-at : ℕ → In 3 when-of-kinds.ps
-when-of-at t = and 3 when-of-kinds.ps (is 3 when-of-kinds.ps μ-when-of t) when-of.Pre
+abbrev when-at : ℕ → In 3 when-kinds.ps
+when-at t = and 3 when-kinds.ps (is 3 when-kinds.ps μ-when t) when.Pre
 
-abbrev when-of-below : ℕ → In 3 when-of-kinds.ps
-when-of-below t = and 3 when-of-kinds.ps (falls 3 when-of-kinds.ps _<_ μ-when-of t) when-of.Pre
+abbrev when-below : ℕ → In 3 when-kinds.ps
+when-below t = and 3 when-kinds.ps (falls 3 when-kinds.ps _<_ μ-when t) when.Pre
 
-abbrev with-of-at : ℕ → In 3 with-of-kinds.ps
-with-of-at t = and 3 with-of-kinds.ps (is 3 with-of-kinds.ps μ-with-of t) with-of.Pre
+abbrev with-at : ℕ → In 3 with-kinds.ps
+with-at t = and 3 with-kinds.ps (is 3 with-kinds.ps μ-with t) with.Pre
 
-abbrev with-of-below : ℕ → In 3 with-of-kinds.ps
-with-of-below t = and 3 with-of-kinds.ps (falls 3 with-of-kinds.ps _<_ μ-with-of t) with-of.Pre
+abbrev with-below : ℕ → In 3 with-kinds.ps
+with-below t = and 3 with-kinds.ps (falls 3 with-kinds.ps _<_ μ-with t) with.Pre
 
 abbrev alter-Inv-loop : alter-lts.InvT-loop
 alter-Inv-loop source tape config errors out₀ left at i₀ ctx₀ out i ctx = Loop source tape config errors left at (always formatAlterCommandList) formatAlterCommandList ctx₀ out₀ out i ctx (flagged false)
@@ -538,7 +542,7 @@ alter-loop-less-2 : (t : ℕ) → alter-lts.Need-loop-less-2 (
   node-below t,
   node.Post,
 ) (alter-at t) alter.Post alter-Inv-loop alter-μ-loop
-alter-loop-less-2 t c = omega (arith, c .before .before .before .before .before .before .before .before .before .before .loop .inv .inside, c .before .before .before .node .ensures .on)
+alter-loop-less-2 t c = omega (arith, c .before .before .before .before .before .before .before .before .before .before .loop .inv .inside, c .before .before .before .node .ensures .forward)
 
 alter-loop-again-2 : (t : ℕ) → alter-lts.Need-loop-again-2 (
   head-at-reads.Asked,
@@ -709,7 +713,7 @@ binary-loop-less-2 : (t : ℕ) → binary-lts.Need-loop-less-2 (
   node-below t,
   node.Post,
 ) (binary-at t) binary.Post binary-Inv-loop binary-μ-loop
-binary-loop-less-2 t c = omega (arith, c .before .before .before .before .before .before .before .before .before .before .loop .inv .inside, c .before .before .before .node .ensures .on)
+binary-loop-less-2 t c = omega (arith, c .before .before .before .before .before .before .before .before .before .before .loop .inv .inside, c .before .before .before .node .ensures .forward)
 
 binary-loop-again-2 : (t : ℕ) → binary-lts.Need-loop-again-2 (
   head-at-reads.Asked,
@@ -753,345 +757,345 @@ binary-returns : (t : ℕ) → binary-lts.Need-returns (
 unfolding formatBinaryExpression
 binary-returns t c = loop-last (c .before .before .before .before .before .before .pre .1) (c .before .before .loop .inv) (c .if1 .left) no-spacing (omega arith)
 
-abbrev braces-Inv-loop : braces-lts.InvT-loop
-braces-Inv-loop source tape config errors out₀ left at i₀ ctx₀ out i ctx = Loop source tape config errors left at (always formatBraceList) formatBraceList ctx₀ out₀ out i ctx (flagged false)
+abbrev brace-Inv-loop : brace-lts.InvT-loop
+brace-Inv-loop source tape config errors out₀ left at i₀ ctx₀ out i ctx = Loop source tape config errors left at (always formatBraceList) formatBraceList ctx₀ out₀ out i ctx (flagged false)
 
-abbrev braces-μ-loop : braces-lts.MeasureT-loop
-braces-μ-loop source tape config errors out₀ left at i₀ ctx₀ out i ctx = length tape - i
+abbrev brace-μ-loop : brace-lts.MeasureT-loop
+brace-μ-loop source tape config errors out₀ left at i₀ ctx₀ out i ctx = length tape - i
 
-braces-add-i : (t : ℕ) → braces-lts.Need-add-i (
+brace-add-i : (t : ℕ) → brace-lts.Need-add-i (
   head-at-reads.Asked,
   head-at-reads.Learnt,
   brace-list-token-reads.Asked,
   brace-list-token-reads.Learnt,
   node-below t,
   node.Post,
-) (braces-at t) braces.Post braces-Inv-loop braces-μ-loop
-braces-add-i t c = omega (arith, c .before .before .before .pre .1 .inside, c .before .before .before .pre .1 .sizes .tape-fits)
+) (brace-at t) brace.Post brace-Inv-loop brace-μ-loop
+brace-add-i t c = omega (arith, c .before .before .before .pre .1 .inside, c .before .before .before .pre .1 .sizes .tape-fits)
 
-braces-loop-holds : (t : ℕ) → braces-lts.Need-loop-holds (
+brace-loop-holds : (t : ℕ) → brace-lts.Need-loop-holds (
   head-at-reads.Asked,
   head-at-reads.Learnt,
   brace-list-token-reads.Asked,
   brace-list-token-reads.Learnt,
   node-below t,
   node.Post,
-) (braces-at t) braces.Post braces-Inv-loop braces-μ-loop
+) (brace-at t) brace.Post brace-Inv-loop brace-μ-loop
 unfolding formatBraceList
-braces-loop-holds t c = loop-first (always formatBraceList) formatBraceList _ (c .before .before .before .pre .1) (λ all z. refl)
+brace-loop-holds t c = loop-first (always formatBraceList) formatBraceList _ (c .before .before .before .pre .1) (λ all z. refl)
 
-braces-shared-slice-read-if1 : (t : ℕ) → braces-lts.Need-shared-slice-read-if1 (
+brace-shared-slice-read-if1 : (t : ℕ) → brace-lts.Need-shared-slice-read-if1 (
   head-at-reads.Asked,
   head-at-reads.Learnt,
   brace-list-token-reads.Asked,
   brace-list-token-reads.Learnt,
   node-below t,
   node.Post,
-) (braces-at t) braces.Post braces-Inv-loop braces-μ-loop
-braces-shared-slice-read-if1 t c = omega (arith, c .before .loop .inv .inside)
+) (brace-at t) brace.Post brace-Inv-loop brace-μ-loop
+brace-shared-slice-read-if1 t c = omega (arith, c .before .loop .inv .inside)
 
-braces-head-at-requires : (t : ℕ) → braces-lts.Need-head-at-requires (
+brace-head-at-requires : (t : ℕ) → brace-lts.Need-head-at-requires (
   head-at-reads.Asked,
   head-at-reads.Learnt,
   brace-list-token-reads.Asked,
   brace-list-token-reads.Learnt,
   node-below t,
   node.Post,
-) (braces-at t) braces.Post braces-Inv-loop braces-μ-loop
-braces-head-at-requires t c κs = loop-fits (c .before .before .before .before .before .before .pre .1) (c .before .before .loop .inv) (c .if1 .taken)
+) (brace-at t) brace.Post brace-Inv-loop brace-μ-loop
+brace-head-at-requires t c κs = loop-fits (c .before .before .before .before .before .before .pre .1) (c .before .before .loop .inv) (c .if1 .taken)
 
-braces-shared-slice-read-if2 : (t : ℕ) → braces-lts.Need-shared-slice-read-if2 (
+brace-shared-slice-read-if2 : (t : ℕ) → brace-lts.Need-shared-slice-read-if2 (
   head-at-reads.Asked,
   head-at-reads.Learnt,
   brace-list-token-reads.Asked,
   brace-list-token-reads.Learnt,
   node-below t,
   node.Post,
-) (braces-at t) braces.Post braces-Inv-loop braces-μ-loop
-braces-shared-slice-read-if2 t c = omega (arith, c .before .before .before .before .loop .inv .inside)
+) (brace-at t) brace.Post brace-Inv-loop brace-μ-loop
+brace-shared-slice-read-if2 t c = omega (arith, c .before .before .before .before .loop .inv .inside)
 
-braces-brace-list-token-requires : (t : ℕ) → braces-lts.Need-brace-list-token-requires (
+brace-brace-list-token-requires : (t : ℕ) → brace-lts.Need-brace-list-token-requires (
   head-at-reads.Asked,
   head-at-reads.Learnt,
   brace-list-token-reads.Asked,
   brace-list-token-reads.Learnt,
   node-below t,
   node.Post,
-) (braces-at t) braces.Post braces-Inv-loop braces-μ-loop
-braces-brace-list-token-requires t c κs = token-ready (c .before .before .before .before .before .before .before .before .before .before .pre .1) (c .before .before .before .before .before .before .loop .inv) _ (c .before .if2 .taken) (c .before .before .before .head-at .ensures)
+) (brace-at t) brace.Post brace-Inv-loop brace-μ-loop
+brace-brace-list-token-requires t c κs = token-ready (c .before .before .before .before .before .before .before .before .before .before .pre .1) (c .before .before .before .before .before .before .loop .inv) _ (c .before .if2 .taken) (c .before .before .before .head-at .ensures)
 
-braces-add-i-2 : (t : ℕ) → braces-lts.Need-add-i-2 (
+brace-add-i-2 : (t : ℕ) → brace-lts.Need-add-i-2 (
   head-at-reads.Asked,
   head-at-reads.Learnt,
   brace-list-token-reads.Asked,
   brace-list-token-reads.Learnt,
   node-below t,
   node.Post,
-) (braces-at t) braces.Post braces-Inv-loop braces-μ-loop
-braces-add-i-2 t c = omega (arith, loop-fits (c .before .before .before .before .before .before .before .before .before .before .before .before .before .pre .1) (c .before .before .before .before .before .before .before .before .before .loop .inv) (c .before .before .before .before .before .before .before .if1 .taken), c .before .before .before .before .before .before .before .before .before .before .before .before .before .pre .1 .sizes .tape-fits)
+) (brace-at t) brace.Post brace-Inv-loop brace-μ-loop
+brace-add-i-2 t c = omega (arith, loop-fits (c .before .before .before .before .before .before .before .before .before .before .before .before .before .pre .1) (c .before .before .before .before .before .before .before .before .before .loop .inv) (c .before .before .before .before .before .before .before .if1 .taken), c .before .before .before .before .before .before .before .before .before .before .before .before .before .pre .1 .sizes .tape-fits)
 
-braces-loop-less : (t : ℕ) → braces-lts.Need-loop-less (
+brace-loop-less : (t : ℕ) → brace-lts.Need-loop-less (
   head-at-reads.Asked,
   head-at-reads.Learnt,
   brace-list-token-reads.Asked,
   brace-list-token-reads.Learnt,
   node-below t,
   node.Post,
-) (braces-at t) braces.Post braces-Inv-loop braces-μ-loop
-braces-loop-less t c = omega (arith, c .before .before .before .before .before .before .before .before .before .loop .inv .inside)
+) (brace-at t) brace.Post brace-Inv-loop brace-μ-loop
+brace-loop-less t c = omega (arith, c .before .before .before .before .before .before .before .before .before .loop .inv .inside)
 
-braces-loop-again : (t : ℕ) → braces-lts.Need-loop-again (
+brace-loop-again : (t : ℕ) → brace-lts.Need-loop-again (
   head-at-reads.Asked,
   head-at-reads.Learnt,
   brace-list-token-reads.Asked,
   brace-list-token-reads.Learnt,
   node-below t,
   node.Post,
-) (braces-at t) braces.Post braces-Inv-loop braces-μ-loop
+) (brace-at t) brace.Post brace-Inv-loop brace-μ-loop
 unfolding formatBraceList
-braces-loop-again t c = token-next (c .before .before .before .before .before .before .before .before .before .before .before .before .before .pre .1) (c .before .before .before .before .before .before .before .before .before .loop .inv) (c .before .before .before .before .if2 .taken) (c .before .before .before .before .before .before .head-at .ensures) (c .before .before .brace-list-token .ensures) refl (c .before .before .brace-list-token .kept .1 .1 .0)
+brace-loop-again t c = token-next (c .before .before .before .before .before .before .before .before .before .before .before .before .before .pre .1) (c .before .before .before .before .before .before .before .before .before .loop .inv) (c .before .before .before .before .if2 .taken) (c .before .before .before .before .before .before .head-at .ensures) (c .before .before .brace-list-token .ensures) refl (c .before .before .brace-list-token .kept .1 .1 .0)
 
-braces-sub-node : (t : ℕ) → braces-lts.Need-sub-node (
+brace-sub-node : (t : ℕ) → brace-lts.Need-sub-node (
   head-at-reads.Asked,
   head-at-reads.Learnt,
   brace-list-token-reads.Asked,
   brace-list-token-reads.Learnt,
   node-below t,
   node.Post,
-) (braces-at t) braces.Post braces-Inv-loop braces-μ-loop
-braces-sub-node t c = left-pos (c .before .before .before .before .before .before .before .before .before .before .pre .1) (c .before .before .before .before .before .before .loop .inv) (c .before .before .before .before .if1 .taken) (c .before .if2 .left)
+) (brace-at t) brace.Post brace-Inv-loop brace-μ-loop
+brace-sub-node t c = left-pos (c .before .before .before .before .before .before .before .before .before .before .pre .1) (c .before .before .before .before .before .before .loop .inv) (c .before .before .before .before .if1 .taken) (c .before .if2 .left)
 
-braces-node-requires : (t : ℕ) → braces-lts.Need-node-requires (
+brace-node-requires : (t : ℕ) → brace-lts.Need-node-requires (
   head-at-reads.Asked,
   head-at-reads.Learnt,
   brace-list-token-reads.Asked,
   brace-list-token-reads.Learnt,
   node-below t,
   node.Post,
-) (braces-at t) braces.Post braces-Inv-loop braces-μ-loop
-braces-node-requires t c κs = (omega (arith, c .before .before .before .before .before .before .before .before .before .before .pre .0, left-pos (c .before .before .before .before .before .before .before .before .before .before .pre .1) (c .before .before .before .before .before .before .loop .inv) (c .before .before .before .before .if1 .taken) (c .before .if2 .left)), node-ready (c .before .before .before .before .before .before .before .before .before .before .pre .1) (c .before .before .before .before .before .before .loop .inv) (c .before .before .before .before .if1 .taken) (c .before .if2 .left) (c .before .before .before .head-at .ensures) (no-spacing {xs = c .before .before .before .before .before .before .loop .out}) (omega arith))
+) (brace-at t) brace.Post brace-Inv-loop brace-μ-loop
+brace-node-requires t c κs = (omega (arith, c .before .before .before .before .before .before .before .before .before .before .pre .0, left-pos (c .before .before .before .before .before .before .before .before .before .before .pre .1) (c .before .before .before .before .before .before .loop .inv) (c .before .before .before .before .if1 .taken) (c .before .if2 .left)), node-ready (c .before .before .before .before .before .before .before .before .before .before .pre .1) (c .before .before .before .before .before .before .loop .inv) (c .before .before .before .before .if1 .taken) (c .before .if2 .left) (c .before .before .before .head-at .ensures) (no-spacing {xs = c .before .before .before .before .before .before .loop .out}) (omega arith))
 
-braces-loop-less-2 : (t : ℕ) → braces-lts.Need-loop-less-2 (
+brace-loop-less-2 : (t : ℕ) → brace-lts.Need-loop-less-2 (
   head-at-reads.Asked,
   head-at-reads.Learnt,
   brace-list-token-reads.Asked,
   brace-list-token-reads.Learnt,
   node-below t,
   node.Post,
-) (braces-at t) braces.Post braces-Inv-loop braces-μ-loop
-braces-loop-less-2 t c = omega (arith, c .before .before .before .before .before .before .before .before .before .before .loop .inv .inside, c .before .before .before .node .ensures .on)
+) (brace-at t) brace.Post brace-Inv-loop brace-μ-loop
+brace-loop-less-2 t c = omega (arith, c .before .before .before .before .before .before .before .before .before .before .loop .inv .inside, c .before .before .before .node .ensures .forward)
 
-braces-loop-again-2 : (t : ℕ) → braces-lts.Need-loop-again-2 (
+brace-loop-again-2 : (t : ℕ) → brace-lts.Need-loop-again-2 (
   head-at-reads.Asked,
   head-at-reads.Learnt,
   brace-list-token-reads.Asked,
   brace-list-token-reads.Learnt,
   node-below t,
   node.Post,
-) (braces-at t) braces.Post braces-Inv-loop braces-μ-loop
+) (brace-at t) brace.Post brace-Inv-loop brace-μ-loop
 unfolding formatBraceList
-braces-loop-again-2 t c = node-next (c .before .before .before .before .before .before .before .before .before .before .before .before .before .before .pre .1) (c .before .before .before .before .before .before .before .before .before .before .loop .inv) (formatBraceList .atNode (flagged false) (c .before .before .before .before .before .before .before .head-at .result .kind) 0) (c .before .before .before .before .before .before .before .before .if1 .taken) (c .before .before .before .before .before .if2 .left) (c .before .before .before .before .before .before .before .head-at .ensures) (λ k z. refl) (no-spacing {xs = c .before .before .before .before .before .before .before .before .before .before .loop .out}) (c .before .before .before .node .ensures) refl no-spacing (omega arith) (omega arith) (c .before .before .before .node .kept .1 .1 .1 .1 .0)
+brace-loop-again-2 t c = node-next (c .before .before .before .before .before .before .before .before .before .before .before .before .before .before .pre .1) (c .before .before .before .before .before .before .before .before .before .before .loop .inv) (formatBraceList .atNode (flagged false) (c .before .before .before .before .before .before .before .head-at .result .kind) 0) (c .before .before .before .before .before .before .before .before .if1 .taken) (c .before .before .before .before .before .if2 .left) (c .before .before .before .before .before .before .before .head-at .ensures) (λ k z. refl) (no-spacing {xs = c .before .before .before .before .before .before .before .before .before .before .loop .out}) (c .before .before .before .node .ensures) refl no-spacing (omega arith) (omega arith) (c .before .before .before .node .kept .1 .1 .1 .1 .0)
 
-braces-add-t22 : (t : ℕ) → braces-lts.Need-add-t22 (
+brace-add-t22 : (t : ℕ) → brace-lts.Need-add-t22 (
   head-at-reads.Asked,
   head-at-reads.Learnt,
   brace-list-token-reads.Asked,
   brace-list-token-reads.Learnt,
   node-below t,
   node.Post,
-) (braces-at t) braces.Post braces-Inv-loop braces-μ-loop
-braces-add-t22 t c = omega (arith, c .before .before .loop .inv .inside, c .before .before .before .before .before .before .pre .1 .sizes .tape-fits)
+) (brace-at t) brace.Post brace-Inv-loop brace-μ-loop
+brace-add-t22 t c = omega (arith, c .before .before .loop .inv .inside, c .before .before .before .before .before .before .pre .1 .sizes .tape-fits)
 
-braces-same-length : (t : ℕ) → braces-lts.Need-same-length (
+brace-same-length : (t : ℕ) → brace-lts.Need-same-length (
   head-at-reads.Asked,
   head-at-reads.Learnt,
   brace-list-token-reads.Asked,
   brace-list-token-reads.Learnt,
   node-below t,
   node.Post,
-) (braces-at t) braces.Post braces-Inv-loop braces-μ-loop
-braces-same-length t c = c .before .before .loop .inv .same
+) (brace-at t) brace.Post brace-Inv-loop brace-μ-loop
+brace-same-length t c = c .before .before .loop .inv .same
 
-braces-returns : (t : ℕ) → braces-lts.Need-returns (
+brace-returns : (t : ℕ) → brace-lts.Need-returns (
   head-at-reads.Asked,
   head-at-reads.Learnt,
   brace-list-token-reads.Asked,
   brace-list-token-reads.Learnt,
   node-below t,
   node.Post,
-) (braces-at t) braces.Post braces-Inv-loop braces-μ-loop
+) (brace-at t) brace.Post brace-Inv-loop brace-μ-loop
 unfolding formatBraceList
-braces-returns t c = loop-last (c .before .before .before .before .before .before .pre .1) (c .before .before .loop .inv) (c .if1 .left) no-spacing (omega arith)
+brace-returns t c = loop-last (c .before .before .before .before .before .before .pre .1) (c .before .before .loop .inv) (c .if1 .left) no-spacing (omega arith)
 
-abbrev brackets-Inv-loop : brackets-lts.InvT-loop
-brackets-Inv-loop source tape config errors out₀ left at i₀ ctx₀ out i ctx = Loop source tape config errors left at (always formatBracketList) formatBracketList ctx₀ out₀ out i ctx (flagged false)
+abbrev bracket-Inv-loop : bracket-lts.InvT-loop
+bracket-Inv-loop source tape config errors out₀ left at i₀ ctx₀ out i ctx = Loop source tape config errors left at (always formatBracketList) formatBracketList ctx₀ out₀ out i ctx (flagged false)
 
-abbrev brackets-μ-loop : brackets-lts.MeasureT-loop
-brackets-μ-loop source tape config errors out₀ left at i₀ ctx₀ out i ctx = length tape - i
+abbrev bracket-μ-loop : bracket-lts.MeasureT-loop
+bracket-μ-loop source tape config errors out₀ left at i₀ ctx₀ out i ctx = length tape - i
 
-brackets-add-i : (t : ℕ) → brackets-lts.Need-add-i (
+bracket-add-i : (t : ℕ) → bracket-lts.Need-add-i (
   head-at-reads.Asked,
   head-at-reads.Learnt,
   bracket-list-token-reads.Asked,
   bracket-list-token-reads.Learnt,
   node-below t,
   node.Post,
-) (brackets-at t) brackets.Post brackets-Inv-loop brackets-μ-loop
-brackets-add-i t c = omega (arith, c .before .before .before .pre .1 .inside, c .before .before .before .pre .1 .sizes .tape-fits)
+) (bracket-at t) bracket.Post bracket-Inv-loop bracket-μ-loop
+bracket-add-i t c = omega (arith, c .before .before .before .pre .1 .inside, c .before .before .before .pre .1 .sizes .tape-fits)
 
-brackets-loop-holds : (t : ℕ) → brackets-lts.Need-loop-holds (
+bracket-loop-holds : (t : ℕ) → bracket-lts.Need-loop-holds (
   head-at-reads.Asked,
   head-at-reads.Learnt,
   bracket-list-token-reads.Asked,
   bracket-list-token-reads.Learnt,
   node-below t,
   node.Post,
-) (brackets-at t) brackets.Post brackets-Inv-loop brackets-μ-loop
+) (bracket-at t) bracket.Post bracket-Inv-loop bracket-μ-loop
 unfolding formatBracketList
-brackets-loop-holds t c = loop-first (always formatBracketList) formatBracketList _ (c .before .before .before .pre .1) (λ all z. refl)
+bracket-loop-holds t c = loop-first (always formatBracketList) formatBracketList _ (c .before .before .before .pre .1) (λ all z. refl)
 
-brackets-shared-slice-read-if1 : (t : ℕ) → brackets-lts.Need-shared-slice-read-if1 (
+bracket-shared-slice-read-if1 : (t : ℕ) → bracket-lts.Need-shared-slice-read-if1 (
   head-at-reads.Asked,
   head-at-reads.Learnt,
   bracket-list-token-reads.Asked,
   bracket-list-token-reads.Learnt,
   node-below t,
   node.Post,
-) (brackets-at t) brackets.Post brackets-Inv-loop brackets-μ-loop
-brackets-shared-slice-read-if1 t c = omega (arith, c .before .loop .inv .inside)
+) (bracket-at t) bracket.Post bracket-Inv-loop bracket-μ-loop
+bracket-shared-slice-read-if1 t c = omega (arith, c .before .loop .inv .inside)
 
-brackets-head-at-requires : (t : ℕ) → brackets-lts.Need-head-at-requires (
+bracket-head-at-requires : (t : ℕ) → bracket-lts.Need-head-at-requires (
   head-at-reads.Asked,
   head-at-reads.Learnt,
   bracket-list-token-reads.Asked,
   bracket-list-token-reads.Learnt,
   node-below t,
   node.Post,
-) (brackets-at t) brackets.Post brackets-Inv-loop brackets-μ-loop
-brackets-head-at-requires t c κs = loop-fits (c .before .before .before .before .before .before .pre .1) (c .before .before .loop .inv) (c .if1 .taken)
+) (bracket-at t) bracket.Post bracket-Inv-loop bracket-μ-loop
+bracket-head-at-requires t c κs = loop-fits (c .before .before .before .before .before .before .pre .1) (c .before .before .loop .inv) (c .if1 .taken)
 
-brackets-shared-slice-read-if2 : (t : ℕ) → brackets-lts.Need-shared-slice-read-if2 (
+bracket-shared-slice-read-if2 : (t : ℕ) → bracket-lts.Need-shared-slice-read-if2 (
   head-at-reads.Asked,
   head-at-reads.Learnt,
   bracket-list-token-reads.Asked,
   bracket-list-token-reads.Learnt,
   node-below t,
   node.Post,
-) (brackets-at t) brackets.Post brackets-Inv-loop brackets-μ-loop
-brackets-shared-slice-read-if2 t c = omega (arith, c .before .before .before .before .loop .inv .inside)
+) (bracket-at t) bracket.Post bracket-Inv-loop bracket-μ-loop
+bracket-shared-slice-read-if2 t c = omega (arith, c .before .before .before .before .loop .inv .inside)
 
-brackets-bracket-list-token-requires : (t : ℕ) → brackets-lts.Need-bracket-list-token-requires (
+bracket-bracket-list-token-requires : (t : ℕ) → bracket-lts.Need-bracket-list-token-requires (
   head-at-reads.Asked,
   head-at-reads.Learnt,
   bracket-list-token-reads.Asked,
   bracket-list-token-reads.Learnt,
   node-below t,
   node.Post,
-) (brackets-at t) brackets.Post brackets-Inv-loop brackets-μ-loop
-brackets-bracket-list-token-requires t c κs = token-ready (c .before .before .before .before .before .before .before .before .before .before .pre .1) (c .before .before .before .before .before .before .loop .inv) _ (c .before .if2 .taken) (c .before .before .before .head-at .ensures)
+) (bracket-at t) bracket.Post bracket-Inv-loop bracket-μ-loop
+bracket-bracket-list-token-requires t c κs = token-ready (c .before .before .before .before .before .before .before .before .before .before .pre .1) (c .before .before .before .before .before .before .loop .inv) _ (c .before .if2 .taken) (c .before .before .before .head-at .ensures)
 
-brackets-add-i-2 : (t : ℕ) → brackets-lts.Need-add-i-2 (
+bracket-add-i-2 : (t : ℕ) → bracket-lts.Need-add-i-2 (
   head-at-reads.Asked,
   head-at-reads.Learnt,
   bracket-list-token-reads.Asked,
   bracket-list-token-reads.Learnt,
   node-below t,
   node.Post,
-) (brackets-at t) brackets.Post brackets-Inv-loop brackets-μ-loop
-brackets-add-i-2 t c = omega (arith, loop-fits (c .before .before .before .before .before .before .before .before .before .before .before .before .before .pre .1) (c .before .before .before .before .before .before .before .before .before .loop .inv) (c .before .before .before .before .before .before .before .if1 .taken), c .before .before .before .before .before .before .before .before .before .before .before .before .before .pre .1 .sizes .tape-fits)
+) (bracket-at t) bracket.Post bracket-Inv-loop bracket-μ-loop
+bracket-add-i-2 t c = omega (arith, loop-fits (c .before .before .before .before .before .before .before .before .before .before .before .before .before .pre .1) (c .before .before .before .before .before .before .before .before .before .loop .inv) (c .before .before .before .before .before .before .before .if1 .taken), c .before .before .before .before .before .before .before .before .before .before .before .before .before .pre .1 .sizes .tape-fits)
 
-brackets-loop-less : (t : ℕ) → brackets-lts.Need-loop-less (
+bracket-loop-less : (t : ℕ) → bracket-lts.Need-loop-less (
   head-at-reads.Asked,
   head-at-reads.Learnt,
   bracket-list-token-reads.Asked,
   bracket-list-token-reads.Learnt,
   node-below t,
   node.Post,
-) (brackets-at t) brackets.Post brackets-Inv-loop brackets-μ-loop
-brackets-loop-less t c = omega (arith, c .before .before .before .before .before .before .before .before .before .loop .inv .inside)
+) (bracket-at t) bracket.Post bracket-Inv-loop bracket-μ-loop
+bracket-loop-less t c = omega (arith, c .before .before .before .before .before .before .before .before .before .loop .inv .inside)
 
-brackets-loop-again : (t : ℕ) → brackets-lts.Need-loop-again (
+bracket-loop-again : (t : ℕ) → bracket-lts.Need-loop-again (
   head-at-reads.Asked,
   head-at-reads.Learnt,
   bracket-list-token-reads.Asked,
   bracket-list-token-reads.Learnt,
   node-below t,
   node.Post,
-) (brackets-at t) brackets.Post brackets-Inv-loop brackets-μ-loop
+) (bracket-at t) bracket.Post bracket-Inv-loop bracket-μ-loop
 unfolding formatBracketList
-brackets-loop-again t c = token-next (c .before .before .before .before .before .before .before .before .before .before .before .before .before .pre .1) (c .before .before .before .before .before .before .before .before .before .loop .inv) (c .before .before .before .before .if2 .taken) (c .before .before .before .before .before .before .head-at .ensures) (c .before .before .bracket-list-token .ensures) refl (c .before .before .bracket-list-token .kept .1 .1 .0)
+bracket-loop-again t c = token-next (c .before .before .before .before .before .before .before .before .before .before .before .before .before .pre .1) (c .before .before .before .before .before .before .before .before .before .loop .inv) (c .before .before .before .before .if2 .taken) (c .before .before .before .before .before .before .head-at .ensures) (c .before .before .bracket-list-token .ensures) refl (c .before .before .bracket-list-token .kept .1 .1 .0)
 
-brackets-sub-node : (t : ℕ) → brackets-lts.Need-sub-node (
+bracket-sub-node : (t : ℕ) → bracket-lts.Need-sub-node (
   head-at-reads.Asked,
   head-at-reads.Learnt,
   bracket-list-token-reads.Asked,
   bracket-list-token-reads.Learnt,
   node-below t,
   node.Post,
-) (brackets-at t) brackets.Post brackets-Inv-loop brackets-μ-loop
-brackets-sub-node t c = left-pos (c .before .before .before .before .before .before .before .before .before .before .pre .1) (c .before .before .before .before .before .before .loop .inv) (c .before .before .before .before .if1 .taken) (c .before .if2 .left)
+) (bracket-at t) bracket.Post bracket-Inv-loop bracket-μ-loop
+bracket-sub-node t c = left-pos (c .before .before .before .before .before .before .before .before .before .before .pre .1) (c .before .before .before .before .before .before .loop .inv) (c .before .before .before .before .if1 .taken) (c .before .if2 .left)
 
-brackets-node-requires : (t : ℕ) → brackets-lts.Need-node-requires (
+bracket-node-requires : (t : ℕ) → bracket-lts.Need-node-requires (
   head-at-reads.Asked,
   head-at-reads.Learnt,
   bracket-list-token-reads.Asked,
   bracket-list-token-reads.Learnt,
   node-below t,
   node.Post,
-) (brackets-at t) brackets.Post brackets-Inv-loop brackets-μ-loop
-brackets-node-requires t c κs = (omega (arith, c .before .before .before .before .before .before .before .before .before .before .pre .0, left-pos (c .before .before .before .before .before .before .before .before .before .before .pre .1) (c .before .before .before .before .before .before .loop .inv) (c .before .before .before .before .if1 .taken) (c .before .if2 .left)), node-ready (c .before .before .before .before .before .before .before .before .before .before .pre .1) (c .before .before .before .before .before .before .loop .inv) (c .before .before .before .before .if1 .taken) (c .before .if2 .left) (c .before .before .before .head-at .ensures) (no-spacing {xs = c .before .before .before .before .before .before .loop .out}) (omega arith))
+) (bracket-at t) bracket.Post bracket-Inv-loop bracket-μ-loop
+bracket-node-requires t c κs = (omega (arith, c .before .before .before .before .before .before .before .before .before .before .pre .0, left-pos (c .before .before .before .before .before .before .before .before .before .before .pre .1) (c .before .before .before .before .before .before .loop .inv) (c .before .before .before .before .if1 .taken) (c .before .if2 .left)), node-ready (c .before .before .before .before .before .before .before .before .before .before .pre .1) (c .before .before .before .before .before .before .loop .inv) (c .before .before .before .before .if1 .taken) (c .before .if2 .left) (c .before .before .before .head-at .ensures) (no-spacing {xs = c .before .before .before .before .before .before .loop .out}) (omega arith))
 
-brackets-loop-less-2 : (t : ℕ) → brackets-lts.Need-loop-less-2 (
+bracket-loop-less-2 : (t : ℕ) → bracket-lts.Need-loop-less-2 (
   head-at-reads.Asked,
   head-at-reads.Learnt,
   bracket-list-token-reads.Asked,
   bracket-list-token-reads.Learnt,
   node-below t,
   node.Post,
-) (brackets-at t) brackets.Post brackets-Inv-loop brackets-μ-loop
-brackets-loop-less-2 t c = omega (arith, c .before .before .before .before .before .before .before .before .before .before .loop .inv .inside, c .before .before .before .node .ensures .on)
+) (bracket-at t) bracket.Post bracket-Inv-loop bracket-μ-loop
+bracket-loop-less-2 t c = omega (arith, c .before .before .before .before .before .before .before .before .before .before .loop .inv .inside, c .before .before .before .node .ensures .forward)
 
-brackets-loop-again-2 : (t : ℕ) → brackets-lts.Need-loop-again-2 (
+bracket-loop-again-2 : (t : ℕ) → bracket-lts.Need-loop-again-2 (
   head-at-reads.Asked,
   head-at-reads.Learnt,
   bracket-list-token-reads.Asked,
   bracket-list-token-reads.Learnt,
   node-below t,
   node.Post,
-) (brackets-at t) brackets.Post brackets-Inv-loop brackets-μ-loop
+) (bracket-at t) bracket.Post bracket-Inv-loop bracket-μ-loop
 unfolding formatBracketList
-brackets-loop-again-2 t c = node-next (c .before .before .before .before .before .before .before .before .before .before .before .before .before .before .pre .1) (c .before .before .before .before .before .before .before .before .before .before .loop .inv) (formatBracketList .atNode (flagged false) (c .before .before .before .before .before .before .before .head-at .result .kind) 0) (c .before .before .before .before .before .before .before .before .if1 .taken) (c .before .before .before .before .before .if2 .left) (c .before .before .before .before .before .before .before .head-at .ensures) (λ k z. refl) (no-spacing {xs = c .before .before .before .before .before .before .before .before .before .before .loop .out}) (c .before .before .before .node .ensures) refl no-spacing (omega arith) (omega arith) (c .before .before .before .node .kept .1 .1 .1 .1 .0)
+bracket-loop-again-2 t c = node-next (c .before .before .before .before .before .before .before .before .before .before .before .before .before .before .pre .1) (c .before .before .before .before .before .before .before .before .before .before .loop .inv) (formatBracketList .atNode (flagged false) (c .before .before .before .before .before .before .before .head-at .result .kind) 0) (c .before .before .before .before .before .before .before .before .if1 .taken) (c .before .before .before .before .before .if2 .left) (c .before .before .before .before .before .before .before .head-at .ensures) (λ k z. refl) (no-spacing {xs = c .before .before .before .before .before .before .before .before .before .before .loop .out}) (c .before .before .before .node .ensures) refl no-spacing (omega arith) (omega arith) (c .before .before .before .node .kept .1 .1 .1 .1 .0)
 
-brackets-add-t22 : (t : ℕ) → brackets-lts.Need-add-t22 (
+bracket-add-t22 : (t : ℕ) → bracket-lts.Need-add-t22 (
   head-at-reads.Asked,
   head-at-reads.Learnt,
   bracket-list-token-reads.Asked,
   bracket-list-token-reads.Learnt,
   node-below t,
   node.Post,
-) (brackets-at t) brackets.Post brackets-Inv-loop brackets-μ-loop
-brackets-add-t22 t c = omega (arith, c .before .before .loop .inv .inside, c .before .before .before .before .before .before .pre .1 .sizes .tape-fits)
+) (bracket-at t) bracket.Post bracket-Inv-loop bracket-μ-loop
+bracket-add-t22 t c = omega (arith, c .before .before .loop .inv .inside, c .before .before .before .before .before .before .pre .1 .sizes .tape-fits)
 
-brackets-same-length : (t : ℕ) → brackets-lts.Need-same-length (
+bracket-same-length : (t : ℕ) → bracket-lts.Need-same-length (
   head-at-reads.Asked,
   head-at-reads.Learnt,
   bracket-list-token-reads.Asked,
   bracket-list-token-reads.Learnt,
   node-below t,
   node.Post,
-) (brackets-at t) brackets.Post brackets-Inv-loop brackets-μ-loop
-brackets-same-length t c = c .before .before .loop .inv .same
+) (bracket-at t) bracket.Post bracket-Inv-loop bracket-μ-loop
+bracket-same-length t c = c .before .before .loop .inv .same
 
-brackets-returns : (t : ℕ) → brackets-lts.Need-returns (
+bracket-returns : (t : ℕ) → bracket-lts.Need-returns (
   head-at-reads.Asked,
   head-at-reads.Learnt,
   bracket-list-token-reads.Asked,
   bracket-list-token-reads.Learnt,
   node-below t,
   node.Post,
-) (brackets-at t) brackets.Post brackets-Inv-loop brackets-μ-loop
+) (bracket-at t) bracket.Post bracket-Inv-loop bracket-μ-loop
 unfolding formatBracketList
-brackets-returns t c = loop-last (c .before .before .before .before .before .before .pre .1) (c .before .before .loop .inv) (c .if1 .left) no-spacing (omega arith)
+bracket-returns t c = loop-last (c .before .before .before .before .before .before .pre .1) (c .before .before .loop .inv) (c .if1 .left) no-spacing (omega arith)
 
 abbrev call-Inv-loop : call-lts.InvT-loop
 call-Inv-loop source tape config errors out₀ left at i₀ ctx₀ out i ctx = Loop source tape config errors left at (always formatFunctionCall) formatFunctionCall ctx₀ out₀ out i ctx (flagged false)
@@ -1219,7 +1223,7 @@ call-loop-less-2 : (t : ℕ) → call-lts.Need-loop-less-2 (
   node-below t,
   node.Post,
 ) (call-at t) call.Post call-Inv-loop call-μ-loop
-call-loop-less-2 t c = omega (arith, c .before .before .before .before .before .before .before .before .before .before .loop .inv .inside, c .before .before .before .node .ensures .on)
+call-loop-less-2 t c = omega (arith, c .before .before .before .before .before .before .before .before .before .before .loop .inv .inside, c .before .before .before .node .ensures .forward)
 
 call-loop-again-2 : (t : ℕ) → call-lts.Need-loop-again-2 (
   head-at-reads.Asked,
@@ -1263,13 +1267,13 @@ call-returns : (t : ℕ) → call-lts.Need-returns (
 unfolding formatFunctionCall
 call-returns t c = loop-last (c .before .before .before .before .before .before .pre .1) (c .before .before .loop .inv) (c .if1 .left) no-spacing (omega arith)
 
-abbrev cases-Inv-loop : cases-lts.InvT-loop
-cases-Inv-loop source tape config errors out₀ left at i₀ ctx₀ local out i ctx = Loop source tape config errors left at (always formatCaseExpression) formatCaseExpression ctx₀ out₀ out i ctx (flagged false)
+abbrev case-Inv-loop : case-lts.InvT-loop
+case-Inv-loop source tape config errors out₀ left at i₀ ctx₀ local out i ctx = Loop source tape config errors left at (always formatCaseExpression) formatCaseExpression ctx₀ out₀ out i ctx (flagged false)
 
-abbrev cases-μ-loop : cases-lts.MeasureT-loop
-cases-μ-loop source tape config errors out₀ left at i₀ ctx₀ local out i ctx = length tape - i
+abbrev case-μ-loop : case-lts.MeasureT-loop
+case-μ-loop source tape config errors out₀ left at i₀ ctx₀ local out i ctx = length tape - i
 
-cases-add-i : (t : ℕ) → cases-lts.Need-add-i (
+case-add-i : (t : ℕ) → case-lts.Need-add-i (
   head-at-reads.Asked,
   head-at-reads.Learnt,
   case-expression-token-reads.Asked,
@@ -1278,10 +1282,10 @@ cases-add-i : (t : ℕ) → cases-lts.Need-add-i (
   case-expression-before-reads.Learnt,
   node-below t,
   node.Post,
-) (cases-at t) cases.Post cases-Inv-loop cases-μ-loop
-cases-add-i t c = omega (arith, c .before .before .before .pre .1 .inside, c .before .before .before .pre .1 .sizes .tape-fits)
+) (case-at t) case.Post case-Inv-loop case-μ-loop
+case-add-i t c = omega (arith, c .before .before .before .pre .1 .inside, c .before .before .before .pre .1 .sizes .tape-fits)
 
-cases-loop-holds : (t : ℕ) → cases-lts.Need-loop-holds (
+case-loop-holds : (t : ℕ) → case-lts.Need-loop-holds (
   head-at-reads.Asked,
   head-at-reads.Learnt,
   case-expression-token-reads.Asked,
@@ -1290,11 +1294,11 @@ cases-loop-holds : (t : ℕ) → cases-lts.Need-loop-holds (
   case-expression-before-reads.Learnt,
   node-below t,
   node.Post,
-) (cases-at t) cases.Post cases-Inv-loop cases-μ-loop
+) (case-at t) case.Post case-Inv-loop case-μ-loop
 unfolding formatCaseExpression
-cases-loop-holds t c = loop-first (always formatCaseExpression) formatCaseExpression _ (c .before .before .before .pre .1) (λ all z. refl)
+case-loop-holds t c = loop-first (always formatCaseExpression) formatCaseExpression _ (c .before .before .before .pre .1) (λ all z. refl)
 
-cases-shared-slice-read-if1 : (t : ℕ) → cases-lts.Need-shared-slice-read-if1 (
+case-shared-slice-read-if1 : (t : ℕ) → case-lts.Need-shared-slice-read-if1 (
   head-at-reads.Asked,
   head-at-reads.Learnt,
   case-expression-token-reads.Asked,
@@ -1303,10 +1307,10 @@ cases-shared-slice-read-if1 : (t : ℕ) → cases-lts.Need-shared-slice-read-if1
   case-expression-before-reads.Learnt,
   node-below t,
   node.Post,
-) (cases-at t) cases.Post cases-Inv-loop cases-μ-loop
-cases-shared-slice-read-if1 t c = omega (arith, c .before .loop .inv .inside)
+) (case-at t) case.Post case-Inv-loop case-μ-loop
+case-shared-slice-read-if1 t c = omega (arith, c .before .loop .inv .inside)
 
-cases-head-at-requires : (t : ℕ) → cases-lts.Need-head-at-requires (
+case-head-at-requires : (t : ℕ) → case-lts.Need-head-at-requires (
   head-at-reads.Asked,
   head-at-reads.Learnt,
   case-expression-token-reads.Asked,
@@ -1315,10 +1319,10 @@ cases-head-at-requires : (t : ℕ) → cases-lts.Need-head-at-requires (
   case-expression-before-reads.Learnt,
   node-below t,
   node.Post,
-) (cases-at t) cases.Post cases-Inv-loop cases-μ-loop
-cases-head-at-requires t c κs = loop-fits (c .before .before .before .before .before .before .pre .1) (c .before .before .loop .inv) (c .if1 .taken)
+) (case-at t) case.Post case-Inv-loop case-μ-loop
+case-head-at-requires t c κs = loop-fits (c .before .before .before .before .before .before .pre .1) (c .before .before .loop .inv) (c .if1 .taken)
 
-cases-shared-slice-read-if2 : (t : ℕ) → cases-lts.Need-shared-slice-read-if2 (
+case-shared-slice-read-if2 : (t : ℕ) → case-lts.Need-shared-slice-read-if2 (
   head-at-reads.Asked,
   head-at-reads.Learnt,
   case-expression-token-reads.Asked,
@@ -1327,10 +1331,10 @@ cases-shared-slice-read-if2 : (t : ℕ) → cases-lts.Need-shared-slice-read-if2
   case-expression-before-reads.Learnt,
   node-below t,
   node.Post,
-) (cases-at t) cases.Post cases-Inv-loop cases-μ-loop
-cases-shared-slice-read-if2 t c = omega (arith, c .before .before .before .before .loop .inv .inside)
+) (case-at t) case.Post case-Inv-loop case-μ-loop
+case-shared-slice-read-if2 t c = omega (arith, c .before .before .before .before .loop .inv .inside)
 
-cases-case-expression-token-requires : (t : ℕ) → cases-lts.Need-case-expression-token-requires (
+case-case-expression-token-requires : (t : ℕ) → case-lts.Need-case-expression-token-requires (
   head-at-reads.Asked,
   head-at-reads.Learnt,
   case-expression-token-reads.Asked,
@@ -1339,10 +1343,10 @@ cases-case-expression-token-requires : (t : ℕ) → cases-lts.Need-case-express
   case-expression-before-reads.Learnt,
   node-below t,
   node.Post,
-) (cases-at t) cases.Post cases-Inv-loop cases-μ-loop
-cases-case-expression-token-requires t c κs = token-ready (c .before .before .before .before .before .before .before .before .before .before .pre .1) (c .before .before .before .before .before .before .loop .inv) _ (c .before .if2 .taken) (c .before .before .before .head-at .ensures)
+) (case-at t) case.Post case-Inv-loop case-μ-loop
+case-case-expression-token-requires t c κs = token-ready (c .before .before .before .before .before .before .before .before .before .before .pre .1) (c .before .before .before .before .before .before .loop .inv) _ (c .before .if2 .taken) (c .before .before .before .head-at .ensures)
 
-cases-add-i-2 : (t : ℕ) → cases-lts.Need-add-i-2 (
+case-add-i-2 : (t : ℕ) → case-lts.Need-add-i-2 (
   head-at-reads.Asked,
   head-at-reads.Learnt,
   case-expression-token-reads.Asked,
@@ -1351,10 +1355,10 @@ cases-add-i-2 : (t : ℕ) → cases-lts.Need-add-i-2 (
   case-expression-before-reads.Learnt,
   node-below t,
   node.Post,
-) (cases-at t) cases.Post cases-Inv-loop cases-μ-loop
-cases-add-i-2 t c = omega (arith, loop-fits (c .before .before .before .before .before .before .before .before .before .before .before .before .before .pre .1) (c .before .before .before .before .before .before .before .before .before .loop .inv) (c .before .before .before .before .before .before .before .if1 .taken), c .before .before .before .before .before .before .before .before .before .before .before .before .before .pre .1 .sizes .tape-fits)
+) (case-at t) case.Post case-Inv-loop case-μ-loop
+case-add-i-2 t c = omega (arith, loop-fits (c .before .before .before .before .before .before .before .before .before .before .before .before .before .pre .1) (c .before .before .before .before .before .before .before .before .before .loop .inv) (c .before .before .before .before .before .before .before .if1 .taken), c .before .before .before .before .before .before .before .before .before .before .before .before .before .pre .1 .sizes .tape-fits)
 
-cases-loop-less : (t : ℕ) → cases-lts.Need-loop-less (
+case-loop-less : (t : ℕ) → case-lts.Need-loop-less (
   head-at-reads.Asked,
   head-at-reads.Learnt,
   case-expression-token-reads.Asked,
@@ -1363,10 +1367,10 @@ cases-loop-less : (t : ℕ) → cases-lts.Need-loop-less (
   case-expression-before-reads.Learnt,
   node-below t,
   node.Post,
-) (cases-at t) cases.Post cases-Inv-loop cases-μ-loop
-cases-loop-less t c = omega (arith, c .before .before .before .before .before .before .before .before .before .loop .inv .inside)
+) (case-at t) case.Post case-Inv-loop case-μ-loop
+case-loop-less t c = omega (arith, c .before .before .before .before .before .before .before .before .before .loop .inv .inside)
 
-cases-loop-again : (t : ℕ) → cases-lts.Need-loop-again (
+case-loop-again : (t : ℕ) → case-lts.Need-loop-again (
   head-at-reads.Asked,
   head-at-reads.Learnt,
   case-expression-token-reads.Asked,
@@ -1375,11 +1379,11 @@ cases-loop-again : (t : ℕ) → cases-lts.Need-loop-again (
   case-expression-before-reads.Learnt,
   node-below t,
   node.Post,
-) (cases-at t) cases.Post cases-Inv-loop cases-μ-loop
+) (case-at t) case.Post case-Inv-loop case-μ-loop
 unfolding formatCaseExpression
-cases-loop-again t c = token-next (c .before .before .before .before .before .before .before .before .before .before .before .before .before .pre .1) (c .before .before .before .before .before .before .before .before .before .loop .inv) (c .before .before .before .before .if2 .taken) (c .before .before .before .before .before .before .head-at .ensures) (c .before .before .case-expression-token .ensures) refl (c .before .before .case-expression-token .kept .1 .1 .0)
+case-loop-again t c = token-next (c .before .before .before .before .before .before .before .before .before .before .before .before .before .pre .1) (c .before .before .before .before .before .before .before .before .before .loop .inv) (c .before .before .before .before .if2 .taken) (c .before .before .before .before .before .before .head-at .ensures) (c .before .before .case-expression-token .ensures) refl (c .before .before .case-expression-token .kept .1 .1 .0)
 
-cases-case-expression-before-requires : (t : ℕ) → cases-lts.Need-case-expression-before-requires (
+case-case-expression-before-requires : (t : ℕ) → case-lts.Need-case-expression-before-requires (
   head-at-reads.Asked,
   head-at-reads.Learnt,
   case-expression-token-reads.Asked,
@@ -1388,10 +1392,10 @@ cases-case-expression-before-requires : (t : ℕ) → cases-lts.Need-case-expres
   case-expression-before-reads.Learnt,
   node-below t,
   node.Post,
-) (cases-at t) cases.Post cases-Inv-loop cases-μ-loop
-cases-case-expression-before-requires t c κs = let r = side-ready (c .before .before .before .before .before .before .before .before .before .before .pre .1) (c .before .before .before .before .before .before .loop .inv) in omega arith
+) (case-at t) case.Post case-Inv-loop case-μ-loop
+case-case-expression-before-requires t c κs = let r = side-ready (c .before .before .before .before .before .before .before .before .before .before .pre .1) (c .before .before .before .before .before .before .loop .inv) in omega arith
 
-cases-sub-node : (t : ℕ) → cases-lts.Need-sub-node (
+case-sub-node : (t : ℕ) → case-lts.Need-sub-node (
   head-at-reads.Asked,
   head-at-reads.Learnt,
   case-expression-token-reads.Asked,
@@ -1400,10 +1404,10 @@ cases-sub-node : (t : ℕ) → cases-lts.Need-sub-node (
   case-expression-before-reads.Learnt,
   node-below t,
   node.Post,
-) (cases-at t) cases.Post cases-Inv-loop cases-μ-loop
-cases-sub-node t c = left-pos (c .before .before .before .before .before .before .before .before .before .before .before .before .before .before .pre .1) (c .before .before .before .before .before .before .before .before .before .before .loop .inv) (c .before .before .before .before .before .before .before .before .if1 .taken) (c .before .before .before .before .before .if2 .left)
+) (case-at t) case.Post case-Inv-loop case-μ-loop
+case-sub-node t c = left-pos (c .before .before .before .before .before .before .before .before .before .before .before .before .before .before .pre .1) (c .before .before .before .before .before .before .before .before .before .before .loop .inv) (c .before .before .before .before .before .before .before .before .if1 .taken) (c .before .before .before .before .before .if2 .left)
 
-cases-node-requires : (t : ℕ) → cases-lts.Need-node-requires (
+case-node-requires : (t : ℕ) → case-lts.Need-node-requires (
   head-at-reads.Asked,
   head-at-reads.Learnt,
   case-expression-token-reads.Asked,
@@ -1412,10 +1416,10 @@ cases-node-requires : (t : ℕ) → cases-lts.Need-node-requires (
   case-expression-before-reads.Learnt,
   node-below t,
   node.Post,
-) (cases-at t) cases.Post cases-Inv-loop cases-μ-loop
-cases-node-requires t c κs = (omega (arith, c .before .before .before .before .before .before .before .before .before .before .before .before .before .before .pre .0, left-pos (c .before .before .before .before .before .before .before .before .before .before .before .before .before .before .pre .1) (c .before .before .before .before .before .before .before .before .before .before .loop .inv) (c .before .before .before .before .before .before .before .before .if1 .taken) (c .before .before .before .before .before .if2 .left)), node-ready (c .before .before .before .before .before .before .before .before .before .before .before .before .before .before .pre .1) (c .before .before .before .before .before .before .before .before .before .before .loop .inv) (c .before .before .before .before .before .before .before .before .if1 .taken) (c .before .before .before .before .before .if2 .left) (c .before .before .before .before .before .before .before .head-at .ensures) (c .before .before .before .case-expression-before .ensures) (omega arith))
+) (case-at t) case.Post case-Inv-loop case-μ-loop
+case-node-requires t c κs = (omega (arith, c .before .before .before .before .before .before .before .before .before .before .before .before .before .before .pre .0, left-pos (c .before .before .before .before .before .before .before .before .before .before .before .before .before .before .pre .1) (c .before .before .before .before .before .before .before .before .before .before .loop .inv) (c .before .before .before .before .before .before .before .before .if1 .taken) (c .before .before .before .before .before .if2 .left)), node-ready (c .before .before .before .before .before .before .before .before .before .before .before .before .before .before .pre .1) (c .before .before .before .before .before .before .before .before .before .before .loop .inv) (c .before .before .before .before .before .before .before .before .if1 .taken) (c .before .before .before .before .before .if2 .left) (c .before .before .before .before .before .before .before .head-at .ensures) (c .before .before .before .case-expression-before .ensures) (omega arith))
 
-cases-loop-less-2 : (t : ℕ) → cases-lts.Need-loop-less-2 (
+case-loop-less-2 : (t : ℕ) → case-lts.Need-loop-less-2 (
   head-at-reads.Asked,
   head-at-reads.Learnt,
   case-expression-token-reads.Asked,
@@ -1424,10 +1428,10 @@ cases-loop-less-2 : (t : ℕ) → cases-lts.Need-loop-less-2 (
   case-expression-before-reads.Learnt,
   node-below t,
   node.Post,
-) (cases-at t) cases.Post cases-Inv-loop cases-μ-loop
-cases-loop-less-2 t c = omega (arith, c .before .before .before .before .before .before .before .before .before .before .before .before .before .before .loop .inv .inside, c .before .before .before .node .ensures .on)
+) (case-at t) case.Post case-Inv-loop case-μ-loop
+case-loop-less-2 t c = omega (arith, c .before .before .before .before .before .before .before .before .before .before .before .before .before .before .loop .inv .inside, c .before .before .before .node .ensures .forward)
 
-cases-loop-again-2 : (t : ℕ) → cases-lts.Need-loop-again-2 (
+case-loop-again-2 : (t : ℕ) → case-lts.Need-loop-again-2 (
   head-at-reads.Asked,
   head-at-reads.Learnt,
   case-expression-token-reads.Asked,
@@ -1436,11 +1440,11 @@ cases-loop-again-2 : (t : ℕ) → cases-lts.Need-loop-again-2 (
   case-expression-before-reads.Learnt,
   node-below t,
   node.Post,
-) (cases-at t) cases.Post cases-Inv-loop cases-μ-loop
+) (case-at t) case.Post case-Inv-loop case-μ-loop
 unfolding formatCaseExpression
-cases-loop-again-2 t c = node-next (c .before .before .before .before .before .before .before .before .before .before .before .before .before .before .before .before .before .before .pre .1) (c .before .before .before .before .before .before .before .before .before .before .before .before .before .before .loop .inv) (formatCaseExpression .atNode (flagged false) (c .before .before .before .before .before .before .before .before .before .before .before .head-at .result .kind) 0) (c .before .before .before .before .before .before .before .before .before .before .before .before .if1 .taken) (c .before .before .before .before .before .before .before .before .before .if2 .left) (c .before .before .before .before .before .before .before .before .before .before .before .head-at .ensures) (λ k z. refl) (c .before .before .before .before .before .before .before .case-expression-before .ensures) (c .before .before .before .node .ensures) (case-kept (flagged false) (c .before .before .before .before .before .before .before .before .before .before .before .head-at .result .kind)) (spaced 0 _ (omega arith) (sym (case-after (flagged false) (c .before .before .before .before .before .before .before .before .before .before .before .head-at .result .kind))) no-spacing) (omega arith) (omega arith) (c .before .before .before .node .kept .1 .1 .1 .1 .0 ∙ c .before .before .before .before .before .before .before .case-expression-before .kept .0)
+case-loop-again-2 t c = node-next (c .before .before .before .before .before .before .before .before .before .before .before .before .before .before .before .before .before .before .pre .1) (c .before .before .before .before .before .before .before .before .before .before .before .before .before .before .loop .inv) (formatCaseExpression .atNode (flagged false) (c .before .before .before .before .before .before .before .before .before .before .before .head-at .result .kind) 0) (c .before .before .before .before .before .before .before .before .before .before .before .before .if1 .taken) (c .before .before .before .before .before .before .before .before .before .if2 .left) (c .before .before .before .before .before .before .before .before .before .before .before .head-at .ensures) (λ k z. refl) (c .before .before .before .before .before .before .before .case-expression-before .ensures) (c .before .before .before .node .ensures) (case-kept (flagged false) (c .before .before .before .before .before .before .before .before .before .before .before .head-at .result .kind)) (spaced 0 _ (omega arith) (sym (case-after (flagged false) (c .before .before .before .before .before .before .before .before .before .before .before .head-at .result .kind))) no-spacing) (omega arith) (omega arith) (c .before .before .before .node .kept .1 .1 .1 .1 .0 ∙ c .before .before .before .before .before .before .before .case-expression-before .kept .0)
 
-cases-add-t27 : (t : ℕ) → cases-lts.Need-add-t27 (
+case-add-t27 : (t : ℕ) → case-lts.Need-add-t27 (
   head-at-reads.Asked,
   head-at-reads.Learnt,
   case-expression-token-reads.Asked,
@@ -1449,10 +1453,10 @@ cases-add-t27 : (t : ℕ) → cases-lts.Need-add-t27 (
   case-expression-before-reads.Learnt,
   node-below t,
   node.Post,
-) (cases-at t) cases.Post cases-Inv-loop cases-μ-loop
-cases-add-t27 t c = omega (arith, c .before .before .loop .inv .inside, c .before .before .before .before .before .before .pre .1 .sizes .tape-fits)
+) (case-at t) case.Post case-Inv-loop case-μ-loop
+case-add-t27 t c = omega (arith, c .before .before .loop .inv .inside, c .before .before .before .before .before .before .pre .1 .sizes .tape-fits)
 
-cases-same-length : (t : ℕ) → cases-lts.Need-same-length (
+case-same-length : (t : ℕ) → case-lts.Need-same-length (
   head-at-reads.Asked,
   head-at-reads.Learnt,
   case-expression-token-reads.Asked,
@@ -1461,10 +1465,10 @@ cases-same-length : (t : ℕ) → cases-lts.Need-same-length (
   case-expression-before-reads.Learnt,
   node-below t,
   node.Post,
-) (cases-at t) cases.Post cases-Inv-loop cases-μ-loop
-cases-same-length t c = c .before .before .loop .inv .same
+) (case-at t) case.Post case-Inv-loop case-μ-loop
+case-same-length t c = c .before .before .loop .inv .same
 
-cases-returns : (t : ℕ) → cases-lts.Need-returns (
+case-returns : (t : ℕ) → case-lts.Need-returns (
   head-at-reads.Asked,
   head-at-reads.Learnt,
   case-expression-token-reads.Asked,
@@ -1473,17 +1477,17 @@ cases-returns : (t : ℕ) → cases-lts.Need-returns (
   case-expression-before-reads.Learnt,
   node-below t,
   node.Post,
-) (cases-at t) cases.Post cases-Inv-loop cases-μ-loop
+) (case-at t) case.Post case-Inv-loop case-μ-loop
 unfolding formatCaseExpression
-cases-returns t c = loop-last (c .before .before .before .before .before .before .pre .1) (c .before .before .loop .inv) (c .if1 .left) no-spacing (omega arith)
+case-returns t c = loop-last (c .before .before .before .before .before .before .pre .1) (c .before .before .loop .inv) (c .if1 .left) no-spacing (omega arith)
 
-abbrev commas-Inv-loop : commas-lts.InvT-loop
-commas-Inv-loop source tape config errors out₀ left at i₀ ctx₀ local₀ out i ctx local = Loop source tape config errors left at (always formatCommaList) formatCommaList ctx₀ out₀ out i ctx local
+abbrev comma-Inv-loop : comma-lts.InvT-loop
+comma-Inv-loop source tape config errors out₀ left at i₀ ctx₀ local₀ out i ctx local = Loop source tape config errors left at (always formatCommaList) formatCommaList ctx₀ out₀ out i ctx local
 
-abbrev commas-μ-loop : commas-lts.MeasureT-loop
-commas-μ-loop source tape config errors out₀ left at i₀ ctx₀ local₀ out i ctx local = length tape - i
+abbrev comma-μ-loop : comma-lts.MeasureT-loop
+comma-μ-loop source tape config errors out₀ left at i₀ ctx₀ local₀ out i ctx local = length tape - i
 
-commas-add-i : (t : ℕ) → commas-lts.Need-add-i (
+comma-add-i : (t : ℕ) → comma-lts.Need-add-i (
   head-at-reads.Asked,
   head-at-reads.Learnt,
   comma-list-token-reads.Asked,
@@ -1492,10 +1496,10 @@ commas-add-i : (t : ℕ) → commas-lts.Need-add-i (
   space-if-reads.Learnt,
   node-below t,
   node.Post,
-) (commas-at t) commas.Post commas-Inv-loop commas-μ-loop
-commas-add-i t c = omega (arith, c .before .before .before .pre .1 .inside, c .before .before .before .pre .1 .sizes .tape-fits)
+) (comma-at t) comma.Post comma-Inv-loop comma-μ-loop
+comma-add-i t c = omega (arith, c .before .before .before .pre .1 .inside, c .before .before .before .pre .1 .sizes .tape-fits)
 
-commas-loop-holds : (t : ℕ) → commas-lts.Need-loop-holds (
+comma-loop-holds : (t : ℕ) → comma-lts.Need-loop-holds (
   head-at-reads.Asked,
   head-at-reads.Learnt,
   comma-list-token-reads.Asked,
@@ -1504,11 +1508,11 @@ commas-loop-holds : (t : ℕ) → commas-lts.Need-loop-holds (
   space-if-reads.Learnt,
   node-below t,
   node.Post,
-) (commas-at t) commas.Post commas-Inv-loop commas-μ-loop
+) (comma-at t) comma.Post comma-Inv-loop comma-μ-loop
 unfolding formatCommaList
-commas-loop-holds t c = loop-first (always formatCommaList) formatCommaList _ (c .before .before .before .pre .1) (λ all z. refl)
+comma-loop-holds t c = loop-first (always formatCommaList) formatCommaList _ (c .before .before .before .pre .1) (λ all z. refl)
 
-commas-shared-slice-read-if1 : (t : ℕ) → commas-lts.Need-shared-slice-read-if1 (
+comma-shared-slice-read-if1 : (t : ℕ) → comma-lts.Need-shared-slice-read-if1 (
   head-at-reads.Asked,
   head-at-reads.Learnt,
   comma-list-token-reads.Asked,
@@ -1517,10 +1521,10 @@ commas-shared-slice-read-if1 : (t : ℕ) → commas-lts.Need-shared-slice-read-i
   space-if-reads.Learnt,
   node-below t,
   node.Post,
-) (commas-at t) commas.Post commas-Inv-loop commas-μ-loop
-commas-shared-slice-read-if1 t c = omega (arith, c .before .loop .inv .inside)
+) (comma-at t) comma.Post comma-Inv-loop comma-μ-loop
+comma-shared-slice-read-if1 t c = omega (arith, c .before .loop .inv .inside)
 
-commas-head-at-requires : (t : ℕ) → commas-lts.Need-head-at-requires (
+comma-head-at-requires : (t : ℕ) → comma-lts.Need-head-at-requires (
   head-at-reads.Asked,
   head-at-reads.Learnt,
   comma-list-token-reads.Asked,
@@ -1529,10 +1533,10 @@ commas-head-at-requires : (t : ℕ) → commas-lts.Need-head-at-requires (
   space-if-reads.Learnt,
   node-below t,
   node.Post,
-) (commas-at t) commas.Post commas-Inv-loop commas-μ-loop
-commas-head-at-requires t c κs = loop-fits (c .before .before .before .before .before .before .pre .1) (c .before .before .loop .inv) (c .if1 .taken)
+) (comma-at t) comma.Post comma-Inv-loop comma-μ-loop
+comma-head-at-requires t c κs = loop-fits (c .before .before .before .before .before .before .pre .1) (c .before .before .loop .inv) (c .if1 .taken)
 
-commas-shared-slice-read-if2 : (t : ℕ) → commas-lts.Need-shared-slice-read-if2 (
+comma-shared-slice-read-if2 : (t : ℕ) → comma-lts.Need-shared-slice-read-if2 (
   head-at-reads.Asked,
   head-at-reads.Learnt,
   comma-list-token-reads.Asked,
@@ -1541,10 +1545,10 @@ commas-shared-slice-read-if2 : (t : ℕ) → commas-lts.Need-shared-slice-read-i
   space-if-reads.Learnt,
   node-below t,
   node.Post,
-) (commas-at t) commas.Post commas-Inv-loop commas-μ-loop
-commas-shared-slice-read-if2 t c = omega (arith, c .before .before .before .before .loop .inv .inside)
+) (comma-at t) comma.Post comma-Inv-loop comma-μ-loop
+comma-shared-slice-read-if2 t c = omega (arith, c .before .before .before .before .loop .inv .inside)
 
-commas-comma-list-token-requires : (t : ℕ) → commas-lts.Need-comma-list-token-requires (
+comma-comma-list-token-requires : (t : ℕ) → comma-lts.Need-comma-list-token-requires (
   head-at-reads.Asked,
   head-at-reads.Learnt,
   comma-list-token-reads.Asked,
@@ -1553,10 +1557,10 @@ commas-comma-list-token-requires : (t : ℕ) → commas-lts.Need-comma-list-toke
   space-if-reads.Learnt,
   node-below t,
   node.Post,
-) (commas-at t) commas.Post commas-Inv-loop commas-μ-loop
-commas-comma-list-token-requires t c κs = token-ready (c .before .before .before .before .before .before .before .before .before .before .pre .1) (c .before .before .before .before .before .before .loop .inv) _ (c .before .if2 .taken) (c .before .before .before .head-at .ensures)
+) (comma-at t) comma.Post comma-Inv-loop comma-μ-loop
+comma-comma-list-token-requires t c κs = token-ready (c .before .before .before .before .before .before .before .before .before .before .pre .1) (c .before .before .before .before .before .before .loop .inv) _ (c .before .if2 .taken) (c .before .before .before .head-at .ensures)
 
-commas-add-i-2 : (t : ℕ) → commas-lts.Need-add-i-2 (
+comma-add-i-2 : (t : ℕ) → comma-lts.Need-add-i-2 (
   head-at-reads.Asked,
   head-at-reads.Learnt,
   comma-list-token-reads.Asked,
@@ -1565,10 +1569,10 @@ commas-add-i-2 : (t : ℕ) → commas-lts.Need-add-i-2 (
   space-if-reads.Learnt,
   node-below t,
   node.Post,
-) (commas-at t) commas.Post commas-Inv-loop commas-μ-loop
-commas-add-i-2 t c = omega (arith, loop-fits (c .before .before .before .before .before .before .before .before .before .before .before .before .before .before .before .pre .1) (c .before .before .before .before .before .before .before .before .before .before .before .loop .inv) (c .before .before .before .before .before .before .before .before .before .if1 .taken), c .before .before .before .before .before .before .before .before .before .before .before .before .before .before .before .pre .1 .sizes .tape-fits)
+) (comma-at t) comma.Post comma-Inv-loop comma-μ-loop
+comma-add-i-2 t c = omega (arith, loop-fits (c .before .before .before .before .before .before .before .before .before .before .before .before .before .before .before .pre .1) (c .before .before .before .before .before .before .before .before .before .before .before .loop .inv) (c .before .before .before .before .before .before .before .before .before .if1 .taken), c .before .before .before .before .before .before .before .before .before .before .before .before .before .before .before .pre .1 .sizes .tape-fits)
 
-commas-loop-less : (t : ℕ) → commas-lts.Need-loop-less (
+comma-loop-less : (t : ℕ) → comma-lts.Need-loop-less (
   head-at-reads.Asked,
   head-at-reads.Learnt,
   comma-list-token-reads.Asked,
@@ -1577,10 +1581,10 @@ commas-loop-less : (t : ℕ) → commas-lts.Need-loop-less (
   space-if-reads.Learnt,
   node-below t,
   node.Post,
-) (commas-at t) commas.Post commas-Inv-loop commas-μ-loop
-commas-loop-less t c = omega (arith, c .before .before .before .before .before .before .before .before .before .before .before .loop .inv .inside)
+) (comma-at t) comma.Post comma-Inv-loop comma-μ-loop
+comma-loop-less t c = omega (arith, c .before .before .before .before .before .before .before .before .before .before .before .loop .inv .inside)
 
-commas-loop-again : (t : ℕ) → commas-lts.Need-loop-again (
+comma-loop-again : (t : ℕ) → comma-lts.Need-loop-again (
   head-at-reads.Asked,
   head-at-reads.Learnt,
   comma-list-token-reads.Asked,
@@ -1589,11 +1593,11 @@ commas-loop-again : (t : ℕ) → commas-lts.Need-loop-again (
   space-if-reads.Learnt,
   node-below t,
   node.Post,
-) (commas-at t) commas.Post commas-Inv-loop commas-μ-loop
+) (comma-at t) comma.Post comma-Inv-loop comma-μ-loop
 unfolding formatCommaList
-commas-loop-again t c = token-next (c .before .before .before .before .before .before .before .before .before .before .before .before .before .before .before .pre .1) (c .before .before .before .before .before .before .before .before .before .before .before .loop .inv) (c .before .before .before .before .before .before .if2 .taken) (c .before .before .before .before .before .before .before .before .head-at .ensures) (c .before .before .before .before .comma-list-token .ensures .acted) (c .before .before .before .before .comma-list-token .ensures .local) (c .before .before .before .before .comma-list-token .kept .1 .1 .0)
+comma-loop-again t c = token-next (c .before .before .before .before .before .before .before .before .before .before .before .before .before .before .before .pre .1) (c .before .before .before .before .before .before .before .before .before .before .before .loop .inv) (c .before .before .before .before .before .before .if2 .taken) (c .before .before .before .before .before .before .before .before .head-at .ensures) (c .before .before .before .before .comma-list-token .ensures .acted) (c .before .before .before .before .comma-list-token .ensures .local) (c .before .before .before .before .comma-list-token .kept .1 .1 .0)
 
-commas-space-if-requires : (t : ℕ) → commas-lts.Need-space-if-requires (
+comma-space-if-requires : (t : ℕ) → comma-lts.Need-space-if-requires (
   head-at-reads.Asked,
   head-at-reads.Learnt,
   comma-list-token-reads.Asked,
@@ -1602,10 +1606,10 @@ commas-space-if-requires : (t : ℕ) → commas-lts.Need-space-if-requires (
   space-if-reads.Learnt,
   node-below t,
   node.Post,
-) (commas-at t) commas.Post commas-Inv-loop commas-μ-loop
-commas-space-if-requires t c κs = search needs
+) (comma-at t) comma.Post comma-Inv-loop comma-μ-loop
+comma-space-if-requires t c κs = search needs
 
-commas-sub-node : (t : ℕ) → commas-lts.Need-sub-node (
+comma-sub-node : (t : ℕ) → comma-lts.Need-sub-node (
   head-at-reads.Asked,
   head-at-reads.Learnt,
   comma-list-token-reads.Asked,
@@ -1614,10 +1618,10 @@ commas-sub-node : (t : ℕ) → commas-lts.Need-sub-node (
   space-if-reads.Learnt,
   node-below t,
   node.Post,
-) (commas-at t) commas.Post commas-Inv-loop commas-μ-loop
-commas-sub-node t c = left-pos (c .before .before .before .before .before .before .before .before .before .before .before .before .pre .1) (c .before .before .before .before .before .before .before .before .loop .inv) (c .before .before .before .before .before .before .if1 .taken) (c .before .before .before .if2 .left)
+) (comma-at t) comma.Post comma-Inv-loop comma-μ-loop
+comma-sub-node t c = left-pos (c .before .before .before .before .before .before .before .before .before .before .before .before .pre .1) (c .before .before .before .before .before .before .before .before .loop .inv) (c .before .before .before .before .before .before .if1 .taken) (c .before .before .before .if2 .left)
 
-commas-node-requires : (t : ℕ) → commas-lts.Need-node-requires (
+comma-node-requires : (t : ℕ) → comma-lts.Need-node-requires (
   head-at-reads.Asked,
   head-at-reads.Learnt,
   comma-list-token-reads.Asked,
@@ -1626,10 +1630,10 @@ commas-node-requires : (t : ℕ) → commas-lts.Need-node-requires (
   space-if-reads.Learnt,
   node-below t,
   node.Post,
-) (commas-at t) commas.Post commas-Inv-loop commas-μ-loop
-commas-node-requires t c κs = (omega (arith, c .before .before .before .before .before .before .before .before .before .before .before .before .pre .0, left-pos (c .before .before .before .before .before .before .before .before .before .before .before .before .pre .1) (c .before .before .before .before .before .before .before .before .loop .inv) (c .before .before .before .before .before .before .if1 .taken) (c .before .before .before .if2 .left)), node-ready (c .before .before .before .before .before .before .before .before .before .before .before .before .pre .1) (c .before .before .before .before .before .before .before .before .loop .inv) (c .before .before .before .before .before .before .if1 .taken) (c .before .before .before .if2 .left) (c .before .before .before .before .before .head-at .ensures) (as-spaced (c .before .space-if .ensures)) (omega arith))
+) (comma-at t) comma.Post comma-Inv-loop comma-μ-loop
+comma-node-requires t c κs = (omega (arith, c .before .before .before .before .before .before .before .before .before .before .before .before .pre .0, left-pos (c .before .before .before .before .before .before .before .before .before .before .before .before .pre .1) (c .before .before .before .before .before .before .before .before .loop .inv) (c .before .before .before .before .before .before .if1 .taken) (c .before .before .before .if2 .left)), node-ready (c .before .before .before .before .before .before .before .before .before .before .before .before .pre .1) (c .before .before .before .before .before .before .before .before .loop .inv) (c .before .before .before .before .before .before .if1 .taken) (c .before .before .before .if2 .left) (c .before .before .before .before .before .head-at .ensures) (as-spaced (c .before .space-if .ensures)) (omega arith))
 
-commas-loop-less-2 : (t : ℕ) → commas-lts.Need-loop-less-2 (
+comma-loop-less-2 : (t : ℕ) → comma-lts.Need-loop-less-2 (
   head-at-reads.Asked,
   head-at-reads.Learnt,
   comma-list-token-reads.Asked,
@@ -1638,10 +1642,10 @@ commas-loop-less-2 : (t : ℕ) → commas-lts.Need-loop-less-2 (
   space-if-reads.Learnt,
   node-below t,
   node.Post,
-) (commas-at t) commas.Post commas-Inv-loop commas-μ-loop
-commas-loop-less-2 t c = omega (arith, c .before .before .before .before .before .before .before .before .before .before .before .before .loop .inv .inside, c .before .before .before .node .ensures .on)
+) (comma-at t) comma.Post comma-Inv-loop comma-μ-loop
+comma-loop-less-2 t c = omega (arith, c .before .before .before .before .before .before .before .before .before .before .before .before .loop .inv .inside, c .before .before .before .node .ensures .forward)
 
-commas-loop-again-2 : (t : ℕ) → commas-lts.Need-loop-again-2 (
+comma-loop-again-2 : (t : ℕ) → comma-lts.Need-loop-again-2 (
   head-at-reads.Asked,
   head-at-reads.Learnt,
   comma-list-token-reads.Asked,
@@ -1650,11 +1654,11 @@ commas-loop-again-2 : (t : ℕ) → commas-lts.Need-loop-again-2 (
   space-if-reads.Learnt,
   node-below t,
   node.Post,
-) (commas-at t) commas.Post commas-Inv-loop commas-μ-loop
+) (comma-at t) comma.Post comma-Inv-loop comma-μ-loop
 unfolding formatCommaList
-commas-loop-again-2 t c = node-next (c .before .before .before .before .before .before .before .before .before .before .before .before .before .before .before .before .pre .1) (c .before .before .before .before .before .before .before .before .before .before .before .before .loop .inv) (formatCommaList .atNode (c .before .before .before .before .before .before .before .before .before .before .before .before .loop .local) (c .before .before .before .before .before .before .before .before .before .head-at .result .kind) 0) (c .before .before .before .before .before .before .before .before .before .before .if1 .taken) (c .before .before .before .before .before .before .before .if2 .left) (c .before .before .before .before .before .before .before .before .before .head-at .ensures) (λ k z. refl) (as-spaced (c .before .before .before .before .before .space-if .ensures)) (c .before .before .before .node .ensures) refl no-spacing (omega arith) (omega arith) (c .before .before .before .node .kept .1 .1 .1 .1 .0)
+comma-loop-again-2 t c = node-next (c .before .before .before .before .before .before .before .before .before .before .before .before .before .before .before .before .pre .1) (c .before .before .before .before .before .before .before .before .before .before .before .before .loop .inv) (formatCommaList .atNode (c .before .before .before .before .before .before .before .before .before .before .before .before .loop .local) (c .before .before .before .before .before .before .before .before .before .head-at .result .kind) 0) (c .before .before .before .before .before .before .before .before .before .before .if1 .taken) (c .before .before .before .before .before .before .before .if2 .left) (c .before .before .before .before .before .before .before .before .before .head-at .ensures) (λ k z. refl) (as-spaced (c .before .before .before .before .before .space-if .ensures)) (c .before .before .before .node .ensures) refl no-spacing (omega arith) (omega arith) (c .before .before .before .node .kept .1 .1 .1 .1 .0)
 
-commas-add-t28 : (t : ℕ) → commas-lts.Need-add-t28 (
+comma-add-t28 : (t : ℕ) → comma-lts.Need-add-t28 (
   head-at-reads.Asked,
   head-at-reads.Learnt,
   comma-list-token-reads.Asked,
@@ -1663,10 +1667,10 @@ commas-add-t28 : (t : ℕ) → commas-lts.Need-add-t28 (
   space-if-reads.Learnt,
   node-below t,
   node.Post,
-) (commas-at t) commas.Post commas-Inv-loop commas-μ-loop
-commas-add-t28 t c = omega (arith, c .before .before .loop .inv .inside, c .before .before .before .before .before .before .pre .1 .sizes .tape-fits)
+) (comma-at t) comma.Post comma-Inv-loop comma-μ-loop
+comma-add-t28 t c = omega (arith, c .before .before .loop .inv .inside, c .before .before .before .before .before .before .pre .1 .sizes .tape-fits)
 
-commas-same-length : (t : ℕ) → commas-lts.Need-same-length (
+comma-same-length : (t : ℕ) → comma-lts.Need-same-length (
   head-at-reads.Asked,
   head-at-reads.Learnt,
   comma-list-token-reads.Asked,
@@ -1675,10 +1679,10 @@ commas-same-length : (t : ℕ) → commas-lts.Need-same-length (
   space-if-reads.Learnt,
   node-below t,
   node.Post,
-) (commas-at t) commas.Post commas-Inv-loop commas-μ-loop
-commas-same-length t c = c .before .before .loop .inv .same
+) (comma-at t) comma.Post comma-Inv-loop comma-μ-loop
+comma-same-length t c = c .before .before .loop .inv .same
 
-commas-returns : (t : ℕ) → commas-lts.Need-returns (
+comma-returns : (t : ℕ) → comma-lts.Need-returns (
   head-at-reads.Asked,
   head-at-reads.Learnt,
   comma-list-token-reads.Asked,
@@ -1687,9 +1691,179 @@ commas-returns : (t : ℕ) → commas-lts.Need-returns (
   space-if-reads.Learnt,
   node-below t,
   node.Post,
-) (commas-at t) commas.Post commas-Inv-loop commas-μ-loop
+) (comma-at t) comma.Post comma-Inv-loop comma-μ-loop
 unfolding formatCommaList
-commas-returns t c = loop-last (c .before .before .before .before .before .before .pre .1) (c .before .before .loop .inv) (c .if1 .left) no-spacing (omega arith)
+comma-returns t c = loop-last (c .before .before .before .before .before .before .pre .1) (c .before .before .loop .inv) (c .if1 .left) no-spacing (omega arith)
+
+abbrev dtype-Inv-loop : dtype-lts.InvT-loop
+dtype-Inv-loop source tape config errors out₀ left at i₀ ctx₀ out i ctx = Loop source tape config errors left at (always formatDataType) formatDataType ctx₀ out₀ out i ctx (flagged false)
+
+abbrev dtype-μ-loop : dtype-lts.MeasureT-loop
+dtype-μ-loop source tape config errors out₀ left at i₀ ctx₀ out i ctx = length tape - i
+
+dtype-add-i : (t : ℕ) → dtype-lts.Need-add-i (
+  head-at-reads.Asked,
+  head-at-reads.Learnt,
+  data-type-token-reads.Asked,
+  data-type-token-reads.Learnt,
+  node-below t,
+  node.Post,
+) (dtype-at t) dtype.Post dtype-Inv-loop dtype-μ-loop
+dtype-add-i t c = omega (arith, c .before .before .before .pre .1 .inside, c .before .before .before .pre .1 .sizes .tape-fits)
+
+dtype-loop-holds : (t : ℕ) → dtype-lts.Need-loop-holds (
+  head-at-reads.Asked,
+  head-at-reads.Learnt,
+  data-type-token-reads.Asked,
+  data-type-token-reads.Learnt,
+  node-below t,
+  node.Post,
+) (dtype-at t) dtype.Post dtype-Inv-loop dtype-μ-loop
+unfolding formatDataType
+dtype-loop-holds t c = loop-first (always formatDataType) formatDataType _ (c .before .before .before .pre .1) (λ all z. refl)
+
+dtype-shared-slice-read-if1 : (t : ℕ) → dtype-lts.Need-shared-slice-read-if1 (
+  head-at-reads.Asked,
+  head-at-reads.Learnt,
+  data-type-token-reads.Asked,
+  data-type-token-reads.Learnt,
+  node-below t,
+  node.Post,
+) (dtype-at t) dtype.Post dtype-Inv-loop dtype-μ-loop
+dtype-shared-slice-read-if1 t c = omega (arith, c .before .loop .inv .inside)
+
+dtype-head-at-requires : (t : ℕ) → dtype-lts.Need-head-at-requires (
+  head-at-reads.Asked,
+  head-at-reads.Learnt,
+  data-type-token-reads.Asked,
+  data-type-token-reads.Learnt,
+  node-below t,
+  node.Post,
+) (dtype-at t) dtype.Post dtype-Inv-loop dtype-μ-loop
+dtype-head-at-requires t c κs = loop-fits (c .before .before .before .before .before .before .pre .1) (c .before .before .loop .inv) (c .if1 .taken)
+
+dtype-shared-slice-read-if2 : (t : ℕ) → dtype-lts.Need-shared-slice-read-if2 (
+  head-at-reads.Asked,
+  head-at-reads.Learnt,
+  data-type-token-reads.Asked,
+  data-type-token-reads.Learnt,
+  node-below t,
+  node.Post,
+) (dtype-at t) dtype.Post dtype-Inv-loop dtype-μ-loop
+dtype-shared-slice-read-if2 t c = omega (arith, c .before .before .before .before .loop .inv .inside)
+
+dtype-data-type-token-requires : (t : ℕ) → dtype-lts.Need-data-type-token-requires (
+  head-at-reads.Asked,
+  head-at-reads.Learnt,
+  data-type-token-reads.Asked,
+  data-type-token-reads.Learnt,
+  node-below t,
+  node.Post,
+) (dtype-at t) dtype.Post dtype-Inv-loop dtype-μ-loop
+dtype-data-type-token-requires t c κs = token-ready (c .before .before .before .before .before .before .before .before .before .before .pre .1) (c .before .before .before .before .before .before .loop .inv) _ (c .before .if2 .taken) (c .before .before .before .head-at .ensures)
+
+dtype-add-i-2 : (t : ℕ) → dtype-lts.Need-add-i-2 (
+  head-at-reads.Asked,
+  head-at-reads.Learnt,
+  data-type-token-reads.Asked,
+  data-type-token-reads.Learnt,
+  node-below t,
+  node.Post,
+) (dtype-at t) dtype.Post dtype-Inv-loop dtype-μ-loop
+dtype-add-i-2 t c = omega (arith, loop-fits (c .before .before .before .before .before .before .before .before .before .before .before .before .before .pre .1) (c .before .before .before .before .before .before .before .before .before .loop .inv) (c .before .before .before .before .before .before .before .if1 .taken), c .before .before .before .before .before .before .before .before .before .before .before .before .before .pre .1 .sizes .tape-fits)
+
+dtype-loop-less : (t : ℕ) → dtype-lts.Need-loop-less (
+  head-at-reads.Asked,
+  head-at-reads.Learnt,
+  data-type-token-reads.Asked,
+  data-type-token-reads.Learnt,
+  node-below t,
+  node.Post,
+) (dtype-at t) dtype.Post dtype-Inv-loop dtype-μ-loop
+dtype-loop-less t c = omega (arith, c .before .before .before .before .before .before .before .before .before .loop .inv .inside)
+
+dtype-loop-again : (t : ℕ) → dtype-lts.Need-loop-again (
+  head-at-reads.Asked,
+  head-at-reads.Learnt,
+  data-type-token-reads.Asked,
+  data-type-token-reads.Learnt,
+  node-below t,
+  node.Post,
+) (dtype-at t) dtype.Post dtype-Inv-loop dtype-μ-loop
+unfolding formatDataType
+dtype-loop-again t c = token-next (c .before .before .before .before .before .before .before .before .before .before .before .before .before .pre .1) (c .before .before .before .before .before .before .before .before .before .loop .inv) (c .before .before .before .before .if2 .taken) (c .before .before .before .before .before .before .head-at .ensures) (c .before .before .data-type-token .ensures) refl (c .before .before .data-type-token .kept .1 .1 .0)
+
+dtype-sub-node : (t : ℕ) → dtype-lts.Need-sub-node (
+  head-at-reads.Asked,
+  head-at-reads.Learnt,
+  data-type-token-reads.Asked,
+  data-type-token-reads.Learnt,
+  node-below t,
+  node.Post,
+) (dtype-at t) dtype.Post dtype-Inv-loop dtype-μ-loop
+dtype-sub-node t c = left-pos (c .before .before .before .before .before .before .before .before .before .before .pre .1) (c .before .before .before .before .before .before .loop .inv) (c .before .before .before .before .if1 .taken) (c .before .if2 .left)
+
+dtype-node-requires : (t : ℕ) → dtype-lts.Need-node-requires (
+  head-at-reads.Asked,
+  head-at-reads.Learnt,
+  data-type-token-reads.Asked,
+  data-type-token-reads.Learnt,
+  node-below t,
+  node.Post,
+) (dtype-at t) dtype.Post dtype-Inv-loop dtype-μ-loop
+dtype-node-requires t c κs = (omega (arith, c .before .before .before .before .before .before .before .before .before .before .pre .0, left-pos (c .before .before .before .before .before .before .before .before .before .before .pre .1) (c .before .before .before .before .before .before .loop .inv) (c .before .before .before .before .if1 .taken) (c .before .if2 .left)), node-ready (c .before .before .before .before .before .before .before .before .before .before .pre .1) (c .before .before .before .before .before .before .loop .inv) (c .before .before .before .before .if1 .taken) (c .before .if2 .left) (c .before .before .before .head-at .ensures) (no-spacing {xs = c .before .before .before .before .before .before .loop .out}) (omega arith))
+
+dtype-loop-less-2 : (t : ℕ) → dtype-lts.Need-loop-less-2 (
+  head-at-reads.Asked,
+  head-at-reads.Learnt,
+  data-type-token-reads.Asked,
+  data-type-token-reads.Learnt,
+  node-below t,
+  node.Post,
+) (dtype-at t) dtype.Post dtype-Inv-loop dtype-μ-loop
+dtype-loop-less-2 t c = omega (arith, c .before .before .before .before .before .before .before .before .before .before .loop .inv .inside, c .before .before .before .node .ensures .forward)
+
+dtype-loop-again-2 : (t : ℕ) → dtype-lts.Need-loop-again-2 (
+  head-at-reads.Asked,
+  head-at-reads.Learnt,
+  data-type-token-reads.Asked,
+  data-type-token-reads.Learnt,
+  node-below t,
+  node.Post,
+) (dtype-at t) dtype.Post dtype-Inv-loop dtype-μ-loop
+unfolding formatDataType
+dtype-loop-again-2 t c = node-next (c .before .before .before .before .before .before .before .before .before .before .before .before .before .before .pre .1) (c .before .before .before .before .before .before .before .before .before .before .loop .inv) (formatDataType .atNode (flagged false) (c .before .before .before .before .before .before .before .head-at .result .kind) 0) (c .before .before .before .before .before .before .before .before .if1 .taken) (c .before .before .before .before .before .if2 .left) (c .before .before .before .before .before .before .before .head-at .ensures) (λ k z. refl) (no-spacing {xs = c .before .before .before .before .before .before .before .before .before .before .loop .out}) (c .before .before .before .node .ensures) refl no-spacing (omega arith) (omega arith) (c .before .before .before .node .kept .1 .1 .1 .1 .0)
+
+dtype-add-t22 : (t : ℕ) → dtype-lts.Need-add-t22 (
+  head-at-reads.Asked,
+  head-at-reads.Learnt,
+  data-type-token-reads.Asked,
+  data-type-token-reads.Learnt,
+  node-below t,
+  node.Post,
+) (dtype-at t) dtype.Post dtype-Inv-loop dtype-μ-loop
+dtype-add-t22 t c = omega (arith, c .before .before .loop .inv .inside, c .before .before .before .before .before .before .pre .1 .sizes .tape-fits)
+
+dtype-same-length : (t : ℕ) → dtype-lts.Need-same-length (
+  head-at-reads.Asked,
+  head-at-reads.Learnt,
+  data-type-token-reads.Asked,
+  data-type-token-reads.Learnt,
+  node-below t,
+  node.Post,
+) (dtype-at t) dtype.Post dtype-Inv-loop dtype-μ-loop
+dtype-same-length t c = c .before .before .loop .inv .same
+
+dtype-returns : (t : ℕ) → dtype-lts.Need-returns (
+  head-at-reads.Asked,
+  head-at-reads.Learnt,
+  data-type-token-reads.Asked,
+  data-type-token-reads.Learnt,
+  node-below t,
+  node.Post,
+) (dtype-at t) dtype.Post dtype-Inv-loop dtype-μ-loop
+unfolding formatDataType
+dtype-returns t c = loop-last (c .before .before .before .before .before .before .pre .1) (c .before .before .loop .inv) (c .if1 .left) no-spacing (omega arith)
 
 abbrev file-Inv-loop : file-lts.InvT-loop
 file-Inv-loop source tape config errors out₀ left at i₀ ctx₀ local₀ out i ctx local = Loop source tape config errors left at (always formatFile) formatFile ctx₀ out₀ out i ctx local
@@ -1853,7 +2027,7 @@ file-loop-less-2 : (t : ℕ) → file-lts.Need-loop-less-2 (
   node-below t,
   node.Post,
 ) (file-at t) file.Post file-Inv-loop file-μ-loop
-file-loop-less-2 t c = omega (arith, c .before .before .before .before .before .before .before .before .before .before .before .before .before .before .loop .inv .inside, c .before .before .before .node .ensures .on)
+file-loop-less-2 t c = omega (arith, c .before .before .before .before .before .before .before .before .before .before .before .before .before .before .loop .inv .inside, c .before .before .before .node .ensures .forward)
 
 file-loop-again-2 : (t : ℕ) → file-lts.Need-loop-again-2 (
   head-at-reads.Asked,
@@ -1904,6 +2078,177 @@ file-returns : (t : ℕ) → file-lts.Need-returns (
 ) (file-at t) file.Post file-Inv-loop file-μ-loop
 unfolding formatFile
 file-returns t c = loop-last (c .before .before .before .before .before .before .pre .1) (c .before .before .loop .inv) (c .if1 .left) no-spacing (omega arith)
+
+abbrev inl-list-Inv-loop : inl-list-lts.InvT-loop
+inl-list-Inv-loop source tape config errors out₀ left at i₀ ctx₀ out i ctx = Loop source tape config errors left at (always formatInlineCommaList) formatInlineCommaList ctx₀ out₀ out i ctx (flagged false)
+
+abbrev inl-list-μ-loop : inl-list-lts.MeasureT-loop
+inl-list-μ-loop source tape config errors out₀ left at i₀ ctx₀ out i ctx = length tape - i
+
+inl-list-add-i : (t : ℕ) → inl-list-lts.Need-add-i (
+  head-at-reads.Asked,
+  head-at-reads.Learnt,
+  inline-comma-list-token-reads.Asked,
+  inline-comma-list-token-reads.Learnt,
+  node-below t,
+  node.Post,
+) (inl-list-at t) inl-list.Post inl-list-Inv-loop inl-list-μ-loop
+inl-list-add-i t c = omega (arith, c .before .before .before .pre .1 .inside, c .before .before .before .pre .1 .sizes .tape-fits)
+
+inl-list-loop-holds : (t : ℕ) → inl-list-lts.Need-loop-holds (
+  head-at-reads.Asked,
+  head-at-reads.Learnt,
+  inline-comma-list-token-reads.Asked,
+  inline-comma-list-token-reads.Learnt,
+  node-below t,
+  node.Post,
+) (inl-list-at t) inl-list.Post inl-list-Inv-loop inl-list-μ-loop
+unfolding formatInlineCommaList
+inl-list-loop-holds t c = loop-first (always formatInlineCommaList) formatInlineCommaList _ (c .before .before .before .pre .1) (λ all z. refl)
+
+inl-list-shared-slice-read-if1 : (t : ℕ) → inl-list-lts.Need-shared-slice-read-if1 (
+  head-at-reads.Asked,
+  head-at-reads.Learnt,
+  inline-comma-list-token-reads.Asked,
+  inline-comma-list-token-reads.Learnt,
+  node-below t,
+  node.Post,
+) (inl-list-at t) inl-list.Post inl-list-Inv-loop inl-list-μ-loop
+inl-list-shared-slice-read-if1 t c = omega (arith, c .before .loop .inv .inside)
+
+inl-list-head-at-requires : (t : ℕ) → inl-list-lts.Need-head-at-requires (
+  head-at-reads.Asked,
+  head-at-reads.Learnt,
+  inline-comma-list-token-reads.Asked,
+  inline-comma-list-token-reads.Learnt,
+  node-below t,
+  node.Post,
+) (inl-list-at t) inl-list.Post inl-list-Inv-loop inl-list-μ-loop
+inl-list-head-at-requires t c κs = loop-fits (c .before .before .before .before .before .before .pre .1) (c .before .before .loop .inv) (c .if1 .taken)
+
+inl-list-shared-slice-read-if2 : (t : ℕ) → inl-list-lts.Need-shared-slice-read-if2 (
+  head-at-reads.Asked,
+  head-at-reads.Learnt,
+  inline-comma-list-token-reads.Asked,
+  inline-comma-list-token-reads.Learnt,
+  node-below t,
+  node.Post,
+) (inl-list-at t) inl-list.Post inl-list-Inv-loop inl-list-μ-loop
+inl-list-shared-slice-read-if2 t c = omega (arith, c .before .before .before .before .loop .inv .inside)
+
+inl-list-inline-comma-list-token-requires :
+    (t : ℕ) → inl-list-lts.Need-inline-comma-list-token-requires (
+      head-at-reads.Asked,
+      head-at-reads.Learnt,
+      inline-comma-list-token-reads.Asked,
+      inline-comma-list-token-reads.Learnt,
+      node-below t,
+      node.Post,
+    ) (inl-list-at t) inl-list.Post inl-list-Inv-loop inl-list-μ-loop
+inl-list-inline-comma-list-token-requires t c κs = token-ready (c .before .before .before .before .before .before .before .before .before .before .pre .1) (c .before .before .before .before .before .before .loop .inv) _ (c .before .if2 .taken) (c .before .before .before .head-at .ensures)
+
+inl-list-add-i-2 : (t : ℕ) → inl-list-lts.Need-add-i-2 (
+  head-at-reads.Asked,
+  head-at-reads.Learnt,
+  inline-comma-list-token-reads.Asked,
+  inline-comma-list-token-reads.Learnt,
+  node-below t,
+  node.Post,
+) (inl-list-at t) inl-list.Post inl-list-Inv-loop inl-list-μ-loop
+inl-list-add-i-2 t c = omega (arith, loop-fits (c .before .before .before .before .before .before .before .before .before .before .before .before .before .pre .1) (c .before .before .before .before .before .before .before .before .before .loop .inv) (c .before .before .before .before .before .before .before .if1 .taken), c .before .before .before .before .before .before .before .before .before .before .before .before .before .pre .1 .sizes .tape-fits)
+
+inl-list-loop-less : (t : ℕ) → inl-list-lts.Need-loop-less (
+  head-at-reads.Asked,
+  head-at-reads.Learnt,
+  inline-comma-list-token-reads.Asked,
+  inline-comma-list-token-reads.Learnt,
+  node-below t,
+  node.Post,
+) (inl-list-at t) inl-list.Post inl-list-Inv-loop inl-list-μ-loop
+inl-list-loop-less t c = omega (arith, c .before .before .before .before .before .before .before .before .before .loop .inv .inside)
+
+inl-list-loop-again : (t : ℕ) → inl-list-lts.Need-loop-again (
+  head-at-reads.Asked,
+  head-at-reads.Learnt,
+  inline-comma-list-token-reads.Asked,
+  inline-comma-list-token-reads.Learnt,
+  node-below t,
+  node.Post,
+) (inl-list-at t) inl-list.Post inl-list-Inv-loop inl-list-μ-loop
+unfolding formatInlineCommaList
+inl-list-loop-again t c = token-next (c .before .before .before .before .before .before .before .before .before .before .before .before .before .pre .1) (c .before .before .before .before .before .before .before .before .before .loop .inv) (c .before .before .before .before .if2 .taken) (c .before .before .before .before .before .before .head-at .ensures) (c .before .before .inline-comma-list-token .ensures) refl (c .before .before .inline-comma-list-token .kept .1 .1 .0)
+
+inl-list-sub-node : (t : ℕ) → inl-list-lts.Need-sub-node (
+  head-at-reads.Asked,
+  head-at-reads.Learnt,
+  inline-comma-list-token-reads.Asked,
+  inline-comma-list-token-reads.Learnt,
+  node-below t,
+  node.Post,
+) (inl-list-at t) inl-list.Post inl-list-Inv-loop inl-list-μ-loop
+inl-list-sub-node t c = left-pos (c .before .before .before .before .before .before .before .before .before .before .pre .1) (c .before .before .before .before .before .before .loop .inv) (c .before .before .before .before .if1 .taken) (c .before .if2 .left)
+
+inl-list-node-requires : (t : ℕ) → inl-list-lts.Need-node-requires (
+  head-at-reads.Asked,
+  head-at-reads.Learnt,
+  inline-comma-list-token-reads.Asked,
+  inline-comma-list-token-reads.Learnt,
+  node-below t,
+  node.Post,
+) (inl-list-at t) inl-list.Post inl-list-Inv-loop inl-list-μ-loop
+inl-list-node-requires t c κs = (omega (arith, c .before .before .before .before .before .before .before .before .before .before .pre .0, left-pos (c .before .before .before .before .before .before .before .before .before .before .pre .1) (c .before .before .before .before .before .before .loop .inv) (c .before .before .before .before .if1 .taken) (c .before .if2 .left)), node-ready (c .before .before .before .before .before .before .before .before .before .before .pre .1) (c .before .before .before .before .before .before .loop .inv) (c .before .before .before .before .if1 .taken) (c .before .if2 .left) (c .before .before .before .head-at .ensures) (no-spacing {xs = c .before .before .before .before .before .before .loop .out}) (omega arith))
+
+inl-list-loop-less-2 : (t : ℕ) → inl-list-lts.Need-loop-less-2 (
+  head-at-reads.Asked,
+  head-at-reads.Learnt,
+  inline-comma-list-token-reads.Asked,
+  inline-comma-list-token-reads.Learnt,
+  node-below t,
+  node.Post,
+) (inl-list-at t) inl-list.Post inl-list-Inv-loop inl-list-μ-loop
+inl-list-loop-less-2 t c = omega (arith, c .before .before .before .before .before .before .before .before .before .before .loop .inv .inside, c .before .before .before .node .ensures .forward)
+
+inl-list-loop-again-2 : (t : ℕ) → inl-list-lts.Need-loop-again-2 (
+  head-at-reads.Asked,
+  head-at-reads.Learnt,
+  inline-comma-list-token-reads.Asked,
+  inline-comma-list-token-reads.Learnt,
+  node-below t,
+  node.Post,
+) (inl-list-at t) inl-list.Post inl-list-Inv-loop inl-list-μ-loop
+unfolding formatInlineCommaList
+inl-list-loop-again-2 t c = node-next (c .before .before .before .before .before .before .before .before .before .before .before .before .before .before .pre .1) (c .before .before .before .before .before .before .before .before .before .before .loop .inv) (formatInlineCommaList .atNode (flagged false) (c .before .before .before .before .before .before .before .head-at .result .kind) 0) (c .before .before .before .before .before .before .before .before .if1 .taken) (c .before .before .before .before .before .if2 .left) (c .before .before .before .before .before .before .before .head-at .ensures) (λ k z. refl) (no-spacing {xs = c .before .before .before .before .before .before .before .before .before .before .loop .out}) (c .before .before .before .node .ensures) refl no-spacing (omega arith) (omega arith) (c .before .before .before .node .kept .1 .1 .1 .1 .0)
+
+inl-list-add-t22 : (t : ℕ) → inl-list-lts.Need-add-t22 (
+  head-at-reads.Asked,
+  head-at-reads.Learnt,
+  inline-comma-list-token-reads.Asked,
+  inline-comma-list-token-reads.Learnt,
+  node-below t,
+  node.Post,
+) (inl-list-at t) inl-list.Post inl-list-Inv-loop inl-list-μ-loop
+inl-list-add-t22 t c = omega (arith, c .before .before .loop .inv .inside, c .before .before .before .before .before .before .pre .1 .sizes .tape-fits)
+
+inl-list-same-length : (t : ℕ) → inl-list-lts.Need-same-length (
+  head-at-reads.Asked,
+  head-at-reads.Learnt,
+  inline-comma-list-token-reads.Asked,
+  inline-comma-list-token-reads.Learnt,
+  node-below t,
+  node.Post,
+) (inl-list-at t) inl-list.Post inl-list-Inv-loop inl-list-μ-loop
+inl-list-same-length t c = c .before .before .loop .inv .same
+
+inl-list-returns : (t : ℕ) → inl-list-lts.Need-returns (
+  head-at-reads.Asked,
+  head-at-reads.Learnt,
+  inline-comma-list-token-reads.Asked,
+  inline-comma-list-token-reads.Learnt,
+  node-below t,
+  node.Post,
+) (inl-list-at t) inl-list.Post inl-list-Inv-loop inl-list-μ-loop
+unfolding formatInlineCommaList
+inl-list-returns t c = loop-last (c .before .before .before .before .before .before .pre .1) (c .before .before .loop .inv) (c .if1 .left) no-spacing (omega arith)
 
 abbrev inline-Inv-loop : inline-lts.InvT-loop
 inline-Inv-loop source tape config errors out₀ left at i₀ ctx₀ local₀ out i ctx local = Loop source tape config errors left at (always formatInline) formatInline ctx₀ out₀ out i ctx local
@@ -2107,7 +2452,7 @@ inline-loop-less-2 : (t : ℕ) → inline-lts.Need-loop-less-2 (
   node-below t,
   node.Post,
 ) (inline-at t) inline.Post inline-Inv-loop inline-μ-loop
-inline-loop-less-2 t c = omega (arith, c .before .before .before .before .before .before .before .before .before .before .before .before .loop .inv .inside, c .before .before .before .node .ensures .on)
+inline-loop-less-2 t c = omega (arith, c .before .before .before .before .before .before .before .before .before .before .before .before .loop .inv .inside, c .before .before .before .node .ensures .forward)
 
 inline-loop-again-2 : (t : ℕ) → inline-lts.Need-loop-again-2 (
   head-at-reads.Asked,
@@ -2329,7 +2674,7 @@ join-loop-less-2 : (t : ℕ) → join-lts.Need-loop-less-2 (
   node-below t,
   node.Post,
 ) (join-at t) join.Post join-Inv-loop join-μ-loop
-join-loop-less-2 t c = omega (arith, c .before .before .before .before .before .before .before .before .before .before .before .loop .inv .inside, c .before .before .before .node .ensures .on)
+join-loop-less-2 t c = omega (arith, c .before .before .before .before .before .before .before .before .before .before .before .loop .inv .inside, c .before .before .before .node .ensures .forward)
 
 join-loop-again-2 : (t : ℕ) → join-lts.Need-loop-again-2 (
   head-at-reads.Asked,
@@ -2761,7 +3106,7 @@ list-by-loop-less-2 : (t : ℕ) → list-by-lts.Need-loop-less-2 (
   list-clause-end-reads.Asked,
   list-clause-end-reads.Learnt,
 ) (list-by-at t) list-by.Post list-by-Inv-loop list-by-μ-loop
-list-by-loop-less-2 t c = omega (arith, c .before .before .before .before .before .before .before .before .before .before .before .before .before .before .before .before .before .loop .inv .inside, c .before .before .before .before .before .node .ensures .on)
+list-by-loop-less-2 t c = omega (arith, c .before .before .before .before .before .before .before .before .before .before .before .before .before .before .before .before .before .loop .inv .inside, c .before .before .before .before .before .node .ensures .forward)
 
 list-by-loop-again-2 : (t : ℕ) → list-by-lts.Need-loop-again-2 (
   multi-item-reads.Asked,
@@ -2875,6 +3220,176 @@ list-by-returns : (t : ℕ) → list-by-lts.Need-returns (
 unfolding listClauseArms
 list-by-returns t c = loop-last (c .before .before .before .before .before .before .before .before .pre .1) (c .before .before .before .loop .inv) (c .before .if1 .left) (as-spaced (c .list-clause-end .ensures)) (omega arith)
 
+abbrev no-spaces-Inv-loop : no-spaces-lts.InvT-loop
+no-spaces-Inv-loop source tape config errors out₀ left at i₀ ctx₀ out i ctx = Loop source tape config errors left at (always formatInlineNoSpaces) formatInlineNoSpaces ctx₀ out₀ out i ctx (flagged false)
+
+abbrev no-spaces-μ-loop : no-spaces-lts.MeasureT-loop
+no-spaces-μ-loop source tape config errors out₀ left at i₀ ctx₀ out i ctx = length tape - i
+
+no-spaces-add-i : (t : ℕ) → no-spaces-lts.Need-add-i (
+  head-at-reads.Asked,
+  head-at-reads.Learnt,
+  emit-other-reads.Asked,
+  emit-other-reads.Learnt,
+  node-below t,
+  node.Post,
+) (no-spaces-at t) no-spaces.Post no-spaces-Inv-loop no-spaces-μ-loop
+no-spaces-add-i t c = omega (arith, c .before .before .before .pre .1 .inside, c .before .before .before .pre .1 .sizes .tape-fits)
+
+no-spaces-loop-holds : (t : ℕ) → no-spaces-lts.Need-loop-holds (
+  head-at-reads.Asked,
+  head-at-reads.Learnt,
+  emit-other-reads.Asked,
+  emit-other-reads.Learnt,
+  node-below t,
+  node.Post,
+) (no-spaces-at t) no-spaces.Post no-spaces-Inv-loop no-spaces-μ-loop
+unfolding formatInlineNoSpaces
+no-spaces-loop-holds t c = loop-first (always formatInlineNoSpaces) formatInlineNoSpaces _ (c .before .before .before .pre .1) (λ all z. refl)
+
+no-spaces-shared-slice-read-if1 : (t : ℕ) → no-spaces-lts.Need-shared-slice-read-if1 (
+  head-at-reads.Asked,
+  head-at-reads.Learnt,
+  emit-other-reads.Asked,
+  emit-other-reads.Learnt,
+  node-below t,
+  node.Post,
+) (no-spaces-at t) no-spaces.Post no-spaces-Inv-loop no-spaces-μ-loop
+no-spaces-shared-slice-read-if1 t c = omega (arith, c .before .loop .inv .inside)
+
+no-spaces-head-at-requires : (t : ℕ) → no-spaces-lts.Need-head-at-requires (
+  head-at-reads.Asked,
+  head-at-reads.Learnt,
+  emit-other-reads.Asked,
+  emit-other-reads.Learnt,
+  node-below t,
+  node.Post,
+) (no-spaces-at t) no-spaces.Post no-spaces-Inv-loop no-spaces-μ-loop
+no-spaces-head-at-requires t c κs = loop-fits (c .before .before .before .before .before .before .pre .1) (c .before .before .loop .inv) (c .if1 .taken)
+
+no-spaces-shared-slice-read-if2 : (t : ℕ) → no-spaces-lts.Need-shared-slice-read-if2 (
+  head-at-reads.Asked,
+  head-at-reads.Learnt,
+  emit-other-reads.Asked,
+  emit-other-reads.Learnt,
+  node-below t,
+  node.Post,
+) (no-spaces-at t) no-spaces.Post no-spaces-Inv-loop no-spaces-μ-loop
+no-spaces-shared-slice-read-if2 t c = omega (arith, c .before .before .before .before .loop .inv .inside)
+
+no-spaces-emit-other-requires : (t : ℕ) → no-spaces-lts.Need-emit-other-requires (
+  head-at-reads.Asked,
+  head-at-reads.Learnt,
+  emit-other-reads.Asked,
+  emit-other-reads.Learnt,
+  node-below t,
+  node.Post,
+) (no-spaces-at t) no-spaces.Post no-spaces-Inv-loop no-spaces-μ-loop
+no-spaces-emit-other-requires t c κs = token-ready (c .before .before .before .before .before .before .before .before .before .before .pre .1) (c .before .before .before .before .before .before .loop .inv) _ (c .before .if2 .taken) (c .before .before .before .head-at .ensures)
+
+no-spaces-add-i-2 : (t : ℕ) → no-spaces-lts.Need-add-i-2 (
+  head-at-reads.Asked,
+  head-at-reads.Learnt,
+  emit-other-reads.Asked,
+  emit-other-reads.Learnt,
+  node-below t,
+  node.Post,
+) (no-spaces-at t) no-spaces.Post no-spaces-Inv-loop no-spaces-μ-loop
+no-spaces-add-i-2 t c = omega (arith, loop-fits (c .before .before .before .before .before .before .before .before .before .before .before .before .before .pre .1) (c .before .before .before .before .before .before .before .before .before .loop .inv) (c .before .before .before .before .before .before .before .if1 .taken), c .before .before .before .before .before .before .before .before .before .before .before .before .before .pre .1 .sizes .tape-fits)
+
+no-spaces-loop-less : (t : ℕ) → no-spaces-lts.Need-loop-less (
+  head-at-reads.Asked,
+  head-at-reads.Learnt,
+  emit-other-reads.Asked,
+  emit-other-reads.Learnt,
+  node-below t,
+  node.Post,
+) (no-spaces-at t) no-spaces.Post no-spaces-Inv-loop no-spaces-μ-loop
+no-spaces-loop-less t c = omega (arith, c .before .before .before .before .before .before .before .before .before .loop .inv .inside)
+
+no-spaces-loop-again : (t : ℕ) → no-spaces-lts.Need-loop-again (
+  head-at-reads.Asked,
+  head-at-reads.Learnt,
+  emit-other-reads.Asked,
+  emit-other-reads.Learnt,
+  node-below t,
+  node.Post,
+) (no-spaces-at t) no-spaces.Post no-spaces-Inv-loop no-spaces-μ-loop
+unfolding formatInlineNoSpaces
+no-spaces-loop-again t c = token-next (c .before .before .before .before .before .before .before .before .before .before .before .before .before .pre .1) (c .before .before .before .before .before .before .before .before .before .loop .inv) (c .before .before .before .before .if2 .taken) (c .before .before .before .before .before .before .head-at .ensures) (c .before .before .emit-other .ensures) refl (c .before .before .emit-other .kept .1 .1 .0)
+
+no-spaces-sub-node : (t : ℕ) → no-spaces-lts.Need-sub-node (
+  head-at-reads.Asked,
+  head-at-reads.Learnt,
+  emit-other-reads.Asked,
+  emit-other-reads.Learnt,
+  node-below t,
+  node.Post,
+) (no-spaces-at t) no-spaces.Post no-spaces-Inv-loop no-spaces-μ-loop
+no-spaces-sub-node t c = left-pos (c .before .before .before .before .before .before .before .before .before .before .pre .1) (c .before .before .before .before .before .before .loop .inv) (c .before .before .before .before .if1 .taken) (c .before .if2 .left)
+
+no-spaces-node-requires : (t : ℕ) → no-spaces-lts.Need-node-requires (
+  head-at-reads.Asked,
+  head-at-reads.Learnt,
+  emit-other-reads.Asked,
+  emit-other-reads.Learnt,
+  node-below t,
+  node.Post,
+) (no-spaces-at t) no-spaces.Post no-spaces-Inv-loop no-spaces-μ-loop
+no-spaces-node-requires t c κs = (omega (arith, c .before .before .before .before .before .before .before .before .before .before .pre .0, left-pos (c .before .before .before .before .before .before .before .before .before .before .pre .1) (c .before .before .before .before .before .before .loop .inv) (c .before .before .before .before .if1 .taken) (c .before .if2 .left)), node-ready (c .before .before .before .before .before .before .before .before .before .before .pre .1) (c .before .before .before .before .before .before .loop .inv) (c .before .before .before .before .if1 .taken) (c .before .if2 .left) (c .before .before .before .head-at .ensures) (no-spacing {xs = c .before .before .before .before .before .before .loop .out}) (omega arith))
+
+no-spaces-loop-less-2 : (t : ℕ) → no-spaces-lts.Need-loop-less-2 (
+  head-at-reads.Asked,
+  head-at-reads.Learnt,
+  emit-other-reads.Asked,
+  emit-other-reads.Learnt,
+  node-below t,
+  node.Post,
+) (no-spaces-at t) no-spaces.Post no-spaces-Inv-loop no-spaces-μ-loop
+no-spaces-loop-less-2 t c = omega (arith, c .before .before .before .before .before .before .before .before .before .before .loop .inv .inside, c .before .before .before .node .ensures .forward)
+
+no-spaces-loop-again-2 : (t : ℕ) → no-spaces-lts.Need-loop-again-2 (
+  head-at-reads.Asked,
+  head-at-reads.Learnt,
+  emit-other-reads.Asked,
+  emit-other-reads.Learnt,
+  node-below t,
+  node.Post,
+) (no-spaces-at t) no-spaces.Post no-spaces-Inv-loop no-spaces-μ-loop
+unfolding formatInlineNoSpaces
+no-spaces-loop-again-2 t c = node-next (c .before .before .before .before .before .before .before .before .before .before .before .before .before .before .pre .1) (c .before .before .before .before .before .before .before .before .before .before .loop .inv) (formatInlineNoSpaces .atNode (flagged false) (c .before .before .before .before .before .before .before .head-at .result .kind) 0) (c .before .before .before .before .before .before .before .before .if1 .taken) (c .before .before .before .before .before .if2 .left) (c .before .before .before .before .before .before .before .head-at .ensures) (λ k z. refl) (no-spacing {xs = c .before .before .before .before .before .before .before .before .before .before .loop .out}) (c .before .before .before .node .ensures) refl no-spacing (omega arith) (omega arith) (c .before .before .before .node .kept .1 .1 .1 .1 .0)
+
+no-spaces-add-t22 : (t : ℕ) → no-spaces-lts.Need-add-t22 (
+  head-at-reads.Asked,
+  head-at-reads.Learnt,
+  emit-other-reads.Asked,
+  emit-other-reads.Learnt,
+  node-below t,
+  node.Post,
+) (no-spaces-at t) no-spaces.Post no-spaces-Inv-loop no-spaces-μ-loop
+no-spaces-add-t22 t c = omega (arith, c .before .before .loop .inv .inside, c .before .before .before .before .before .before .pre .1 .sizes .tape-fits)
+
+no-spaces-same-length : (t : ℕ) → no-spaces-lts.Need-same-length (
+  head-at-reads.Asked,
+  head-at-reads.Learnt,
+  emit-other-reads.Asked,
+  emit-other-reads.Learnt,
+  node-below t,
+  node.Post,
+) (no-spaces-at t) no-spaces.Post no-spaces-Inv-loop no-spaces-μ-loop
+no-spaces-same-length t c = c .before .before .loop .inv .same
+
+no-spaces-returns : (t : ℕ) → no-spaces-lts.Need-returns (
+  head-at-reads.Asked,
+  head-at-reads.Learnt,
+  emit-other-reads.Asked,
+  emit-other-reads.Learnt,
+  node-below t,
+  node.Post,
+) (no-spaces-at t) no-spaces.Post no-spaces-Inv-loop no-spaces-μ-loop
+unfolding formatInlineNoSpaces
+no-spaces-returns t c = loop-last (c .before .before .before .before .before .before .pre .1) (c .before .before .loop .inv) (c .if1 .left) no-spacing (omega arith)
+
 node-is-copied-requires : (t : ℕ) → node-lts.Need-is-copied-requires (
   is-copied-reads.Asked,
   is-copied-reads.Learnt,
@@ -2890,8 +3405,8 @@ node-is-copied-requires : (t : ℕ) → node-lts.Need-is-copied-requires (
   file.Post,
   queries-below t,
   queries.Post,
-  query-below t,
-  query.Post,
+  sel-stmt-below t,
+  sel-stmt.Post,
   select-below t,
   select.Post,
   simple-below t,
@@ -2900,44 +3415,44 @@ node-is-copied-requires : (t : ℕ) → node-lts.Need-is-copied-requires (
   list-by.Post,
   settings-below t,
   settings.Post,
-  with-of-below t,
-  with-of.Post,
+  with-below t,
+  with.Post,
   join-below t,
   join.Post,
   inline-below t,
   inline.Post,
-  commas-below t,
-  commas.Post,
-  row-below t,
-  row.Post,
+  comma-below t,
+  comma.Post,
+  inl-list-below t,
+  inl-list.Post,
   binary-below t,
   binary.Post,
   unary-below t,
   unary.Post,
   call-below t,
   call.Post,
-  cases-below t,
-  cases.Post,
-  when-of-below t,
-  when-of.Post,
+  case-below t,
+  case.Post,
+  when-below t,
+  when.Post,
   subquery-below t,
   subquery.Post,
-  parens-below t,
-  parens.Post,
-  brackets-below t,
-  brackets.Post,
-  solid-below t,
-  solid.Post,
-  braces-below t,
-  braces.Post,
-  types-below t,
-  types.Post,
-  tight-below t,
-  tight.Post,
+  paren-below t,
+  paren.Post,
+  bracket-below t,
+  bracket.Post,
+  no-spaces-below t,
+  no-spaces.Post,
+  brace-below t,
+  brace.Post,
+  dtype-below t,
+  dtype.Post,
+  tight-paren-below t,
+  tight-paren.Post,
   alter-below t,
   alter.Post,
-  unions-below t,
-  unions.Post,
+  union-below t,
+  union.Post,
   pass-below t,
   pass.Post,
 ) (node-at t) node.Post
@@ -2958,8 +3473,8 @@ node-head-at-requires : (t : ℕ) → node-lts.Need-head-at-requires (
   file.Post,
   queries-below t,
   queries.Post,
-  query-below t,
-  query.Post,
+  sel-stmt-below t,
+  sel-stmt.Post,
   select-below t,
   select.Post,
   simple-below t,
@@ -2968,44 +3483,44 @@ node-head-at-requires : (t : ℕ) → node-lts.Need-head-at-requires (
   list-by.Post,
   settings-below t,
   settings.Post,
-  with-of-below t,
-  with-of.Post,
+  with-below t,
+  with.Post,
   join-below t,
   join.Post,
   inline-below t,
   inline.Post,
-  commas-below t,
-  commas.Post,
-  row-below t,
-  row.Post,
+  comma-below t,
+  comma.Post,
+  inl-list-below t,
+  inl-list.Post,
   binary-below t,
   binary.Post,
   unary-below t,
   unary.Post,
   call-below t,
   call.Post,
-  cases-below t,
-  cases.Post,
-  when-of-below t,
-  when-of.Post,
+  case-below t,
+  case.Post,
+  when-below t,
+  when.Post,
   subquery-below t,
   subquery.Post,
-  parens-below t,
-  parens.Post,
-  brackets-below t,
-  brackets.Post,
-  solid-below t,
-  solid.Post,
-  braces-below t,
-  braces.Post,
-  types-below t,
-  types.Post,
-  tight-below t,
-  tight.Post,
+  paren-below t,
+  paren.Post,
+  bracket-below t,
+  bracket.Post,
+  no-spaces-below t,
+  no-spaces.Post,
+  brace-below t,
+  brace.Post,
+  dtype-below t,
+  dtype.Post,
+  tight-paren-below t,
+  tight-paren.Post,
   alter-below t,
   alter.Post,
-  unions-below t,
-  unions.Post,
+  union-below t,
+  union.Post,
   pass-below t,
   pass.Post,
 ) (node-at t) node.Post
@@ -3026,8 +3541,8 @@ node-skip-requires : (t : ℕ) → node-lts.Need-skip-requires (
   file.Post,
   queries-below t,
   queries.Post,
-  query-below t,
-  query.Post,
+  sel-stmt-below t,
+  sel-stmt.Post,
   select-below t,
   select.Post,
   simple-below t,
@@ -3036,44 +3551,44 @@ node-skip-requires : (t : ℕ) → node-lts.Need-skip-requires (
   list-by.Post,
   settings-below t,
   settings.Post,
-  with-of-below t,
-  with-of.Post,
+  with-below t,
+  with.Post,
   join-below t,
   join.Post,
   inline-below t,
   inline.Post,
-  commas-below t,
-  commas.Post,
-  row-below t,
-  row.Post,
+  comma-below t,
+  comma.Post,
+  inl-list-below t,
+  inl-list.Post,
   binary-below t,
   binary.Post,
   unary-below t,
   unary.Post,
   call-below t,
   call.Post,
-  cases-below t,
-  cases.Post,
-  when-of-below t,
-  when-of.Post,
+  case-below t,
+  case.Post,
+  when-below t,
+  when.Post,
   subquery-below t,
   subquery.Post,
-  parens-below t,
-  parens.Post,
-  brackets-below t,
-  brackets.Post,
-  solid-below t,
-  solid.Post,
-  braces-below t,
-  braces.Post,
-  types-below t,
-  types.Post,
-  tight-below t,
-  tight.Post,
+  paren-below t,
+  paren.Post,
+  bracket-below t,
+  bracket.Post,
+  no-spaces-below t,
+  no-spaces.Post,
+  brace-below t,
+  brace.Post,
+  dtype-below t,
+  dtype.Post,
+  tight-paren-below t,
+  tight-paren.Post,
   alter-below t,
   alter.Post,
-  unions-below t,
-  unions.Post,
+  union-below t,
+  union.Post,
   pass-below t,
   pass.Post,
 ) (node-at t) node.Post
@@ -3094,8 +3609,8 @@ node-format-error-verbatim-requires : (t : ℕ) → node-lts.Need-format-error-v
   file.Post,
   queries-below t,
   queries.Post,
-  query-below t,
-  query.Post,
+  sel-stmt-below t,
+  sel-stmt.Post,
   select-below t,
   select.Post,
   simple-below t,
@@ -3104,44 +3619,44 @@ node-format-error-verbatim-requires : (t : ℕ) → node-lts.Need-format-error-v
   list-by.Post,
   settings-below t,
   settings.Post,
-  with-of-below t,
-  with-of.Post,
+  with-below t,
+  with.Post,
   join-below t,
   join.Post,
   inline-below t,
   inline.Post,
-  commas-below t,
-  commas.Post,
-  row-below t,
-  row.Post,
+  comma-below t,
+  comma.Post,
+  inl-list-below t,
+  inl-list.Post,
   binary-below t,
   binary.Post,
   unary-below t,
   unary.Post,
   call-below t,
   call.Post,
-  cases-below t,
-  cases.Post,
-  when-of-below t,
-  when-of.Post,
+  case-below t,
+  case.Post,
+  when-below t,
+  when.Post,
   subquery-below t,
   subquery.Post,
-  parens-below t,
-  parens.Post,
-  brackets-below t,
-  brackets.Post,
-  solid-below t,
-  solid.Post,
-  braces-below t,
-  braces.Post,
-  types-below t,
-  types.Post,
-  tight-below t,
-  tight.Post,
+  paren-below t,
+  paren.Post,
+  bracket-below t,
+  bracket.Post,
+  no-spaces-below t,
+  no-spaces.Post,
+  brace-below t,
+  brace.Post,
+  dtype-below t,
+  dtype.Post,
+  tight-paren-below t,
+  tight-paren.Post,
   alter-below t,
   alter.Post,
-  unions-below t,
-  unions.Post,
+  union-below t,
+  union.Post,
   pass-below t,
   pass.Post,
 ) (node-at t) node.Post
@@ -3162,8 +3677,8 @@ node-same-length : (t : ℕ) → node-lts.Need-same-length (
   file.Post,
   queries-below t,
   queries.Post,
-  query-below t,
-  query.Post,
+  sel-stmt-below t,
+  sel-stmt.Post,
   select-below t,
   select.Post,
   simple-below t,
@@ -3172,44 +3687,44 @@ node-same-length : (t : ℕ) → node-lts.Need-same-length (
   list-by.Post,
   settings-below t,
   settings.Post,
-  with-of-below t,
-  with-of.Post,
+  with-below t,
+  with.Post,
   join-below t,
   join.Post,
   inline-below t,
   inline.Post,
-  commas-below t,
-  commas.Post,
-  row-below t,
-  row.Post,
+  comma-below t,
+  comma.Post,
+  inl-list-below t,
+  inl-list.Post,
   binary-below t,
   binary.Post,
   unary-below t,
   unary.Post,
   call-below t,
   call.Post,
-  cases-below t,
-  cases.Post,
-  when-of-below t,
-  when-of.Post,
+  case-below t,
+  case.Post,
+  when-below t,
+  when.Post,
   subquery-below t,
   subquery.Post,
-  parens-below t,
-  parens.Post,
-  brackets-below t,
-  brackets.Post,
-  solid-below t,
-  solid.Post,
-  braces-below t,
-  braces.Post,
-  types-below t,
-  types.Post,
-  tight-below t,
-  tight.Post,
+  paren-below t,
+  paren.Post,
+  bracket-below t,
+  bracket.Post,
+  no-spaces-below t,
+  no-spaces.Post,
+  brace-below t,
+  brace.Post,
+  dtype-below t,
+  dtype.Post,
+  tight-paren-below t,
+  tight-paren.Post,
   alter-below t,
   alter.Post,
-  unions-below t,
-  unions.Post,
+  union-below t,
+  union.Post,
   pass-below t,
   pass.Post,
 ) (node-at t) node.Post
@@ -3230,8 +3745,8 @@ node-returns : (t : ℕ) → node-lts.Need-returns (
   file.Post,
   queries-below t,
   queries.Post,
-  query-below t,
-  query.Post,
+  sel-stmt-below t,
+  sel-stmt.Post,
   select-below t,
   select.Post,
   simple-below t,
@@ -3240,44 +3755,44 @@ node-returns : (t : ℕ) → node-lts.Need-returns (
   list-by.Post,
   settings-below t,
   settings.Post,
-  with-of-below t,
-  with-of.Post,
+  with-below t,
+  with.Post,
   join-below t,
   join.Post,
   inline-below t,
   inline.Post,
-  commas-below t,
-  commas.Post,
-  row-below t,
-  row.Post,
+  comma-below t,
+  comma.Post,
+  inl-list-below t,
+  inl-list.Post,
   binary-below t,
   binary.Post,
   unary-below t,
   unary.Post,
   call-below t,
   call.Post,
-  cases-below t,
-  cases.Post,
-  when-of-below t,
-  when-of.Post,
+  case-below t,
+  case.Post,
+  when-below t,
+  when.Post,
   subquery-below t,
   subquery.Post,
-  parens-below t,
-  parens.Post,
-  brackets-below t,
-  brackets.Post,
-  solid-below t,
-  solid.Post,
-  braces-below t,
-  braces.Post,
-  types-below t,
-  types.Post,
-  tight-below t,
-  tight.Post,
+  paren-below t,
+  paren.Post,
+  bracket-below t,
+  bracket.Post,
+  no-spaces-below t,
+  no-spaces.Post,
+  brace-below t,
+  brace.Post,
+  dtype-below t,
+  dtype.Post,
+  tight-paren-below t,
+  tight-paren.Post,
   alter-below t,
   alter.Post,
-  unions-below t,
-  unions.Post,
+  union-below t,
+  union.Post,
   pass-below t,
   pass.Post,
 ) (node-at t) node.Post
@@ -3298,8 +3813,8 @@ node-routine-of-requires : (t : ℕ) → node-lts.Need-routine-of-requires (
   file.Post,
   queries-below t,
   queries.Post,
-  query-below t,
-  query.Post,
+  sel-stmt-below t,
+  sel-stmt.Post,
   select-below t,
   select.Post,
   simple-below t,
@@ -3308,44 +3823,44 @@ node-routine-of-requires : (t : ℕ) → node-lts.Need-routine-of-requires (
   list-by.Post,
   settings-below t,
   settings.Post,
-  with-of-below t,
-  with-of.Post,
+  with-below t,
+  with.Post,
   join-below t,
   join.Post,
   inline-below t,
   inline.Post,
-  commas-below t,
-  commas.Post,
-  row-below t,
-  row.Post,
+  comma-below t,
+  comma.Post,
+  inl-list-below t,
+  inl-list.Post,
   binary-below t,
   binary.Post,
   unary-below t,
   unary.Post,
   call-below t,
   call.Post,
-  cases-below t,
-  cases.Post,
-  when-of-below t,
-  when-of.Post,
+  case-below t,
+  case.Post,
+  when-below t,
+  when.Post,
   subquery-below t,
   subquery.Post,
-  parens-below t,
-  parens.Post,
-  brackets-below t,
-  brackets.Post,
-  solid-below t,
-  solid.Post,
-  braces-below t,
-  braces.Post,
-  types-below t,
-  types.Post,
-  tight-below t,
-  tight.Post,
+  paren-below t,
+  paren.Post,
+  bracket-below t,
+  bracket.Post,
+  no-spaces-below t,
+  no-spaces.Post,
+  brace-below t,
+  brace.Post,
+  dtype-below t,
+  dtype.Post,
+  tight-paren-below t,
+  tight-paren.Post,
   alter-below t,
   alter.Post,
-  unions-below t,
-  unions.Post,
+  union-below t,
+  union.Post,
   pass-below t,
   pass.Post,
 ) (node-at t) node.Post
@@ -3366,8 +3881,8 @@ node-enum-told : (t : ℕ) → node-lts.Need-enum-told (
   file.Post,
   queries-below t,
   queries.Post,
-  query-below t,
-  query.Post,
+  sel-stmt-below t,
+  sel-stmt.Post,
   select-below t,
   select.Post,
   simple-below t,
@@ -3376,44 +3891,44 @@ node-enum-told : (t : ℕ) → node-lts.Need-enum-told (
   list-by.Post,
   settings-below t,
   settings.Post,
-  with-of-below t,
-  with-of.Post,
+  with-below t,
+  with.Post,
   join-below t,
   join.Post,
   inline-below t,
   inline.Post,
-  commas-below t,
-  commas.Post,
-  row-below t,
-  row.Post,
+  comma-below t,
+  comma.Post,
+  inl-list-below t,
+  inl-list.Post,
   binary-below t,
   binary.Post,
   unary-below t,
   unary.Post,
   call-below t,
   call.Post,
-  cases-below t,
-  cases.Post,
-  when-of-below t,
-  when-of.Post,
+  case-below t,
+  case.Post,
+  when-below t,
+  when.Post,
   subquery-below t,
   subquery.Post,
-  parens-below t,
-  parens.Post,
-  brackets-below t,
-  brackets.Post,
-  solid-below t,
-  solid.Post,
-  braces-below t,
-  braces.Post,
-  types-below t,
-  types.Post,
-  tight-below t,
-  tight.Post,
+  paren-below t,
+  paren.Post,
+  bracket-below t,
+  bracket.Post,
+  no-spaces-below t,
+  no-spaces.Post,
+  brace-below t,
+  brace.Post,
+  dtype-below t,
+  dtype.Post,
+  tight-paren-below t,
+  tight-paren.Post,
   alter-below t,
   alter.Post,
-  unions-below t,
-  unions.Post,
+  union-below t,
+  union.Post,
   pass-below t,
   pass.Post,
 ) (node-at t) node.Post
@@ -3434,8 +3949,8 @@ node-file-requires : (t : ℕ) → node-lts.Need-file-requires (
   file.Post,
   queries-below t,
   queries.Post,
-  query-below t,
-  query.Post,
+  sel-stmt-below t,
+  sel-stmt.Post,
   select-below t,
   select.Post,
   simple-below t,
@@ -3444,44 +3959,44 @@ node-file-requires : (t : ℕ) → node-lts.Need-file-requires (
   list-by.Post,
   settings-below t,
   settings.Post,
-  with-of-below t,
-  with-of.Post,
+  with-below t,
+  with.Post,
   join-below t,
   join.Post,
   inline-below t,
   inline.Post,
-  commas-below t,
-  commas.Post,
-  row-below t,
-  row.Post,
+  comma-below t,
+  comma.Post,
+  inl-list-below t,
+  inl-list.Post,
   binary-below t,
   binary.Post,
   unary-below t,
   unary.Post,
   call-below t,
   call.Post,
-  cases-below t,
-  cases.Post,
-  when-of-below t,
-  when-of.Post,
+  case-below t,
+  case.Post,
+  when-below t,
+  when.Post,
   subquery-below t,
   subquery.Post,
-  parens-below t,
-  parens.Post,
-  brackets-below t,
-  brackets.Post,
-  solid-below t,
-  solid.Post,
-  braces-below t,
-  braces.Post,
-  types-below t,
-  types.Post,
-  tight-below t,
-  tight.Post,
+  paren-below t,
+  paren.Post,
+  bracket-below t,
+  bracket.Post,
+  no-spaces-below t,
+  no-spaces.Post,
+  brace-below t,
+  brace.Post,
+  dtype-below t,
+  dtype.Post,
+  tight-paren-below t,
+  tight-paren.Post,
   alter-below t,
   alter.Post,
-  unions-below t,
-  unions.Post,
+  union-below t,
+  union.Post,
   pass-below t,
   pass.Post,
 ) (node-at t) node.Post
@@ -3502,8 +4017,8 @@ node-enum-told-2 : (t : ℕ) → node-lts.Need-enum-told-2 (
   file.Post,
   queries-below t,
   queries.Post,
-  query-below t,
-  query.Post,
+  sel-stmt-below t,
+  sel-stmt.Post,
   select-below t,
   select.Post,
   simple-below t,
@@ -3512,44 +4027,44 @@ node-enum-told-2 : (t : ℕ) → node-lts.Need-enum-told-2 (
   list-by.Post,
   settings-below t,
   settings.Post,
-  with-of-below t,
-  with-of.Post,
+  with-below t,
+  with.Post,
   join-below t,
   join.Post,
   inline-below t,
   inline.Post,
-  commas-below t,
-  commas.Post,
-  row-below t,
-  row.Post,
+  comma-below t,
+  comma.Post,
+  inl-list-below t,
+  inl-list.Post,
   binary-below t,
   binary.Post,
   unary-below t,
   unary.Post,
   call-below t,
   call.Post,
-  cases-below t,
-  cases.Post,
-  when-of-below t,
-  when-of.Post,
+  case-below t,
+  case.Post,
+  when-below t,
+  when.Post,
   subquery-below t,
   subquery.Post,
-  parens-below t,
-  parens.Post,
-  brackets-below t,
-  brackets.Post,
-  solid-below t,
-  solid.Post,
-  braces-below t,
-  braces.Post,
-  types-below t,
-  types.Post,
-  tight-below t,
-  tight.Post,
+  paren-below t,
+  paren.Post,
+  bracket-below t,
+  bracket.Post,
+  no-spaces-below t,
+  no-spaces.Post,
+  brace-below t,
+  brace.Post,
+  dtype-below t,
+  dtype.Post,
+  tight-paren-below t,
+  tight-paren.Post,
   alter-below t,
   alter.Post,
-  unions-below t,
-  unions.Post,
+  union-below t,
+  union.Post,
   pass-below t,
   pass.Post,
 ) (node-at t) node.Post
@@ -3570,8 +4085,8 @@ node-queries-requires : (t : ℕ) → node-lts.Need-queries-requires (
   file.Post,
   queries-below t,
   queries.Post,
-  query-below t,
-  query.Post,
+  sel-stmt-below t,
+  sel-stmt.Post,
   select-below t,
   select.Post,
   simple-below t,
@@ -3580,44 +4095,44 @@ node-queries-requires : (t : ℕ) → node-lts.Need-queries-requires (
   list-by.Post,
   settings-below t,
   settings.Post,
-  with-of-below t,
-  with-of.Post,
+  with-below t,
+  with.Post,
   join-below t,
   join.Post,
   inline-below t,
   inline.Post,
-  commas-below t,
-  commas.Post,
-  row-below t,
-  row.Post,
+  comma-below t,
+  comma.Post,
+  inl-list-below t,
+  inl-list.Post,
   binary-below t,
   binary.Post,
   unary-below t,
   unary.Post,
   call-below t,
   call.Post,
-  cases-below t,
-  cases.Post,
-  when-of-below t,
-  when-of.Post,
+  case-below t,
+  case.Post,
+  when-below t,
+  when.Post,
   subquery-below t,
   subquery.Post,
-  parens-below t,
-  parens.Post,
-  brackets-below t,
-  brackets.Post,
-  solid-below t,
-  solid.Post,
-  braces-below t,
-  braces.Post,
-  types-below t,
-  types.Post,
-  tight-below t,
-  tight.Post,
+  paren-below t,
+  paren.Post,
+  bracket-below t,
+  bracket.Post,
+  no-spaces-below t,
+  no-spaces.Post,
+  brace-below t,
+  brace.Post,
+  dtype-below t,
+  dtype.Post,
+  tight-paren-below t,
+  tight-paren.Post,
   alter-below t,
   alter.Post,
-  unions-below t,
-  unions.Post,
+  union-below t,
+  union.Post,
   pass-below t,
   pass.Post,
 ) (node-at t) node.Post
@@ -3638,8 +4153,8 @@ node-enum-told-3 : (t : ℕ) → node-lts.Need-enum-told-3 (
   file.Post,
   queries-below t,
   queries.Post,
-  query-below t,
-  query.Post,
+  sel-stmt-below t,
+  sel-stmt.Post,
   select-below t,
   select.Post,
   simple-below t,
@@ -3648,50 +4163,50 @@ node-enum-told-3 : (t : ℕ) → node-lts.Need-enum-told-3 (
   list-by.Post,
   settings-below t,
   settings.Post,
-  with-of-below t,
-  with-of.Post,
+  with-below t,
+  with.Post,
   join-below t,
   join.Post,
   inline-below t,
   inline.Post,
-  commas-below t,
-  commas.Post,
-  row-below t,
-  row.Post,
+  comma-below t,
+  comma.Post,
+  inl-list-below t,
+  inl-list.Post,
   binary-below t,
   binary.Post,
   unary-below t,
   unary.Post,
   call-below t,
   call.Post,
-  cases-below t,
-  cases.Post,
-  when-of-below t,
-  when-of.Post,
+  case-below t,
+  case.Post,
+  when-below t,
+  when.Post,
   subquery-below t,
   subquery.Post,
-  parens-below t,
-  parens.Post,
-  brackets-below t,
-  brackets.Post,
-  solid-below t,
-  solid.Post,
-  braces-below t,
-  braces.Post,
-  types-below t,
-  types.Post,
-  tight-below t,
-  tight.Post,
+  paren-below t,
+  paren.Post,
+  bracket-below t,
+  bracket.Post,
+  no-spaces-below t,
+  no-spaces.Post,
+  brace-below t,
+  brace.Post,
+  dtype-below t,
+  dtype.Post,
+  tight-paren-below t,
+  tight-paren.Post,
   alter-below t,
   alter.Post,
-  unions-below t,
-  unions.Post,
+  union-below t,
+  union.Post,
   pass-below t,
   pass.Post,
 ) (node-at t) node.Post
 node-enum-told-3 t c = search needs
 
-node-query-requires : (t : ℕ) → node-lts.Need-query-requires (
+node-sel-stmt-requires : (t : ℕ) → node-lts.Need-sel-stmt-requires (
   is-copied-reads.Asked,
   is-copied-reads.Learnt,
   head-at-reads.Asked,
@@ -3706,8 +4221,8 @@ node-query-requires : (t : ℕ) → node-lts.Need-query-requires (
   file.Post,
   queries-below t,
   queries.Post,
-  query-below t,
-  query.Post,
+  sel-stmt-below t,
+  sel-stmt.Post,
   select-below t,
   select.Post,
   simple-below t,
@@ -3716,48 +4231,48 @@ node-query-requires : (t : ℕ) → node-lts.Need-query-requires (
   list-by.Post,
   settings-below t,
   settings.Post,
-  with-of-below t,
-  with-of.Post,
+  with-below t,
+  with.Post,
   join-below t,
   join.Post,
   inline-below t,
   inline.Post,
-  commas-below t,
-  commas.Post,
-  row-below t,
-  row.Post,
+  comma-below t,
+  comma.Post,
+  inl-list-below t,
+  inl-list.Post,
   binary-below t,
   binary.Post,
   unary-below t,
   unary.Post,
   call-below t,
   call.Post,
-  cases-below t,
-  cases.Post,
-  when-of-below t,
-  when-of.Post,
+  case-below t,
+  case.Post,
+  when-below t,
+  when.Post,
   subquery-below t,
   subquery.Post,
-  parens-below t,
-  parens.Post,
-  brackets-below t,
-  brackets.Post,
-  solid-below t,
-  solid.Post,
-  braces-below t,
-  braces.Post,
-  types-below t,
-  types.Post,
-  tight-below t,
-  tight.Post,
+  paren-below t,
+  paren.Post,
+  bracket-below t,
+  bracket.Post,
+  no-spaces-below t,
+  no-spaces.Post,
+  brace-below t,
+  brace.Post,
+  dtype-below t,
+  dtype.Post,
+  tight-paren-below t,
+  tight-paren.Post,
   alter-below t,
   alter.Post,
-  unions-below t,
-  unions.Post,
+  union-below t,
+  union.Post,
   pass-below t,
   pass.Post,
 ) (node-at t) node.Post
-node-query-requires t c κs = (omega (arith, c .before .before .before .before .before .before .before .before .pre .0), c .before .before .before .before .before .before .before .before .pre .1 .0)
+node-sel-stmt-requires t c κs = (omega (arith, c .before .before .before .before .before .before .before .before .pre .0), c .before .before .before .before .before .before .before .before .pre .1 .0)
 
 node-enum-told-4 : (t : ℕ) → node-lts.Need-enum-told-4 (
   is-copied-reads.Asked,
@@ -3774,8 +4289,8 @@ node-enum-told-4 : (t : ℕ) → node-lts.Need-enum-told-4 (
   file.Post,
   queries-below t,
   queries.Post,
-  query-below t,
-  query.Post,
+  sel-stmt-below t,
+  sel-stmt.Post,
   select-below t,
   select.Post,
   simple-below t,
@@ -3784,44 +4299,44 @@ node-enum-told-4 : (t : ℕ) → node-lts.Need-enum-told-4 (
   list-by.Post,
   settings-below t,
   settings.Post,
-  with-of-below t,
-  with-of.Post,
+  with-below t,
+  with.Post,
   join-below t,
   join.Post,
   inline-below t,
   inline.Post,
-  commas-below t,
-  commas.Post,
-  row-below t,
-  row.Post,
+  comma-below t,
+  comma.Post,
+  inl-list-below t,
+  inl-list.Post,
   binary-below t,
   binary.Post,
   unary-below t,
   unary.Post,
   call-below t,
   call.Post,
-  cases-below t,
-  cases.Post,
-  when-of-below t,
-  when-of.Post,
+  case-below t,
+  case.Post,
+  when-below t,
+  when.Post,
   subquery-below t,
   subquery.Post,
-  parens-below t,
-  parens.Post,
-  brackets-below t,
-  brackets.Post,
-  solid-below t,
-  solid.Post,
-  braces-below t,
-  braces.Post,
-  types-below t,
-  types.Post,
-  tight-below t,
-  tight.Post,
+  paren-below t,
+  paren.Post,
+  bracket-below t,
+  bracket.Post,
+  no-spaces-below t,
+  no-spaces.Post,
+  brace-below t,
+  brace.Post,
+  dtype-below t,
+  dtype.Post,
+  tight-paren-below t,
+  tight-paren.Post,
   alter-below t,
   alter.Post,
-  unions-below t,
-  unions.Post,
+  union-below t,
+  union.Post,
   pass-below t,
   pass.Post,
 ) (node-at t) node.Post
@@ -3842,8 +4357,8 @@ node-select-requires : (t : ℕ) → node-lts.Need-select-requires (
   file.Post,
   queries-below t,
   queries.Post,
-  query-below t,
-  query.Post,
+  sel-stmt-below t,
+  sel-stmt.Post,
   select-below t,
   select.Post,
   simple-below t,
@@ -3852,44 +4367,44 @@ node-select-requires : (t : ℕ) → node-lts.Need-select-requires (
   list-by.Post,
   settings-below t,
   settings.Post,
-  with-of-below t,
-  with-of.Post,
+  with-below t,
+  with.Post,
   join-below t,
   join.Post,
   inline-below t,
   inline.Post,
-  commas-below t,
-  commas.Post,
-  row-below t,
-  row.Post,
+  comma-below t,
+  comma.Post,
+  inl-list-below t,
+  inl-list.Post,
   binary-below t,
   binary.Post,
   unary-below t,
   unary.Post,
   call-below t,
   call.Post,
-  cases-below t,
-  cases.Post,
-  when-of-below t,
-  when-of.Post,
+  case-below t,
+  case.Post,
+  when-below t,
+  when.Post,
   subquery-below t,
   subquery.Post,
-  parens-below t,
-  parens.Post,
-  brackets-below t,
-  brackets.Post,
-  solid-below t,
-  solid.Post,
-  braces-below t,
-  braces.Post,
-  types-below t,
-  types.Post,
-  tight-below t,
-  tight.Post,
+  paren-below t,
+  paren.Post,
+  bracket-below t,
+  bracket.Post,
+  no-spaces-below t,
+  no-spaces.Post,
+  brace-below t,
+  brace.Post,
+  dtype-below t,
+  dtype.Post,
+  tight-paren-below t,
+  tight-paren.Post,
   alter-below t,
   alter.Post,
-  unions-below t,
-  unions.Post,
+  union-below t,
+  union.Post,
   pass-below t,
   pass.Post,
 ) (node-at t) node.Post
@@ -3910,8 +4425,8 @@ node-enum-told-5 : (t : ℕ) → node-lts.Need-enum-told-5 (
   file.Post,
   queries-below t,
   queries.Post,
-  query-below t,
-  query.Post,
+  sel-stmt-below t,
+  sel-stmt.Post,
   select-below t,
   select.Post,
   simple-below t,
@@ -3920,44 +4435,44 @@ node-enum-told-5 : (t : ℕ) → node-lts.Need-enum-told-5 (
   list-by.Post,
   settings-below t,
   settings.Post,
-  with-of-below t,
-  with-of.Post,
+  with-below t,
+  with.Post,
   join-below t,
   join.Post,
   inline-below t,
   inline.Post,
-  commas-below t,
-  commas.Post,
-  row-below t,
-  row.Post,
+  comma-below t,
+  comma.Post,
+  inl-list-below t,
+  inl-list.Post,
   binary-below t,
   binary.Post,
   unary-below t,
   unary.Post,
   call-below t,
   call.Post,
-  cases-below t,
-  cases.Post,
-  when-of-below t,
-  when-of.Post,
+  case-below t,
+  case.Post,
+  when-below t,
+  when.Post,
   subquery-below t,
   subquery.Post,
-  parens-below t,
-  parens.Post,
-  brackets-below t,
-  brackets.Post,
-  solid-below t,
-  solid.Post,
-  braces-below t,
-  braces.Post,
-  types-below t,
-  types.Post,
-  tight-below t,
-  tight.Post,
+  paren-below t,
+  paren.Post,
+  bracket-below t,
+  bracket.Post,
+  no-spaces-below t,
+  no-spaces.Post,
+  brace-below t,
+  brace.Post,
+  dtype-below t,
+  dtype.Post,
+  tight-paren-below t,
+  tight-paren.Post,
   alter-below t,
   alter.Post,
-  unions-below t,
-  unions.Post,
+  union-below t,
+  union.Post,
   pass-below t,
   pass.Post,
 ) (node-at t) node.Post
@@ -3978,8 +4493,8 @@ node-simple-requires : (t : ℕ) → node-lts.Need-simple-requires (
   file.Post,
   queries-below t,
   queries.Post,
-  query-below t,
-  query.Post,
+  sel-stmt-below t,
+  sel-stmt.Post,
   select-below t,
   select.Post,
   simple-below t,
@@ -3988,44 +4503,44 @@ node-simple-requires : (t : ℕ) → node-lts.Need-simple-requires (
   list-by.Post,
   settings-below t,
   settings.Post,
-  with-of-below t,
-  with-of.Post,
+  with-below t,
+  with.Post,
   join-below t,
   join.Post,
   inline-below t,
   inline.Post,
-  commas-below t,
-  commas.Post,
-  row-below t,
-  row.Post,
+  comma-below t,
+  comma.Post,
+  inl-list-below t,
+  inl-list.Post,
   binary-below t,
   binary.Post,
   unary-below t,
   unary.Post,
   call-below t,
   call.Post,
-  cases-below t,
-  cases.Post,
-  when-of-below t,
-  when-of.Post,
+  case-below t,
+  case.Post,
+  when-below t,
+  when.Post,
   subquery-below t,
   subquery.Post,
-  parens-below t,
-  parens.Post,
-  brackets-below t,
-  brackets.Post,
-  solid-below t,
-  solid.Post,
-  braces-below t,
-  braces.Post,
-  types-below t,
-  types.Post,
-  tight-below t,
-  tight.Post,
+  paren-below t,
+  paren.Post,
+  bracket-below t,
+  bracket.Post,
+  no-spaces-below t,
+  no-spaces.Post,
+  brace-below t,
+  brace.Post,
+  dtype-below t,
+  dtype.Post,
+  tight-paren-below t,
+  tight-paren.Post,
   alter-below t,
   alter.Post,
-  unions-below t,
-  unions.Post,
+  union-below t,
+  union.Post,
   pass-below t,
   pass.Post,
 ) (node-at t) node.Post
@@ -4046,8 +4561,8 @@ node-enum-known-r : (t : ℕ) → node-lts.Need-enum-known-r (
   file.Post,
   queries-below t,
   queries.Post,
-  query-below t,
-  query.Post,
+  sel-stmt-below t,
+  sel-stmt.Post,
   select-below t,
   select.Post,
   simple-below t,
@@ -4056,44 +4571,44 @@ node-enum-known-r : (t : ℕ) → node-lts.Need-enum-known-r (
   list-by.Post,
   settings-below t,
   settings.Post,
-  with-of-below t,
-  with-of.Post,
+  with-below t,
+  with.Post,
   join-below t,
   join.Post,
   inline-below t,
   inline.Post,
-  commas-below t,
-  commas.Post,
-  row-below t,
-  row.Post,
+  comma-below t,
+  comma.Post,
+  inl-list-below t,
+  inl-list.Post,
   binary-below t,
   binary.Post,
   unary-below t,
   unary.Post,
   call-below t,
   call.Post,
-  cases-below t,
-  cases.Post,
-  when-of-below t,
-  when-of.Post,
+  case-below t,
+  case.Post,
+  when-below t,
+  when.Post,
   subquery-below t,
   subquery.Post,
-  parens-below t,
-  parens.Post,
-  brackets-below t,
-  brackets.Post,
-  solid-below t,
-  solid.Post,
-  braces-below t,
-  braces.Post,
-  types-below t,
-  types.Post,
-  tight-below t,
-  tight.Post,
+  paren-below t,
+  paren.Post,
+  bracket-below t,
+  bracket.Post,
+  no-spaces-below t,
+  no-spaces.Post,
+  brace-below t,
+  brace.Post,
+  dtype-below t,
+  dtype.Post,
+  tight-paren-below t,
+  tight-paren.Post,
   alter-below t,
   alter.Post,
-  unions-below t,
-  unions.Post,
+  union-below t,
+  union.Post,
   pass-below t,
   pass.Post,
 ) (node-at t) node.Post
@@ -4114,8 +4629,8 @@ node-list-by-requires : (t : ℕ) → node-lts.Need-list-by-requires (
   file.Post,
   queries-below t,
   queries.Post,
-  query-below t,
-  query.Post,
+  sel-stmt-below t,
+  sel-stmt.Post,
   select-below t,
   select.Post,
   simple-below t,
@@ -4124,44 +4639,44 @@ node-list-by-requires : (t : ℕ) → node-lts.Need-list-by-requires (
   list-by.Post,
   settings-below t,
   settings.Post,
-  with-of-below t,
-  with-of.Post,
+  with-below t,
+  with.Post,
   join-below t,
   join.Post,
   inline-below t,
   inline.Post,
-  commas-below t,
-  commas.Post,
-  row-below t,
-  row.Post,
+  comma-below t,
+  comma.Post,
+  inl-list-below t,
+  inl-list.Post,
   binary-below t,
   binary.Post,
   unary-below t,
   unary.Post,
   call-below t,
   call.Post,
-  cases-below t,
-  cases.Post,
-  when-of-below t,
-  when-of.Post,
+  case-below t,
+  case.Post,
+  when-below t,
+  when.Post,
   subquery-below t,
   subquery.Post,
-  parens-below t,
-  parens.Post,
-  brackets-below t,
-  brackets.Post,
-  solid-below t,
-  solid.Post,
-  braces-below t,
-  braces.Post,
-  types-below t,
-  types.Post,
-  tight-below t,
-  tight.Post,
+  paren-below t,
+  paren.Post,
+  bracket-below t,
+  bracket.Post,
+  no-spaces-below t,
+  no-spaces.Post,
+  brace-below t,
+  brace.Post,
+  dtype-below t,
+  dtype.Post,
+  tight-paren-below t,
+  tight-paren.Post,
   alter-below t,
   alter.Post,
-  unions-below t,
-  unions.Post,
+  union-below t,
+  union.Post,
   pass-below t,
   pass.Post,
 ) (node-at t) node.Post
@@ -4182,8 +4697,8 @@ node-enum-told-6 : (t : ℕ) → node-lts.Need-enum-told-6 (
   file.Post,
   queries-below t,
   queries.Post,
-  query-below t,
-  query.Post,
+  sel-stmt-below t,
+  sel-stmt.Post,
   select-below t,
   select.Post,
   simple-below t,
@@ -4192,44 +4707,44 @@ node-enum-told-6 : (t : ℕ) → node-lts.Need-enum-told-6 (
   list-by.Post,
   settings-below t,
   settings.Post,
-  with-of-below t,
-  with-of.Post,
+  with-below t,
+  with.Post,
   join-below t,
   join.Post,
   inline-below t,
   inline.Post,
-  commas-below t,
-  commas.Post,
-  row-below t,
-  row.Post,
+  comma-below t,
+  comma.Post,
+  inl-list-below t,
+  inl-list.Post,
   binary-below t,
   binary.Post,
   unary-below t,
   unary.Post,
   call-below t,
   call.Post,
-  cases-below t,
-  cases.Post,
-  when-of-below t,
-  when-of.Post,
+  case-below t,
+  case.Post,
+  when-below t,
+  when.Post,
   subquery-below t,
   subquery.Post,
-  parens-below t,
-  parens.Post,
-  brackets-below t,
-  brackets.Post,
-  solid-below t,
-  solid.Post,
-  braces-below t,
-  braces.Post,
-  types-below t,
-  types.Post,
-  tight-below t,
-  tight.Post,
+  paren-below t,
+  paren.Post,
+  bracket-below t,
+  bracket.Post,
+  no-spaces-below t,
+  no-spaces.Post,
+  brace-below t,
+  brace.Post,
+  dtype-below t,
+  dtype.Post,
+  tight-paren-below t,
+  tight-paren.Post,
   alter-below t,
   alter.Post,
-  unions-below t,
-  unions.Post,
+  union-below t,
+  union.Post,
   pass-below t,
   pass.Post,
 ) (node-at t) node.Post
@@ -4250,8 +4765,8 @@ node-settings-requires : (t : ℕ) → node-lts.Need-settings-requires (
   file.Post,
   queries-below t,
   queries.Post,
-  query-below t,
-  query.Post,
+  sel-stmt-below t,
+  sel-stmt.Post,
   select-below t,
   select.Post,
   simple-below t,
@@ -4260,44 +4775,44 @@ node-settings-requires : (t : ℕ) → node-lts.Need-settings-requires (
   list-by.Post,
   settings-below t,
   settings.Post,
-  with-of-below t,
-  with-of.Post,
+  with-below t,
+  with.Post,
   join-below t,
   join.Post,
   inline-below t,
   inline.Post,
-  commas-below t,
-  commas.Post,
-  row-below t,
-  row.Post,
+  comma-below t,
+  comma.Post,
+  inl-list-below t,
+  inl-list.Post,
   binary-below t,
   binary.Post,
   unary-below t,
   unary.Post,
   call-below t,
   call.Post,
-  cases-below t,
-  cases.Post,
-  when-of-below t,
-  when-of.Post,
+  case-below t,
+  case.Post,
+  when-below t,
+  when.Post,
   subquery-below t,
   subquery.Post,
-  parens-below t,
-  parens.Post,
-  brackets-below t,
-  brackets.Post,
-  solid-below t,
-  solid.Post,
-  braces-below t,
-  braces.Post,
-  types-below t,
-  types.Post,
-  tight-below t,
-  tight.Post,
+  paren-below t,
+  paren.Post,
+  bracket-below t,
+  bracket.Post,
+  no-spaces-below t,
+  no-spaces.Post,
+  brace-below t,
+  brace.Post,
+  dtype-below t,
+  dtype.Post,
+  tight-paren-below t,
+  tight-paren.Post,
   alter-below t,
   alter.Post,
-  unions-below t,
-  unions.Post,
+  union-below t,
+  union.Post,
   pass-below t,
   pass.Post,
 ) (node-at t) node.Post
@@ -4318,8 +4833,8 @@ node-enum-told-7 : (t : ℕ) → node-lts.Need-enum-told-7 (
   file.Post,
   queries-below t,
   queries.Post,
-  query-below t,
-  query.Post,
+  sel-stmt-below t,
+  sel-stmt.Post,
   select-below t,
   select.Post,
   simple-below t,
@@ -4328,50 +4843,50 @@ node-enum-told-7 : (t : ℕ) → node-lts.Need-enum-told-7 (
   list-by.Post,
   settings-below t,
   settings.Post,
-  with-of-below t,
-  with-of.Post,
+  with-below t,
+  with.Post,
   join-below t,
   join.Post,
   inline-below t,
   inline.Post,
-  commas-below t,
-  commas.Post,
-  row-below t,
-  row.Post,
+  comma-below t,
+  comma.Post,
+  inl-list-below t,
+  inl-list.Post,
   binary-below t,
   binary.Post,
   unary-below t,
   unary.Post,
   call-below t,
   call.Post,
-  cases-below t,
-  cases.Post,
-  when-of-below t,
-  when-of.Post,
+  case-below t,
+  case.Post,
+  when-below t,
+  when.Post,
   subquery-below t,
   subquery.Post,
-  parens-below t,
-  parens.Post,
-  brackets-below t,
-  brackets.Post,
-  solid-below t,
-  solid.Post,
-  braces-below t,
-  braces.Post,
-  types-below t,
-  types.Post,
-  tight-below t,
-  tight.Post,
+  paren-below t,
+  paren.Post,
+  bracket-below t,
+  bracket.Post,
+  no-spaces-below t,
+  no-spaces.Post,
+  brace-below t,
+  brace.Post,
+  dtype-below t,
+  dtype.Post,
+  tight-paren-below t,
+  tight-paren.Post,
   alter-below t,
   alter.Post,
-  unions-below t,
-  unions.Post,
+  union-below t,
+  union.Post,
   pass-below t,
   pass.Post,
 ) (node-at t) node.Post
 node-enum-told-7 t c = search needs
 
-node-with-of-requires : (t : ℕ) → node-lts.Need-with-of-requires (
+node-with-requires : (t : ℕ) → node-lts.Need-with-requires (
   is-copied-reads.Asked,
   is-copied-reads.Learnt,
   head-at-reads.Asked,
@@ -4386,8 +4901,8 @@ node-with-of-requires : (t : ℕ) → node-lts.Need-with-of-requires (
   file.Post,
   queries-below t,
   queries.Post,
-  query-below t,
-  query.Post,
+  sel-stmt-below t,
+  sel-stmt.Post,
   select-below t,
   select.Post,
   simple-below t,
@@ -4396,48 +4911,48 @@ node-with-of-requires : (t : ℕ) → node-lts.Need-with-of-requires (
   list-by.Post,
   settings-below t,
   settings.Post,
-  with-of-below t,
-  with-of.Post,
+  with-below t,
+  with.Post,
   join-below t,
   join.Post,
   inline-below t,
   inline.Post,
-  commas-below t,
-  commas.Post,
-  row-below t,
-  row.Post,
+  comma-below t,
+  comma.Post,
+  inl-list-below t,
+  inl-list.Post,
   binary-below t,
   binary.Post,
   unary-below t,
   unary.Post,
   call-below t,
   call.Post,
-  cases-below t,
-  cases.Post,
-  when-of-below t,
-  when-of.Post,
+  case-below t,
+  case.Post,
+  when-below t,
+  when.Post,
   subquery-below t,
   subquery.Post,
-  parens-below t,
-  parens.Post,
-  brackets-below t,
-  brackets.Post,
-  solid-below t,
-  solid.Post,
-  braces-below t,
-  braces.Post,
-  types-below t,
-  types.Post,
-  tight-below t,
-  tight.Post,
+  paren-below t,
+  paren.Post,
+  bracket-below t,
+  bracket.Post,
+  no-spaces-below t,
+  no-spaces.Post,
+  brace-below t,
+  brace.Post,
+  dtype-below t,
+  dtype.Post,
+  tight-paren-below t,
+  tight-paren.Post,
   alter-below t,
   alter.Post,
-  unions-below t,
-  unions.Post,
+  union-below t,
+  union.Post,
   pass-below t,
   pass.Post,
 ) (node-at t) node.Post
-node-with-of-requires t c κs = (omega (arith, c .before .before .before .before .before .before .before .before .pre .0), c .before .before .before .before .before .before .before .before .pre .1 .0)
+node-with-requires t c κs = (omega (arith, c .before .before .before .before .before .before .before .before .pre .0), c .before .before .before .before .before .before .before .before .pre .1 .0)
 
 node-enum-told-8 : (t : ℕ) → node-lts.Need-enum-told-8 (
   is-copied-reads.Asked,
@@ -4454,8 +4969,8 @@ node-enum-told-8 : (t : ℕ) → node-lts.Need-enum-told-8 (
   file.Post,
   queries-below t,
   queries.Post,
-  query-below t,
-  query.Post,
+  sel-stmt-below t,
+  sel-stmt.Post,
   select-below t,
   select.Post,
   simple-below t,
@@ -4464,44 +4979,44 @@ node-enum-told-8 : (t : ℕ) → node-lts.Need-enum-told-8 (
   list-by.Post,
   settings-below t,
   settings.Post,
-  with-of-below t,
-  with-of.Post,
+  with-below t,
+  with.Post,
   join-below t,
   join.Post,
   inline-below t,
   inline.Post,
-  commas-below t,
-  commas.Post,
-  row-below t,
-  row.Post,
+  comma-below t,
+  comma.Post,
+  inl-list-below t,
+  inl-list.Post,
   binary-below t,
   binary.Post,
   unary-below t,
   unary.Post,
   call-below t,
   call.Post,
-  cases-below t,
-  cases.Post,
-  when-of-below t,
-  when-of.Post,
+  case-below t,
+  case.Post,
+  when-below t,
+  when.Post,
   subquery-below t,
   subquery.Post,
-  parens-below t,
-  parens.Post,
-  brackets-below t,
-  brackets.Post,
-  solid-below t,
-  solid.Post,
-  braces-below t,
-  braces.Post,
-  types-below t,
-  types.Post,
-  tight-below t,
-  tight.Post,
+  paren-below t,
+  paren.Post,
+  bracket-below t,
+  bracket.Post,
+  no-spaces-below t,
+  no-spaces.Post,
+  brace-below t,
+  brace.Post,
+  dtype-below t,
+  dtype.Post,
+  tight-paren-below t,
+  tight-paren.Post,
   alter-below t,
   alter.Post,
-  unions-below t,
-  unions.Post,
+  union-below t,
+  union.Post,
   pass-below t,
   pass.Post,
 ) (node-at t) node.Post
@@ -4522,8 +5037,8 @@ node-join-requires : (t : ℕ) → node-lts.Need-join-requires (
   file.Post,
   queries-below t,
   queries.Post,
-  query-below t,
-  query.Post,
+  sel-stmt-below t,
+  sel-stmt.Post,
   select-below t,
   select.Post,
   simple-below t,
@@ -4532,44 +5047,44 @@ node-join-requires : (t : ℕ) → node-lts.Need-join-requires (
   list-by.Post,
   settings-below t,
   settings.Post,
-  with-of-below t,
-  with-of.Post,
+  with-below t,
+  with.Post,
   join-below t,
   join.Post,
   inline-below t,
   inline.Post,
-  commas-below t,
-  commas.Post,
-  row-below t,
-  row.Post,
+  comma-below t,
+  comma.Post,
+  inl-list-below t,
+  inl-list.Post,
   binary-below t,
   binary.Post,
   unary-below t,
   unary.Post,
   call-below t,
   call.Post,
-  cases-below t,
-  cases.Post,
-  when-of-below t,
-  when-of.Post,
+  case-below t,
+  case.Post,
+  when-below t,
+  when.Post,
   subquery-below t,
   subquery.Post,
-  parens-below t,
-  parens.Post,
-  brackets-below t,
-  brackets.Post,
-  solid-below t,
-  solid.Post,
-  braces-below t,
-  braces.Post,
-  types-below t,
-  types.Post,
-  tight-below t,
-  tight.Post,
+  paren-below t,
+  paren.Post,
+  bracket-below t,
+  bracket.Post,
+  no-spaces-below t,
+  no-spaces.Post,
+  brace-below t,
+  brace.Post,
+  dtype-below t,
+  dtype.Post,
+  tight-paren-below t,
+  tight-paren.Post,
   alter-below t,
   alter.Post,
-  unions-below t,
-  unions.Post,
+  union-below t,
+  union.Post,
   pass-below t,
   pass.Post,
 ) (node-at t) node.Post
@@ -4590,8 +5105,8 @@ node-enum-told-9 : (t : ℕ) → node-lts.Need-enum-told-9 (
   file.Post,
   queries-below t,
   queries.Post,
-  query-below t,
-  query.Post,
+  sel-stmt-below t,
+  sel-stmt.Post,
   select-below t,
   select.Post,
   simple-below t,
@@ -4600,44 +5115,44 @@ node-enum-told-9 : (t : ℕ) → node-lts.Need-enum-told-9 (
   list-by.Post,
   settings-below t,
   settings.Post,
-  with-of-below t,
-  with-of.Post,
+  with-below t,
+  with.Post,
   join-below t,
   join.Post,
   inline-below t,
   inline.Post,
-  commas-below t,
-  commas.Post,
-  row-below t,
-  row.Post,
+  comma-below t,
+  comma.Post,
+  inl-list-below t,
+  inl-list.Post,
   binary-below t,
   binary.Post,
   unary-below t,
   unary.Post,
   call-below t,
   call.Post,
-  cases-below t,
-  cases.Post,
-  when-of-below t,
-  when-of.Post,
+  case-below t,
+  case.Post,
+  when-below t,
+  when.Post,
   subquery-below t,
   subquery.Post,
-  parens-below t,
-  parens.Post,
-  brackets-below t,
-  brackets.Post,
-  solid-below t,
-  solid.Post,
-  braces-below t,
-  braces.Post,
-  types-below t,
-  types.Post,
-  tight-below t,
-  tight.Post,
+  paren-below t,
+  paren.Post,
+  bracket-below t,
+  bracket.Post,
+  no-spaces-below t,
+  no-spaces.Post,
+  brace-below t,
+  brace.Post,
+  dtype-below t,
+  dtype.Post,
+  tight-paren-below t,
+  tight-paren.Post,
   alter-below t,
   alter.Post,
-  unions-below t,
-  unions.Post,
+  union-below t,
+  union.Post,
   pass-below t,
   pass.Post,
 ) (node-at t) node.Post
@@ -4658,8 +5173,8 @@ node-inline-requires : (t : ℕ) → node-lts.Need-inline-requires (
   file.Post,
   queries-below t,
   queries.Post,
-  query-below t,
-  query.Post,
+  sel-stmt-below t,
+  sel-stmt.Post,
   select-below t,
   select.Post,
   simple-below t,
@@ -4668,44 +5183,44 @@ node-inline-requires : (t : ℕ) → node-lts.Need-inline-requires (
   list-by.Post,
   settings-below t,
   settings.Post,
-  with-of-below t,
-  with-of.Post,
+  with-below t,
+  with.Post,
   join-below t,
   join.Post,
   inline-below t,
   inline.Post,
-  commas-below t,
-  commas.Post,
-  row-below t,
-  row.Post,
+  comma-below t,
+  comma.Post,
+  inl-list-below t,
+  inl-list.Post,
   binary-below t,
   binary.Post,
   unary-below t,
   unary.Post,
   call-below t,
   call.Post,
-  cases-below t,
-  cases.Post,
-  when-of-below t,
-  when-of.Post,
+  case-below t,
+  case.Post,
+  when-below t,
+  when.Post,
   subquery-below t,
   subquery.Post,
-  parens-below t,
-  parens.Post,
-  brackets-below t,
-  brackets.Post,
-  solid-below t,
-  solid.Post,
-  braces-below t,
-  braces.Post,
-  types-below t,
-  types.Post,
-  tight-below t,
-  tight.Post,
+  paren-below t,
+  paren.Post,
+  bracket-below t,
+  bracket.Post,
+  no-spaces-below t,
+  no-spaces.Post,
+  brace-below t,
+  brace.Post,
+  dtype-below t,
+  dtype.Post,
+  tight-paren-below t,
+  tight-paren.Post,
   alter-below t,
   alter.Post,
-  unions-below t,
-  unions.Post,
+  union-below t,
+  union.Post,
   pass-below t,
   pass.Post,
 ) (node-at t) node.Post
@@ -4726,8 +5241,8 @@ node-enum-told-10 : (t : ℕ) → node-lts.Need-enum-told-10 (
   file.Post,
   queries-below t,
   queries.Post,
-  query-below t,
-  query.Post,
+  sel-stmt-below t,
+  sel-stmt.Post,
   select-below t,
   select.Post,
   simple-below t,
@@ -4736,50 +5251,50 @@ node-enum-told-10 : (t : ℕ) → node-lts.Need-enum-told-10 (
   list-by.Post,
   settings-below t,
   settings.Post,
-  with-of-below t,
-  with-of.Post,
+  with-below t,
+  with.Post,
   join-below t,
   join.Post,
   inline-below t,
   inline.Post,
-  commas-below t,
-  commas.Post,
-  row-below t,
-  row.Post,
+  comma-below t,
+  comma.Post,
+  inl-list-below t,
+  inl-list.Post,
   binary-below t,
   binary.Post,
   unary-below t,
   unary.Post,
   call-below t,
   call.Post,
-  cases-below t,
-  cases.Post,
-  when-of-below t,
-  when-of.Post,
+  case-below t,
+  case.Post,
+  when-below t,
+  when.Post,
   subquery-below t,
   subquery.Post,
-  parens-below t,
-  parens.Post,
-  brackets-below t,
-  brackets.Post,
-  solid-below t,
-  solid.Post,
-  braces-below t,
-  braces.Post,
-  types-below t,
-  types.Post,
-  tight-below t,
-  tight.Post,
+  paren-below t,
+  paren.Post,
+  bracket-below t,
+  bracket.Post,
+  no-spaces-below t,
+  no-spaces.Post,
+  brace-below t,
+  brace.Post,
+  dtype-below t,
+  dtype.Post,
+  tight-paren-below t,
+  tight-paren.Post,
   alter-below t,
   alter.Post,
-  unions-below t,
-  unions.Post,
+  union-below t,
+  union.Post,
   pass-below t,
   pass.Post,
 ) (node-at t) node.Post
 node-enum-told-10 t c = search needs
 
-node-commas-requires : (t : ℕ) → node-lts.Need-commas-requires (
+node-comma-requires : (t : ℕ) → node-lts.Need-comma-requires (
   is-copied-reads.Asked,
   is-copied-reads.Learnt,
   head-at-reads.Asked,
@@ -4794,8 +5309,8 @@ node-commas-requires : (t : ℕ) → node-lts.Need-commas-requires (
   file.Post,
   queries-below t,
   queries.Post,
-  query-below t,
-  query.Post,
+  sel-stmt-below t,
+  sel-stmt.Post,
   select-below t,
   select.Post,
   simple-below t,
@@ -4804,48 +5319,48 @@ node-commas-requires : (t : ℕ) → node-lts.Need-commas-requires (
   list-by.Post,
   settings-below t,
   settings.Post,
-  with-of-below t,
-  with-of.Post,
+  with-below t,
+  with.Post,
   join-below t,
   join.Post,
   inline-below t,
   inline.Post,
-  commas-below t,
-  commas.Post,
-  row-below t,
-  row.Post,
+  comma-below t,
+  comma.Post,
+  inl-list-below t,
+  inl-list.Post,
   binary-below t,
   binary.Post,
   unary-below t,
   unary.Post,
   call-below t,
   call.Post,
-  cases-below t,
-  cases.Post,
-  when-of-below t,
-  when-of.Post,
+  case-below t,
+  case.Post,
+  when-below t,
+  when.Post,
   subquery-below t,
   subquery.Post,
-  parens-below t,
-  parens.Post,
-  brackets-below t,
-  brackets.Post,
-  solid-below t,
-  solid.Post,
-  braces-below t,
-  braces.Post,
-  types-below t,
-  types.Post,
-  tight-below t,
-  tight.Post,
+  paren-below t,
+  paren.Post,
+  bracket-below t,
+  bracket.Post,
+  no-spaces-below t,
+  no-spaces.Post,
+  brace-below t,
+  brace.Post,
+  dtype-below t,
+  dtype.Post,
+  tight-paren-below t,
+  tight-paren.Post,
   alter-below t,
   alter.Post,
-  unions-below t,
-  unions.Post,
+  union-below t,
+  union.Post,
   pass-below t,
   pass.Post,
 ) (node-at t) node.Post
-node-commas-requires t c κs = (omega (arith, c .before .before .before .before .before .before .before .before .pre .0), c .before .before .before .before .before .before .before .before .pre .1 .0)
+node-comma-requires t c κs = (omega (arith, c .before .before .before .before .before .before .before .before .pre .0), c .before .before .before .before .before .before .before .before .pre .1 .0)
 
 node-enum-told-11 : (t : ℕ) → node-lts.Need-enum-told-11 (
   is-copied-reads.Asked,
@@ -4862,8 +5377,8 @@ node-enum-told-11 : (t : ℕ) → node-lts.Need-enum-told-11 (
   file.Post,
   queries-below t,
   queries.Post,
-  query-below t,
-  query.Post,
+  sel-stmt-below t,
+  sel-stmt.Post,
   select-below t,
   select.Post,
   simple-below t,
@@ -4872,50 +5387,50 @@ node-enum-told-11 : (t : ℕ) → node-lts.Need-enum-told-11 (
   list-by.Post,
   settings-below t,
   settings.Post,
-  with-of-below t,
-  with-of.Post,
+  with-below t,
+  with.Post,
   join-below t,
   join.Post,
   inline-below t,
   inline.Post,
-  commas-below t,
-  commas.Post,
-  row-below t,
-  row.Post,
+  comma-below t,
+  comma.Post,
+  inl-list-below t,
+  inl-list.Post,
   binary-below t,
   binary.Post,
   unary-below t,
   unary.Post,
   call-below t,
   call.Post,
-  cases-below t,
-  cases.Post,
-  when-of-below t,
-  when-of.Post,
+  case-below t,
+  case.Post,
+  when-below t,
+  when.Post,
   subquery-below t,
   subquery.Post,
-  parens-below t,
-  parens.Post,
-  brackets-below t,
-  brackets.Post,
-  solid-below t,
-  solid.Post,
-  braces-below t,
-  braces.Post,
-  types-below t,
-  types.Post,
-  tight-below t,
-  tight.Post,
+  paren-below t,
+  paren.Post,
+  bracket-below t,
+  bracket.Post,
+  no-spaces-below t,
+  no-spaces.Post,
+  brace-below t,
+  brace.Post,
+  dtype-below t,
+  dtype.Post,
+  tight-paren-below t,
+  tight-paren.Post,
   alter-below t,
   alter.Post,
-  unions-below t,
-  unions.Post,
+  union-below t,
+  union.Post,
   pass-below t,
   pass.Post,
 ) (node-at t) node.Post
 node-enum-told-11 t c = search needs
 
-node-row-requires : (t : ℕ) → node-lts.Need-row-requires (
+node-inl-list-requires : (t : ℕ) → node-lts.Need-inl-list-requires (
   is-copied-reads.Asked,
   is-copied-reads.Learnt,
   head-at-reads.Asked,
@@ -4930,8 +5445,8 @@ node-row-requires : (t : ℕ) → node-lts.Need-row-requires (
   file.Post,
   queries-below t,
   queries.Post,
-  query-below t,
-  query.Post,
+  sel-stmt-below t,
+  sel-stmt.Post,
   select-below t,
   select.Post,
   simple-below t,
@@ -4940,48 +5455,48 @@ node-row-requires : (t : ℕ) → node-lts.Need-row-requires (
   list-by.Post,
   settings-below t,
   settings.Post,
-  with-of-below t,
-  with-of.Post,
+  with-below t,
+  with.Post,
   join-below t,
   join.Post,
   inline-below t,
   inline.Post,
-  commas-below t,
-  commas.Post,
-  row-below t,
-  row.Post,
+  comma-below t,
+  comma.Post,
+  inl-list-below t,
+  inl-list.Post,
   binary-below t,
   binary.Post,
   unary-below t,
   unary.Post,
   call-below t,
   call.Post,
-  cases-below t,
-  cases.Post,
-  when-of-below t,
-  when-of.Post,
+  case-below t,
+  case.Post,
+  when-below t,
+  when.Post,
   subquery-below t,
   subquery.Post,
-  parens-below t,
-  parens.Post,
-  brackets-below t,
-  brackets.Post,
-  solid-below t,
-  solid.Post,
-  braces-below t,
-  braces.Post,
-  types-below t,
-  types.Post,
-  tight-below t,
-  tight.Post,
+  paren-below t,
+  paren.Post,
+  bracket-below t,
+  bracket.Post,
+  no-spaces-below t,
+  no-spaces.Post,
+  brace-below t,
+  brace.Post,
+  dtype-below t,
+  dtype.Post,
+  tight-paren-below t,
+  tight-paren.Post,
   alter-below t,
   alter.Post,
-  unions-below t,
-  unions.Post,
+  union-below t,
+  union.Post,
   pass-below t,
   pass.Post,
 ) (node-at t) node.Post
-node-row-requires t c κs = (omega (arith, c .before .before .before .before .before .before .before .before .pre .0), c .before .before .before .before .before .before .before .before .pre .1 .0)
+node-inl-list-requires t c κs = (omega (arith, c .before .before .before .before .before .before .before .before .pre .0), c .before .before .before .before .before .before .before .before .pre .1 .0)
 
 node-enum-told-12 : (t : ℕ) → node-lts.Need-enum-told-12 (
   is-copied-reads.Asked,
@@ -4998,8 +5513,8 @@ node-enum-told-12 : (t : ℕ) → node-lts.Need-enum-told-12 (
   file.Post,
   queries-below t,
   queries.Post,
-  query-below t,
-  query.Post,
+  sel-stmt-below t,
+  sel-stmt.Post,
   select-below t,
   select.Post,
   simple-below t,
@@ -5008,44 +5523,44 @@ node-enum-told-12 : (t : ℕ) → node-lts.Need-enum-told-12 (
   list-by.Post,
   settings-below t,
   settings.Post,
-  with-of-below t,
-  with-of.Post,
+  with-below t,
+  with.Post,
   join-below t,
   join.Post,
   inline-below t,
   inline.Post,
-  commas-below t,
-  commas.Post,
-  row-below t,
-  row.Post,
+  comma-below t,
+  comma.Post,
+  inl-list-below t,
+  inl-list.Post,
   binary-below t,
   binary.Post,
   unary-below t,
   unary.Post,
   call-below t,
   call.Post,
-  cases-below t,
-  cases.Post,
-  when-of-below t,
-  when-of.Post,
+  case-below t,
+  case.Post,
+  when-below t,
+  when.Post,
   subquery-below t,
   subquery.Post,
-  parens-below t,
-  parens.Post,
-  brackets-below t,
-  brackets.Post,
-  solid-below t,
-  solid.Post,
-  braces-below t,
-  braces.Post,
-  types-below t,
-  types.Post,
-  tight-below t,
-  tight.Post,
+  paren-below t,
+  paren.Post,
+  bracket-below t,
+  bracket.Post,
+  no-spaces-below t,
+  no-spaces.Post,
+  brace-below t,
+  brace.Post,
+  dtype-below t,
+  dtype.Post,
+  tight-paren-below t,
+  tight-paren.Post,
   alter-below t,
   alter.Post,
-  unions-below t,
-  unions.Post,
+  union-below t,
+  union.Post,
   pass-below t,
   pass.Post,
 ) (node-at t) node.Post
@@ -5066,8 +5581,8 @@ node-binary-requires : (t : ℕ) → node-lts.Need-binary-requires (
   file.Post,
   queries-below t,
   queries.Post,
-  query-below t,
-  query.Post,
+  sel-stmt-below t,
+  sel-stmt.Post,
   select-below t,
   select.Post,
   simple-below t,
@@ -5076,44 +5591,44 @@ node-binary-requires : (t : ℕ) → node-lts.Need-binary-requires (
   list-by.Post,
   settings-below t,
   settings.Post,
-  with-of-below t,
-  with-of.Post,
+  with-below t,
+  with.Post,
   join-below t,
   join.Post,
   inline-below t,
   inline.Post,
-  commas-below t,
-  commas.Post,
-  row-below t,
-  row.Post,
+  comma-below t,
+  comma.Post,
+  inl-list-below t,
+  inl-list.Post,
   binary-below t,
   binary.Post,
   unary-below t,
   unary.Post,
   call-below t,
   call.Post,
-  cases-below t,
-  cases.Post,
-  when-of-below t,
-  when-of.Post,
+  case-below t,
+  case.Post,
+  when-below t,
+  when.Post,
   subquery-below t,
   subquery.Post,
-  parens-below t,
-  parens.Post,
-  brackets-below t,
-  brackets.Post,
-  solid-below t,
-  solid.Post,
-  braces-below t,
-  braces.Post,
-  types-below t,
-  types.Post,
-  tight-below t,
-  tight.Post,
+  paren-below t,
+  paren.Post,
+  bracket-below t,
+  bracket.Post,
+  no-spaces-below t,
+  no-spaces.Post,
+  brace-below t,
+  brace.Post,
+  dtype-below t,
+  dtype.Post,
+  tight-paren-below t,
+  tight-paren.Post,
   alter-below t,
   alter.Post,
-  unions-below t,
-  unions.Post,
+  union-below t,
+  union.Post,
   pass-below t,
   pass.Post,
 ) (node-at t) node.Post
@@ -5134,8 +5649,8 @@ node-enum-told-13 : (t : ℕ) → node-lts.Need-enum-told-13 (
   file.Post,
   queries-below t,
   queries.Post,
-  query-below t,
-  query.Post,
+  sel-stmt-below t,
+  sel-stmt.Post,
   select-below t,
   select.Post,
   simple-below t,
@@ -5144,44 +5659,44 @@ node-enum-told-13 : (t : ℕ) → node-lts.Need-enum-told-13 (
   list-by.Post,
   settings-below t,
   settings.Post,
-  with-of-below t,
-  with-of.Post,
+  with-below t,
+  with.Post,
   join-below t,
   join.Post,
   inline-below t,
   inline.Post,
-  commas-below t,
-  commas.Post,
-  row-below t,
-  row.Post,
+  comma-below t,
+  comma.Post,
+  inl-list-below t,
+  inl-list.Post,
   binary-below t,
   binary.Post,
   unary-below t,
   unary.Post,
   call-below t,
   call.Post,
-  cases-below t,
-  cases.Post,
-  when-of-below t,
-  when-of.Post,
+  case-below t,
+  case.Post,
+  when-below t,
+  when.Post,
   subquery-below t,
   subquery.Post,
-  parens-below t,
-  parens.Post,
-  brackets-below t,
-  brackets.Post,
-  solid-below t,
-  solid.Post,
-  braces-below t,
-  braces.Post,
-  types-below t,
-  types.Post,
-  tight-below t,
-  tight.Post,
+  paren-below t,
+  paren.Post,
+  bracket-below t,
+  bracket.Post,
+  no-spaces-below t,
+  no-spaces.Post,
+  brace-below t,
+  brace.Post,
+  dtype-below t,
+  dtype.Post,
+  tight-paren-below t,
+  tight-paren.Post,
   alter-below t,
   alter.Post,
-  unions-below t,
-  unions.Post,
+  union-below t,
+  union.Post,
   pass-below t,
   pass.Post,
 ) (node-at t) node.Post
@@ -5202,8 +5717,8 @@ node-unary-requires : (t : ℕ) → node-lts.Need-unary-requires (
   file.Post,
   queries-below t,
   queries.Post,
-  query-below t,
-  query.Post,
+  sel-stmt-below t,
+  sel-stmt.Post,
   select-below t,
   select.Post,
   simple-below t,
@@ -5212,44 +5727,44 @@ node-unary-requires : (t : ℕ) → node-lts.Need-unary-requires (
   list-by.Post,
   settings-below t,
   settings.Post,
-  with-of-below t,
-  with-of.Post,
+  with-below t,
+  with.Post,
   join-below t,
   join.Post,
   inline-below t,
   inline.Post,
-  commas-below t,
-  commas.Post,
-  row-below t,
-  row.Post,
+  comma-below t,
+  comma.Post,
+  inl-list-below t,
+  inl-list.Post,
   binary-below t,
   binary.Post,
   unary-below t,
   unary.Post,
   call-below t,
   call.Post,
-  cases-below t,
-  cases.Post,
-  when-of-below t,
-  when-of.Post,
+  case-below t,
+  case.Post,
+  when-below t,
+  when.Post,
   subquery-below t,
   subquery.Post,
-  parens-below t,
-  parens.Post,
-  brackets-below t,
-  brackets.Post,
-  solid-below t,
-  solid.Post,
-  braces-below t,
-  braces.Post,
-  types-below t,
-  types.Post,
-  tight-below t,
-  tight.Post,
+  paren-below t,
+  paren.Post,
+  bracket-below t,
+  bracket.Post,
+  no-spaces-below t,
+  no-spaces.Post,
+  brace-below t,
+  brace.Post,
+  dtype-below t,
+  dtype.Post,
+  tight-paren-below t,
+  tight-paren.Post,
   alter-below t,
   alter.Post,
-  unions-below t,
-  unions.Post,
+  union-below t,
+  union.Post,
   pass-below t,
   pass.Post,
 ) (node-at t) node.Post
@@ -5270,8 +5785,8 @@ node-enum-told-14 : (t : ℕ) → node-lts.Need-enum-told-14 (
   file.Post,
   queries-below t,
   queries.Post,
-  query-below t,
-  query.Post,
+  sel-stmt-below t,
+  sel-stmt.Post,
   select-below t,
   select.Post,
   simple-below t,
@@ -5280,44 +5795,44 @@ node-enum-told-14 : (t : ℕ) → node-lts.Need-enum-told-14 (
   list-by.Post,
   settings-below t,
   settings.Post,
-  with-of-below t,
-  with-of.Post,
+  with-below t,
+  with.Post,
   join-below t,
   join.Post,
   inline-below t,
   inline.Post,
-  commas-below t,
-  commas.Post,
-  row-below t,
-  row.Post,
+  comma-below t,
+  comma.Post,
+  inl-list-below t,
+  inl-list.Post,
   binary-below t,
   binary.Post,
   unary-below t,
   unary.Post,
   call-below t,
   call.Post,
-  cases-below t,
-  cases.Post,
-  when-of-below t,
-  when-of.Post,
+  case-below t,
+  case.Post,
+  when-below t,
+  when.Post,
   subquery-below t,
   subquery.Post,
-  parens-below t,
-  parens.Post,
-  brackets-below t,
-  brackets.Post,
-  solid-below t,
-  solid.Post,
-  braces-below t,
-  braces.Post,
-  types-below t,
-  types.Post,
-  tight-below t,
-  tight.Post,
+  paren-below t,
+  paren.Post,
+  bracket-below t,
+  bracket.Post,
+  no-spaces-below t,
+  no-spaces.Post,
+  brace-below t,
+  brace.Post,
+  dtype-below t,
+  dtype.Post,
+  tight-paren-below t,
+  tight-paren.Post,
   alter-below t,
   alter.Post,
-  unions-below t,
-  unions.Post,
+  union-below t,
+  union.Post,
   pass-below t,
   pass.Post,
 ) (node-at t) node.Post
@@ -5338,8 +5853,8 @@ node-call-requires : (t : ℕ) → node-lts.Need-call-requires (
   file.Post,
   queries-below t,
   queries.Post,
-  query-below t,
-  query.Post,
+  sel-stmt-below t,
+  sel-stmt.Post,
   select-below t,
   select.Post,
   simple-below t,
@@ -5348,44 +5863,44 @@ node-call-requires : (t : ℕ) → node-lts.Need-call-requires (
   list-by.Post,
   settings-below t,
   settings.Post,
-  with-of-below t,
-  with-of.Post,
+  with-below t,
+  with.Post,
   join-below t,
   join.Post,
   inline-below t,
   inline.Post,
-  commas-below t,
-  commas.Post,
-  row-below t,
-  row.Post,
+  comma-below t,
+  comma.Post,
+  inl-list-below t,
+  inl-list.Post,
   binary-below t,
   binary.Post,
   unary-below t,
   unary.Post,
   call-below t,
   call.Post,
-  cases-below t,
-  cases.Post,
-  when-of-below t,
-  when-of.Post,
+  case-below t,
+  case.Post,
+  when-below t,
+  when.Post,
   subquery-below t,
   subquery.Post,
-  parens-below t,
-  parens.Post,
-  brackets-below t,
-  brackets.Post,
-  solid-below t,
-  solid.Post,
-  braces-below t,
-  braces.Post,
-  types-below t,
-  types.Post,
-  tight-below t,
-  tight.Post,
+  paren-below t,
+  paren.Post,
+  bracket-below t,
+  bracket.Post,
+  no-spaces-below t,
+  no-spaces.Post,
+  brace-below t,
+  brace.Post,
+  dtype-below t,
+  dtype.Post,
+  tight-paren-below t,
+  tight-paren.Post,
   alter-below t,
   alter.Post,
-  unions-below t,
-  unions.Post,
+  union-below t,
+  union.Post,
   pass-below t,
   pass.Post,
 ) (node-at t) node.Post
@@ -5406,8 +5921,8 @@ node-enum-told-15 : (t : ℕ) → node-lts.Need-enum-told-15 (
   file.Post,
   queries-below t,
   queries.Post,
-  query-below t,
-  query.Post,
+  sel-stmt-below t,
+  sel-stmt.Post,
   select-below t,
   select.Post,
   simple-below t,
@@ -5416,50 +5931,50 @@ node-enum-told-15 : (t : ℕ) → node-lts.Need-enum-told-15 (
   list-by.Post,
   settings-below t,
   settings.Post,
-  with-of-below t,
-  with-of.Post,
+  with-below t,
+  with.Post,
   join-below t,
   join.Post,
   inline-below t,
   inline.Post,
-  commas-below t,
-  commas.Post,
-  row-below t,
-  row.Post,
+  comma-below t,
+  comma.Post,
+  inl-list-below t,
+  inl-list.Post,
   binary-below t,
   binary.Post,
   unary-below t,
   unary.Post,
   call-below t,
   call.Post,
-  cases-below t,
-  cases.Post,
-  when-of-below t,
-  when-of.Post,
+  case-below t,
+  case.Post,
+  when-below t,
+  when.Post,
   subquery-below t,
   subquery.Post,
-  parens-below t,
-  parens.Post,
-  brackets-below t,
-  brackets.Post,
-  solid-below t,
-  solid.Post,
-  braces-below t,
-  braces.Post,
-  types-below t,
-  types.Post,
-  tight-below t,
-  tight.Post,
+  paren-below t,
+  paren.Post,
+  bracket-below t,
+  bracket.Post,
+  no-spaces-below t,
+  no-spaces.Post,
+  brace-below t,
+  brace.Post,
+  dtype-below t,
+  dtype.Post,
+  tight-paren-below t,
+  tight-paren.Post,
   alter-below t,
   alter.Post,
-  unions-below t,
-  unions.Post,
+  union-below t,
+  union.Post,
   pass-below t,
   pass.Post,
 ) (node-at t) node.Post
 node-enum-told-15 t c = search needs
 
-node-cases-requires : (t : ℕ) → node-lts.Need-cases-requires (
+node-case-requires : (t : ℕ) → node-lts.Need-case-requires (
   is-copied-reads.Asked,
   is-copied-reads.Learnt,
   head-at-reads.Asked,
@@ -5474,8 +5989,8 @@ node-cases-requires : (t : ℕ) → node-lts.Need-cases-requires (
   file.Post,
   queries-below t,
   queries.Post,
-  query-below t,
-  query.Post,
+  sel-stmt-below t,
+  sel-stmt.Post,
   select-below t,
   select.Post,
   simple-below t,
@@ -5484,48 +5999,48 @@ node-cases-requires : (t : ℕ) → node-lts.Need-cases-requires (
   list-by.Post,
   settings-below t,
   settings.Post,
-  with-of-below t,
-  with-of.Post,
+  with-below t,
+  with.Post,
   join-below t,
   join.Post,
   inline-below t,
   inline.Post,
-  commas-below t,
-  commas.Post,
-  row-below t,
-  row.Post,
+  comma-below t,
+  comma.Post,
+  inl-list-below t,
+  inl-list.Post,
   binary-below t,
   binary.Post,
   unary-below t,
   unary.Post,
   call-below t,
   call.Post,
-  cases-below t,
-  cases.Post,
-  when-of-below t,
-  when-of.Post,
+  case-below t,
+  case.Post,
+  when-below t,
+  when.Post,
   subquery-below t,
   subquery.Post,
-  parens-below t,
-  parens.Post,
-  brackets-below t,
-  brackets.Post,
-  solid-below t,
-  solid.Post,
-  braces-below t,
-  braces.Post,
-  types-below t,
-  types.Post,
-  tight-below t,
-  tight.Post,
+  paren-below t,
+  paren.Post,
+  bracket-below t,
+  bracket.Post,
+  no-spaces-below t,
+  no-spaces.Post,
+  brace-below t,
+  brace.Post,
+  dtype-below t,
+  dtype.Post,
+  tight-paren-below t,
+  tight-paren.Post,
   alter-below t,
   alter.Post,
-  unions-below t,
-  unions.Post,
+  union-below t,
+  union.Post,
   pass-below t,
   pass.Post,
 ) (node-at t) node.Post
-node-cases-requires t c κs = (omega (arith, c .before .before .before .before .before .before .before .before .pre .0), c .before .before .before .before .before .before .before .before .pre .1 .0)
+node-case-requires t c κs = (omega (arith, c .before .before .before .before .before .before .before .before .pre .0), c .before .before .before .before .before .before .before .before .pre .1 .0)
 
 node-enum-told-16 : (t : ℕ) → node-lts.Need-enum-told-16 (
   is-copied-reads.Asked,
@@ -5542,8 +6057,8 @@ node-enum-told-16 : (t : ℕ) → node-lts.Need-enum-told-16 (
   file.Post,
   queries-below t,
   queries.Post,
-  query-below t,
-  query.Post,
+  sel-stmt-below t,
+  sel-stmt.Post,
   select-below t,
   select.Post,
   simple-below t,
@@ -5552,50 +6067,50 @@ node-enum-told-16 : (t : ℕ) → node-lts.Need-enum-told-16 (
   list-by.Post,
   settings-below t,
   settings.Post,
-  with-of-below t,
-  with-of.Post,
+  with-below t,
+  with.Post,
   join-below t,
   join.Post,
   inline-below t,
   inline.Post,
-  commas-below t,
-  commas.Post,
-  row-below t,
-  row.Post,
+  comma-below t,
+  comma.Post,
+  inl-list-below t,
+  inl-list.Post,
   binary-below t,
   binary.Post,
   unary-below t,
   unary.Post,
   call-below t,
   call.Post,
-  cases-below t,
-  cases.Post,
-  when-of-below t,
-  when-of.Post,
+  case-below t,
+  case.Post,
+  when-below t,
+  when.Post,
   subquery-below t,
   subquery.Post,
-  parens-below t,
-  parens.Post,
-  brackets-below t,
-  brackets.Post,
-  solid-below t,
-  solid.Post,
-  braces-below t,
-  braces.Post,
-  types-below t,
-  types.Post,
-  tight-below t,
-  tight.Post,
+  paren-below t,
+  paren.Post,
+  bracket-below t,
+  bracket.Post,
+  no-spaces-below t,
+  no-spaces.Post,
+  brace-below t,
+  brace.Post,
+  dtype-below t,
+  dtype.Post,
+  tight-paren-below t,
+  tight-paren.Post,
   alter-below t,
   alter.Post,
-  unions-below t,
-  unions.Post,
+  union-below t,
+  union.Post,
   pass-below t,
   pass.Post,
 ) (node-at t) node.Post
 node-enum-told-16 t c = search needs
 
-node-when-of-requires : (t : ℕ) → node-lts.Need-when-of-requires (
+node-when-requires : (t : ℕ) → node-lts.Need-when-requires (
   is-copied-reads.Asked,
   is-copied-reads.Learnt,
   head-at-reads.Asked,
@@ -5610,8 +6125,8 @@ node-when-of-requires : (t : ℕ) → node-lts.Need-when-of-requires (
   file.Post,
   queries-below t,
   queries.Post,
-  query-below t,
-  query.Post,
+  sel-stmt-below t,
+  sel-stmt.Post,
   select-below t,
   select.Post,
   simple-below t,
@@ -5620,48 +6135,48 @@ node-when-of-requires : (t : ℕ) → node-lts.Need-when-of-requires (
   list-by.Post,
   settings-below t,
   settings.Post,
-  with-of-below t,
-  with-of.Post,
+  with-below t,
+  with.Post,
   join-below t,
   join.Post,
   inline-below t,
   inline.Post,
-  commas-below t,
-  commas.Post,
-  row-below t,
-  row.Post,
+  comma-below t,
+  comma.Post,
+  inl-list-below t,
+  inl-list.Post,
   binary-below t,
   binary.Post,
   unary-below t,
   unary.Post,
   call-below t,
   call.Post,
-  cases-below t,
-  cases.Post,
-  when-of-below t,
-  when-of.Post,
+  case-below t,
+  case.Post,
+  when-below t,
+  when.Post,
   subquery-below t,
   subquery.Post,
-  parens-below t,
-  parens.Post,
-  brackets-below t,
-  brackets.Post,
-  solid-below t,
-  solid.Post,
-  braces-below t,
-  braces.Post,
-  types-below t,
-  types.Post,
-  tight-below t,
-  tight.Post,
+  paren-below t,
+  paren.Post,
+  bracket-below t,
+  bracket.Post,
+  no-spaces-below t,
+  no-spaces.Post,
+  brace-below t,
+  brace.Post,
+  dtype-below t,
+  dtype.Post,
+  tight-paren-below t,
+  tight-paren.Post,
   alter-below t,
   alter.Post,
-  unions-below t,
-  unions.Post,
+  union-below t,
+  union.Post,
   pass-below t,
   pass.Post,
 ) (node-at t) node.Post
-node-when-of-requires t c κs = (omega (arith, c .before .before .before .before .before .before .before .before .pre .0), c .before .before .before .before .before .before .before .before .pre .1 .0)
+node-when-requires t c κs = (omega (arith, c .before .before .before .before .before .before .before .before .pre .0), c .before .before .before .before .before .before .before .before .pre .1 .0)
 
 node-enum-told-17 : (t : ℕ) → node-lts.Need-enum-told-17 (
   is-copied-reads.Asked,
@@ -5678,8 +6193,8 @@ node-enum-told-17 : (t : ℕ) → node-lts.Need-enum-told-17 (
   file.Post,
   queries-below t,
   queries.Post,
-  query-below t,
-  query.Post,
+  sel-stmt-below t,
+  sel-stmt.Post,
   select-below t,
   select.Post,
   simple-below t,
@@ -5688,44 +6203,44 @@ node-enum-told-17 : (t : ℕ) → node-lts.Need-enum-told-17 (
   list-by.Post,
   settings-below t,
   settings.Post,
-  with-of-below t,
-  with-of.Post,
+  with-below t,
+  with.Post,
   join-below t,
   join.Post,
   inline-below t,
   inline.Post,
-  commas-below t,
-  commas.Post,
-  row-below t,
-  row.Post,
+  comma-below t,
+  comma.Post,
+  inl-list-below t,
+  inl-list.Post,
   binary-below t,
   binary.Post,
   unary-below t,
   unary.Post,
   call-below t,
   call.Post,
-  cases-below t,
-  cases.Post,
-  when-of-below t,
-  when-of.Post,
+  case-below t,
+  case.Post,
+  when-below t,
+  when.Post,
   subquery-below t,
   subquery.Post,
-  parens-below t,
-  parens.Post,
-  brackets-below t,
-  brackets.Post,
-  solid-below t,
-  solid.Post,
-  braces-below t,
-  braces.Post,
-  types-below t,
-  types.Post,
-  tight-below t,
-  tight.Post,
+  paren-below t,
+  paren.Post,
+  bracket-below t,
+  bracket.Post,
+  no-spaces-below t,
+  no-spaces.Post,
+  brace-below t,
+  brace.Post,
+  dtype-below t,
+  dtype.Post,
+  tight-paren-below t,
+  tight-paren.Post,
   alter-below t,
   alter.Post,
-  unions-below t,
-  unions.Post,
+  union-below t,
+  union.Post,
   pass-below t,
   pass.Post,
 ) (node-at t) node.Post
@@ -5746,8 +6261,8 @@ node-subquery-requires : (t : ℕ) → node-lts.Need-subquery-requires (
   file.Post,
   queries-below t,
   queries.Post,
-  query-below t,
-  query.Post,
+  sel-stmt-below t,
+  sel-stmt.Post,
   select-below t,
   select.Post,
   simple-below t,
@@ -5756,44 +6271,44 @@ node-subquery-requires : (t : ℕ) → node-lts.Need-subquery-requires (
   list-by.Post,
   settings-below t,
   settings.Post,
-  with-of-below t,
-  with-of.Post,
+  with-below t,
+  with.Post,
   join-below t,
   join.Post,
   inline-below t,
   inline.Post,
-  commas-below t,
-  commas.Post,
-  row-below t,
-  row.Post,
+  comma-below t,
+  comma.Post,
+  inl-list-below t,
+  inl-list.Post,
   binary-below t,
   binary.Post,
   unary-below t,
   unary.Post,
   call-below t,
   call.Post,
-  cases-below t,
-  cases.Post,
-  when-of-below t,
-  when-of.Post,
+  case-below t,
+  case.Post,
+  when-below t,
+  when.Post,
   subquery-below t,
   subquery.Post,
-  parens-below t,
-  parens.Post,
-  brackets-below t,
-  brackets.Post,
-  solid-below t,
-  solid.Post,
-  braces-below t,
-  braces.Post,
-  types-below t,
-  types.Post,
-  tight-below t,
-  tight.Post,
+  paren-below t,
+  paren.Post,
+  bracket-below t,
+  bracket.Post,
+  no-spaces-below t,
+  no-spaces.Post,
+  brace-below t,
+  brace.Post,
+  dtype-below t,
+  dtype.Post,
+  tight-paren-below t,
+  tight-paren.Post,
   alter-below t,
   alter.Post,
-  unions-below t,
-  unions.Post,
+  union-below t,
+  union.Post,
   pass-below t,
   pass.Post,
 ) (node-at t) node.Post
@@ -5814,8 +6329,8 @@ node-enum-told-18 : (t : ℕ) → node-lts.Need-enum-told-18 (
   file.Post,
   queries-below t,
   queries.Post,
-  query-below t,
-  query.Post,
+  sel-stmt-below t,
+  sel-stmt.Post,
   select-below t,
   select.Post,
   simple-below t,
@@ -5824,50 +6339,50 @@ node-enum-told-18 : (t : ℕ) → node-lts.Need-enum-told-18 (
   list-by.Post,
   settings-below t,
   settings.Post,
-  with-of-below t,
-  with-of.Post,
+  with-below t,
+  with.Post,
   join-below t,
   join.Post,
   inline-below t,
   inline.Post,
-  commas-below t,
-  commas.Post,
-  row-below t,
-  row.Post,
+  comma-below t,
+  comma.Post,
+  inl-list-below t,
+  inl-list.Post,
   binary-below t,
   binary.Post,
   unary-below t,
   unary.Post,
   call-below t,
   call.Post,
-  cases-below t,
-  cases.Post,
-  when-of-below t,
-  when-of.Post,
+  case-below t,
+  case.Post,
+  when-below t,
+  when.Post,
   subquery-below t,
   subquery.Post,
-  parens-below t,
-  parens.Post,
-  brackets-below t,
-  brackets.Post,
-  solid-below t,
-  solid.Post,
-  braces-below t,
-  braces.Post,
-  types-below t,
-  types.Post,
-  tight-below t,
-  tight.Post,
+  paren-below t,
+  paren.Post,
+  bracket-below t,
+  bracket.Post,
+  no-spaces-below t,
+  no-spaces.Post,
+  brace-below t,
+  brace.Post,
+  dtype-below t,
+  dtype.Post,
+  tight-paren-below t,
+  tight-paren.Post,
   alter-below t,
   alter.Post,
-  unions-below t,
-  unions.Post,
+  union-below t,
+  union.Post,
   pass-below t,
   pass.Post,
 ) (node-at t) node.Post
 node-enum-told-18 t c = search needs
 
-node-parens-requires : (t : ℕ) → node-lts.Need-parens-requires (
+node-paren-requires : (t : ℕ) → node-lts.Need-paren-requires (
   is-copied-reads.Asked,
   is-copied-reads.Learnt,
   head-at-reads.Asked,
@@ -5882,8 +6397,8 @@ node-parens-requires : (t : ℕ) → node-lts.Need-parens-requires (
   file.Post,
   queries-below t,
   queries.Post,
-  query-below t,
-  query.Post,
+  sel-stmt-below t,
+  sel-stmt.Post,
   select-below t,
   select.Post,
   simple-below t,
@@ -5892,48 +6407,48 @@ node-parens-requires : (t : ℕ) → node-lts.Need-parens-requires (
   list-by.Post,
   settings-below t,
   settings.Post,
-  with-of-below t,
-  with-of.Post,
+  with-below t,
+  with.Post,
   join-below t,
   join.Post,
   inline-below t,
   inline.Post,
-  commas-below t,
-  commas.Post,
-  row-below t,
-  row.Post,
+  comma-below t,
+  comma.Post,
+  inl-list-below t,
+  inl-list.Post,
   binary-below t,
   binary.Post,
   unary-below t,
   unary.Post,
   call-below t,
   call.Post,
-  cases-below t,
-  cases.Post,
-  when-of-below t,
-  when-of.Post,
+  case-below t,
+  case.Post,
+  when-below t,
+  when.Post,
   subquery-below t,
   subquery.Post,
-  parens-below t,
-  parens.Post,
-  brackets-below t,
-  brackets.Post,
-  solid-below t,
-  solid.Post,
-  braces-below t,
-  braces.Post,
-  types-below t,
-  types.Post,
-  tight-below t,
-  tight.Post,
+  paren-below t,
+  paren.Post,
+  bracket-below t,
+  bracket.Post,
+  no-spaces-below t,
+  no-spaces.Post,
+  brace-below t,
+  brace.Post,
+  dtype-below t,
+  dtype.Post,
+  tight-paren-below t,
+  tight-paren.Post,
   alter-below t,
   alter.Post,
-  unions-below t,
-  unions.Post,
+  union-below t,
+  union.Post,
   pass-below t,
   pass.Post,
 ) (node-at t) node.Post
-node-parens-requires t c κs = (omega (arith, c .before .before .before .before .before .before .before .before .pre .0), c .before .before .before .before .before .before .before .before .pre .1 .0)
+node-paren-requires t c κs = (omega (arith, c .before .before .before .before .before .before .before .before .pre .0), c .before .before .before .before .before .before .before .before .pre .1 .0)
 
 node-enum-told-19 : (t : ℕ) → node-lts.Need-enum-told-19 (
   is-copied-reads.Asked,
@@ -5950,8 +6465,8 @@ node-enum-told-19 : (t : ℕ) → node-lts.Need-enum-told-19 (
   file.Post,
   queries-below t,
   queries.Post,
-  query-below t,
-  query.Post,
+  sel-stmt-below t,
+  sel-stmt.Post,
   select-below t,
   select.Post,
   simple-below t,
@@ -5960,50 +6475,50 @@ node-enum-told-19 : (t : ℕ) → node-lts.Need-enum-told-19 (
   list-by.Post,
   settings-below t,
   settings.Post,
-  with-of-below t,
-  with-of.Post,
+  with-below t,
+  with.Post,
   join-below t,
   join.Post,
   inline-below t,
   inline.Post,
-  commas-below t,
-  commas.Post,
-  row-below t,
-  row.Post,
+  comma-below t,
+  comma.Post,
+  inl-list-below t,
+  inl-list.Post,
   binary-below t,
   binary.Post,
   unary-below t,
   unary.Post,
   call-below t,
   call.Post,
-  cases-below t,
-  cases.Post,
-  when-of-below t,
-  when-of.Post,
+  case-below t,
+  case.Post,
+  when-below t,
+  when.Post,
   subquery-below t,
   subquery.Post,
-  parens-below t,
-  parens.Post,
-  brackets-below t,
-  brackets.Post,
-  solid-below t,
-  solid.Post,
-  braces-below t,
-  braces.Post,
-  types-below t,
-  types.Post,
-  tight-below t,
-  tight.Post,
+  paren-below t,
+  paren.Post,
+  bracket-below t,
+  bracket.Post,
+  no-spaces-below t,
+  no-spaces.Post,
+  brace-below t,
+  brace.Post,
+  dtype-below t,
+  dtype.Post,
+  tight-paren-below t,
+  tight-paren.Post,
   alter-below t,
   alter.Post,
-  unions-below t,
-  unions.Post,
+  union-below t,
+  union.Post,
   pass-below t,
   pass.Post,
 ) (node-at t) node.Post
 node-enum-told-19 t c = search needs
 
-node-brackets-requires : (t : ℕ) → node-lts.Need-brackets-requires (
+node-bracket-requires : (t : ℕ) → node-lts.Need-bracket-requires (
   is-copied-reads.Asked,
   is-copied-reads.Learnt,
   head-at-reads.Asked,
@@ -6018,8 +6533,8 @@ node-brackets-requires : (t : ℕ) → node-lts.Need-brackets-requires (
   file.Post,
   queries-below t,
   queries.Post,
-  query-below t,
-  query.Post,
+  sel-stmt-below t,
+  sel-stmt.Post,
   select-below t,
   select.Post,
   simple-below t,
@@ -6028,48 +6543,48 @@ node-brackets-requires : (t : ℕ) → node-lts.Need-brackets-requires (
   list-by.Post,
   settings-below t,
   settings.Post,
-  with-of-below t,
-  with-of.Post,
+  with-below t,
+  with.Post,
   join-below t,
   join.Post,
   inline-below t,
   inline.Post,
-  commas-below t,
-  commas.Post,
-  row-below t,
-  row.Post,
+  comma-below t,
+  comma.Post,
+  inl-list-below t,
+  inl-list.Post,
   binary-below t,
   binary.Post,
   unary-below t,
   unary.Post,
   call-below t,
   call.Post,
-  cases-below t,
-  cases.Post,
-  when-of-below t,
-  when-of.Post,
+  case-below t,
+  case.Post,
+  when-below t,
+  when.Post,
   subquery-below t,
   subquery.Post,
-  parens-below t,
-  parens.Post,
-  brackets-below t,
-  brackets.Post,
-  solid-below t,
-  solid.Post,
-  braces-below t,
-  braces.Post,
-  types-below t,
-  types.Post,
-  tight-below t,
-  tight.Post,
+  paren-below t,
+  paren.Post,
+  bracket-below t,
+  bracket.Post,
+  no-spaces-below t,
+  no-spaces.Post,
+  brace-below t,
+  brace.Post,
+  dtype-below t,
+  dtype.Post,
+  tight-paren-below t,
+  tight-paren.Post,
   alter-below t,
   alter.Post,
-  unions-below t,
-  unions.Post,
+  union-below t,
+  union.Post,
   pass-below t,
   pass.Post,
 ) (node-at t) node.Post
-node-brackets-requires t c κs = (omega (arith, c .before .before .before .before .before .before .before .before .pre .0), c .before .before .before .before .before .before .before .before .pre .1 .0)
+node-bracket-requires t c κs = (omega (arith, c .before .before .before .before .before .before .before .before .pre .0), c .before .before .before .before .before .before .before .before .pre .1 .0)
 
 node-enum-told-20 : (t : ℕ) → node-lts.Need-enum-told-20 (
   is-copied-reads.Asked,
@@ -6086,8 +6601,8 @@ node-enum-told-20 : (t : ℕ) → node-lts.Need-enum-told-20 (
   file.Post,
   queries-below t,
   queries.Post,
-  query-below t,
-  query.Post,
+  sel-stmt-below t,
+  sel-stmt.Post,
   select-below t,
   select.Post,
   simple-below t,
@@ -6096,50 +6611,50 @@ node-enum-told-20 : (t : ℕ) → node-lts.Need-enum-told-20 (
   list-by.Post,
   settings-below t,
   settings.Post,
-  with-of-below t,
-  with-of.Post,
+  with-below t,
+  with.Post,
   join-below t,
   join.Post,
   inline-below t,
   inline.Post,
-  commas-below t,
-  commas.Post,
-  row-below t,
-  row.Post,
+  comma-below t,
+  comma.Post,
+  inl-list-below t,
+  inl-list.Post,
   binary-below t,
   binary.Post,
   unary-below t,
   unary.Post,
   call-below t,
   call.Post,
-  cases-below t,
-  cases.Post,
-  when-of-below t,
-  when-of.Post,
+  case-below t,
+  case.Post,
+  when-below t,
+  when.Post,
   subquery-below t,
   subquery.Post,
-  parens-below t,
-  parens.Post,
-  brackets-below t,
-  brackets.Post,
-  solid-below t,
-  solid.Post,
-  braces-below t,
-  braces.Post,
-  types-below t,
-  types.Post,
-  tight-below t,
-  tight.Post,
+  paren-below t,
+  paren.Post,
+  bracket-below t,
+  bracket.Post,
+  no-spaces-below t,
+  no-spaces.Post,
+  brace-below t,
+  brace.Post,
+  dtype-below t,
+  dtype.Post,
+  tight-paren-below t,
+  tight-paren.Post,
   alter-below t,
   alter.Post,
-  unions-below t,
-  unions.Post,
+  union-below t,
+  union.Post,
   pass-below t,
   pass.Post,
 ) (node-at t) node.Post
 node-enum-told-20 t c = search needs
 
-node-solid-requires : (t : ℕ) → node-lts.Need-solid-requires (
+node-no-spaces-requires : (t : ℕ) → node-lts.Need-no-spaces-requires (
   is-copied-reads.Asked,
   is-copied-reads.Learnt,
   head-at-reads.Asked,
@@ -6154,8 +6669,8 @@ node-solid-requires : (t : ℕ) → node-lts.Need-solid-requires (
   file.Post,
   queries-below t,
   queries.Post,
-  query-below t,
-  query.Post,
+  sel-stmt-below t,
+  sel-stmt.Post,
   select-below t,
   select.Post,
   simple-below t,
@@ -6164,48 +6679,48 @@ node-solid-requires : (t : ℕ) → node-lts.Need-solid-requires (
   list-by.Post,
   settings-below t,
   settings.Post,
-  with-of-below t,
-  with-of.Post,
+  with-below t,
+  with.Post,
   join-below t,
   join.Post,
   inline-below t,
   inline.Post,
-  commas-below t,
-  commas.Post,
-  row-below t,
-  row.Post,
+  comma-below t,
+  comma.Post,
+  inl-list-below t,
+  inl-list.Post,
   binary-below t,
   binary.Post,
   unary-below t,
   unary.Post,
   call-below t,
   call.Post,
-  cases-below t,
-  cases.Post,
-  when-of-below t,
-  when-of.Post,
+  case-below t,
+  case.Post,
+  when-below t,
+  when.Post,
   subquery-below t,
   subquery.Post,
-  parens-below t,
-  parens.Post,
-  brackets-below t,
-  brackets.Post,
-  solid-below t,
-  solid.Post,
-  braces-below t,
-  braces.Post,
-  types-below t,
-  types.Post,
-  tight-below t,
-  tight.Post,
+  paren-below t,
+  paren.Post,
+  bracket-below t,
+  bracket.Post,
+  no-spaces-below t,
+  no-spaces.Post,
+  brace-below t,
+  brace.Post,
+  dtype-below t,
+  dtype.Post,
+  tight-paren-below t,
+  tight-paren.Post,
   alter-below t,
   alter.Post,
-  unions-below t,
-  unions.Post,
+  union-below t,
+  union.Post,
   pass-below t,
   pass.Post,
 ) (node-at t) node.Post
-node-solid-requires t c κs = (omega (arith, c .before .before .before .before .before .before .before .before .pre .0), c .before .before .before .before .before .before .before .before .pre .1 .0)
+node-no-spaces-requires t c κs = (omega (arith, c .before .before .before .before .before .before .before .before .pre .0), c .before .before .before .before .before .before .before .before .pre .1 .0)
 
 node-enum-told-21 : (t : ℕ) → node-lts.Need-enum-told-21 (
   is-copied-reads.Asked,
@@ -6222,8 +6737,8 @@ node-enum-told-21 : (t : ℕ) → node-lts.Need-enum-told-21 (
   file.Post,
   queries-below t,
   queries.Post,
-  query-below t,
-  query.Post,
+  sel-stmt-below t,
+  sel-stmt.Post,
   select-below t,
   select.Post,
   simple-below t,
@@ -6232,50 +6747,50 @@ node-enum-told-21 : (t : ℕ) → node-lts.Need-enum-told-21 (
   list-by.Post,
   settings-below t,
   settings.Post,
-  with-of-below t,
-  with-of.Post,
+  with-below t,
+  with.Post,
   join-below t,
   join.Post,
   inline-below t,
   inline.Post,
-  commas-below t,
-  commas.Post,
-  row-below t,
-  row.Post,
+  comma-below t,
+  comma.Post,
+  inl-list-below t,
+  inl-list.Post,
   binary-below t,
   binary.Post,
   unary-below t,
   unary.Post,
   call-below t,
   call.Post,
-  cases-below t,
-  cases.Post,
-  when-of-below t,
-  when-of.Post,
+  case-below t,
+  case.Post,
+  when-below t,
+  when.Post,
   subquery-below t,
   subquery.Post,
-  parens-below t,
-  parens.Post,
-  brackets-below t,
-  brackets.Post,
-  solid-below t,
-  solid.Post,
-  braces-below t,
-  braces.Post,
-  types-below t,
-  types.Post,
-  tight-below t,
-  tight.Post,
+  paren-below t,
+  paren.Post,
+  bracket-below t,
+  bracket.Post,
+  no-spaces-below t,
+  no-spaces.Post,
+  brace-below t,
+  brace.Post,
+  dtype-below t,
+  dtype.Post,
+  tight-paren-below t,
+  tight-paren.Post,
   alter-below t,
   alter.Post,
-  unions-below t,
-  unions.Post,
+  union-below t,
+  union.Post,
   pass-below t,
   pass.Post,
 ) (node-at t) node.Post
 node-enum-told-21 t c = search needs
 
-node-braces-requires : (t : ℕ) → node-lts.Need-braces-requires (
+node-brace-requires : (t : ℕ) → node-lts.Need-brace-requires (
   is-copied-reads.Asked,
   is-copied-reads.Learnt,
   head-at-reads.Asked,
@@ -6290,8 +6805,8 @@ node-braces-requires : (t : ℕ) → node-lts.Need-braces-requires (
   file.Post,
   queries-below t,
   queries.Post,
-  query-below t,
-  query.Post,
+  sel-stmt-below t,
+  sel-stmt.Post,
   select-below t,
   select.Post,
   simple-below t,
@@ -6300,48 +6815,48 @@ node-braces-requires : (t : ℕ) → node-lts.Need-braces-requires (
   list-by.Post,
   settings-below t,
   settings.Post,
-  with-of-below t,
-  with-of.Post,
+  with-below t,
+  with.Post,
   join-below t,
   join.Post,
   inline-below t,
   inline.Post,
-  commas-below t,
-  commas.Post,
-  row-below t,
-  row.Post,
+  comma-below t,
+  comma.Post,
+  inl-list-below t,
+  inl-list.Post,
   binary-below t,
   binary.Post,
   unary-below t,
   unary.Post,
   call-below t,
   call.Post,
-  cases-below t,
-  cases.Post,
-  when-of-below t,
-  when-of.Post,
+  case-below t,
+  case.Post,
+  when-below t,
+  when.Post,
   subquery-below t,
   subquery.Post,
-  parens-below t,
-  parens.Post,
-  brackets-below t,
-  brackets.Post,
-  solid-below t,
-  solid.Post,
-  braces-below t,
-  braces.Post,
-  types-below t,
-  types.Post,
-  tight-below t,
-  tight.Post,
+  paren-below t,
+  paren.Post,
+  bracket-below t,
+  bracket.Post,
+  no-spaces-below t,
+  no-spaces.Post,
+  brace-below t,
+  brace.Post,
+  dtype-below t,
+  dtype.Post,
+  tight-paren-below t,
+  tight-paren.Post,
   alter-below t,
   alter.Post,
-  unions-below t,
-  unions.Post,
+  union-below t,
+  union.Post,
   pass-below t,
   pass.Post,
 ) (node-at t) node.Post
-node-braces-requires t c κs = (omega (arith, c .before .before .before .before .before .before .before .before .pre .0), c .before .before .before .before .before .before .before .before .pre .1 .0)
+node-brace-requires t c κs = (omega (arith, c .before .before .before .before .before .before .before .before .pre .0), c .before .before .before .before .before .before .before .before .pre .1 .0)
 
 node-enum-told-22 : (t : ℕ) → node-lts.Need-enum-told-22 (
   is-copied-reads.Asked,
@@ -6358,8 +6873,8 @@ node-enum-told-22 : (t : ℕ) → node-lts.Need-enum-told-22 (
   file.Post,
   queries-below t,
   queries.Post,
-  query-below t,
-  query.Post,
+  sel-stmt-below t,
+  sel-stmt.Post,
   select-below t,
   select.Post,
   simple-below t,
@@ -6368,50 +6883,50 @@ node-enum-told-22 : (t : ℕ) → node-lts.Need-enum-told-22 (
   list-by.Post,
   settings-below t,
   settings.Post,
-  with-of-below t,
-  with-of.Post,
+  with-below t,
+  with.Post,
   join-below t,
   join.Post,
   inline-below t,
   inline.Post,
-  commas-below t,
-  commas.Post,
-  row-below t,
-  row.Post,
+  comma-below t,
+  comma.Post,
+  inl-list-below t,
+  inl-list.Post,
   binary-below t,
   binary.Post,
   unary-below t,
   unary.Post,
   call-below t,
   call.Post,
-  cases-below t,
-  cases.Post,
-  when-of-below t,
-  when-of.Post,
+  case-below t,
+  case.Post,
+  when-below t,
+  when.Post,
   subquery-below t,
   subquery.Post,
-  parens-below t,
-  parens.Post,
-  brackets-below t,
-  brackets.Post,
-  solid-below t,
-  solid.Post,
-  braces-below t,
-  braces.Post,
-  types-below t,
-  types.Post,
-  tight-below t,
-  tight.Post,
+  paren-below t,
+  paren.Post,
+  bracket-below t,
+  bracket.Post,
+  no-spaces-below t,
+  no-spaces.Post,
+  brace-below t,
+  brace.Post,
+  dtype-below t,
+  dtype.Post,
+  tight-paren-below t,
+  tight-paren.Post,
   alter-below t,
   alter.Post,
-  unions-below t,
-  unions.Post,
+  union-below t,
+  union.Post,
   pass-below t,
   pass.Post,
 ) (node-at t) node.Post
 node-enum-told-22 t c = search needs
 
-node-types-requires : (t : ℕ) → node-lts.Need-types-requires (
+node-dtype-requires : (t : ℕ) → node-lts.Need-dtype-requires (
   is-copied-reads.Asked,
   is-copied-reads.Learnt,
   head-at-reads.Asked,
@@ -6426,8 +6941,8 @@ node-types-requires : (t : ℕ) → node-lts.Need-types-requires (
   file.Post,
   queries-below t,
   queries.Post,
-  query-below t,
-  query.Post,
+  sel-stmt-below t,
+  sel-stmt.Post,
   select-below t,
   select.Post,
   simple-below t,
@@ -6436,48 +6951,48 @@ node-types-requires : (t : ℕ) → node-lts.Need-types-requires (
   list-by.Post,
   settings-below t,
   settings.Post,
-  with-of-below t,
-  with-of.Post,
+  with-below t,
+  with.Post,
   join-below t,
   join.Post,
   inline-below t,
   inline.Post,
-  commas-below t,
-  commas.Post,
-  row-below t,
-  row.Post,
+  comma-below t,
+  comma.Post,
+  inl-list-below t,
+  inl-list.Post,
   binary-below t,
   binary.Post,
   unary-below t,
   unary.Post,
   call-below t,
   call.Post,
-  cases-below t,
-  cases.Post,
-  when-of-below t,
-  when-of.Post,
+  case-below t,
+  case.Post,
+  when-below t,
+  when.Post,
   subquery-below t,
   subquery.Post,
-  parens-below t,
-  parens.Post,
-  brackets-below t,
-  brackets.Post,
-  solid-below t,
-  solid.Post,
-  braces-below t,
-  braces.Post,
-  types-below t,
-  types.Post,
-  tight-below t,
-  tight.Post,
+  paren-below t,
+  paren.Post,
+  bracket-below t,
+  bracket.Post,
+  no-spaces-below t,
+  no-spaces.Post,
+  brace-below t,
+  brace.Post,
+  dtype-below t,
+  dtype.Post,
+  tight-paren-below t,
+  tight-paren.Post,
   alter-below t,
   alter.Post,
-  unions-below t,
-  unions.Post,
+  union-below t,
+  union.Post,
   pass-below t,
   pass.Post,
 ) (node-at t) node.Post
-node-types-requires t c κs = (omega (arith, c .before .before .before .before .before .before .before .before .pre .0), c .before .before .before .before .before .before .before .before .pre .1 .0)
+node-dtype-requires t c κs = (omega (arith, c .before .before .before .before .before .before .before .before .pre .0), c .before .before .before .before .before .before .before .before .pre .1 .0)
 
 node-enum-told-23 : (t : ℕ) → node-lts.Need-enum-told-23 (
   is-copied-reads.Asked,
@@ -6494,8 +7009,8 @@ node-enum-told-23 : (t : ℕ) → node-lts.Need-enum-told-23 (
   file.Post,
   queries-below t,
   queries.Post,
-  query-below t,
-  query.Post,
+  sel-stmt-below t,
+  sel-stmt.Post,
   select-below t,
   select.Post,
   simple-below t,
@@ -6504,50 +7019,50 @@ node-enum-told-23 : (t : ℕ) → node-lts.Need-enum-told-23 (
   list-by.Post,
   settings-below t,
   settings.Post,
-  with-of-below t,
-  with-of.Post,
+  with-below t,
+  with.Post,
   join-below t,
   join.Post,
   inline-below t,
   inline.Post,
-  commas-below t,
-  commas.Post,
-  row-below t,
-  row.Post,
+  comma-below t,
+  comma.Post,
+  inl-list-below t,
+  inl-list.Post,
   binary-below t,
   binary.Post,
   unary-below t,
   unary.Post,
   call-below t,
   call.Post,
-  cases-below t,
-  cases.Post,
-  when-of-below t,
-  when-of.Post,
+  case-below t,
+  case.Post,
+  when-below t,
+  when.Post,
   subquery-below t,
   subquery.Post,
-  parens-below t,
-  parens.Post,
-  brackets-below t,
-  brackets.Post,
-  solid-below t,
-  solid.Post,
-  braces-below t,
-  braces.Post,
-  types-below t,
-  types.Post,
-  tight-below t,
-  tight.Post,
+  paren-below t,
+  paren.Post,
+  bracket-below t,
+  bracket.Post,
+  no-spaces-below t,
+  no-spaces.Post,
+  brace-below t,
+  brace.Post,
+  dtype-below t,
+  dtype.Post,
+  tight-paren-below t,
+  tight-paren.Post,
   alter-below t,
   alter.Post,
-  unions-below t,
-  unions.Post,
+  union-below t,
+  union.Post,
   pass-below t,
   pass.Post,
 ) (node-at t) node.Post
 node-enum-told-23 t c = search needs
 
-node-tight-requires : (t : ℕ) → node-lts.Need-tight-requires (
+node-tight-paren-requires : (t : ℕ) → node-lts.Need-tight-paren-requires (
   is-copied-reads.Asked,
   is-copied-reads.Learnt,
   head-at-reads.Asked,
@@ -6562,8 +7077,8 @@ node-tight-requires : (t : ℕ) → node-lts.Need-tight-requires (
   file.Post,
   queries-below t,
   queries.Post,
-  query-below t,
-  query.Post,
+  sel-stmt-below t,
+  sel-stmt.Post,
   select-below t,
   select.Post,
   simple-below t,
@@ -6572,48 +7087,48 @@ node-tight-requires : (t : ℕ) → node-lts.Need-tight-requires (
   list-by.Post,
   settings-below t,
   settings.Post,
-  with-of-below t,
-  with-of.Post,
+  with-below t,
+  with.Post,
   join-below t,
   join.Post,
   inline-below t,
   inline.Post,
-  commas-below t,
-  commas.Post,
-  row-below t,
-  row.Post,
+  comma-below t,
+  comma.Post,
+  inl-list-below t,
+  inl-list.Post,
   binary-below t,
   binary.Post,
   unary-below t,
   unary.Post,
   call-below t,
   call.Post,
-  cases-below t,
-  cases.Post,
-  when-of-below t,
-  when-of.Post,
+  case-below t,
+  case.Post,
+  when-below t,
+  when.Post,
   subquery-below t,
   subquery.Post,
-  parens-below t,
-  parens.Post,
-  brackets-below t,
-  brackets.Post,
-  solid-below t,
-  solid.Post,
-  braces-below t,
-  braces.Post,
-  types-below t,
-  types.Post,
-  tight-below t,
-  tight.Post,
+  paren-below t,
+  paren.Post,
+  bracket-below t,
+  bracket.Post,
+  no-spaces-below t,
+  no-spaces.Post,
+  brace-below t,
+  brace.Post,
+  dtype-below t,
+  dtype.Post,
+  tight-paren-below t,
+  tight-paren.Post,
   alter-below t,
   alter.Post,
-  unions-below t,
-  unions.Post,
+  union-below t,
+  union.Post,
   pass-below t,
   pass.Post,
 ) (node-at t) node.Post
-node-tight-requires t c κs = (omega (arith, c .before .before .before .before .before .before .before .before .pre .0), c .before .before .before .before .before .before .before .before .pre .1 .0)
+node-tight-paren-requires t c κs = (omega (arith, c .before .before .before .before .before .before .before .before .pre .0), c .before .before .before .before .before .before .before .before .pre .1 .0)
 
 node-enum-told-24 : (t : ℕ) → node-lts.Need-enum-told-24 (
   is-copied-reads.Asked,
@@ -6630,8 +7145,8 @@ node-enum-told-24 : (t : ℕ) → node-lts.Need-enum-told-24 (
   file.Post,
   queries-below t,
   queries.Post,
-  query-below t,
-  query.Post,
+  sel-stmt-below t,
+  sel-stmt.Post,
   select-below t,
   select.Post,
   simple-below t,
@@ -6640,44 +7155,44 @@ node-enum-told-24 : (t : ℕ) → node-lts.Need-enum-told-24 (
   list-by.Post,
   settings-below t,
   settings.Post,
-  with-of-below t,
-  with-of.Post,
+  with-below t,
+  with.Post,
   join-below t,
   join.Post,
   inline-below t,
   inline.Post,
-  commas-below t,
-  commas.Post,
-  row-below t,
-  row.Post,
+  comma-below t,
+  comma.Post,
+  inl-list-below t,
+  inl-list.Post,
   binary-below t,
   binary.Post,
   unary-below t,
   unary.Post,
   call-below t,
   call.Post,
-  cases-below t,
-  cases.Post,
-  when-of-below t,
-  when-of.Post,
+  case-below t,
+  case.Post,
+  when-below t,
+  when.Post,
   subquery-below t,
   subquery.Post,
-  parens-below t,
-  parens.Post,
-  brackets-below t,
-  brackets.Post,
-  solid-below t,
-  solid.Post,
-  braces-below t,
-  braces.Post,
-  types-below t,
-  types.Post,
-  tight-below t,
-  tight.Post,
+  paren-below t,
+  paren.Post,
+  bracket-below t,
+  bracket.Post,
+  no-spaces-below t,
+  no-spaces.Post,
+  brace-below t,
+  brace.Post,
+  dtype-below t,
+  dtype.Post,
+  tight-paren-below t,
+  tight-paren.Post,
   alter-below t,
   alter.Post,
-  unions-below t,
-  unions.Post,
+  union-below t,
+  union.Post,
   pass-below t,
   pass.Post,
 ) (node-at t) node.Post
@@ -6698,8 +7213,8 @@ node-alter-requires : (t : ℕ) → node-lts.Need-alter-requires (
   file.Post,
   queries-below t,
   queries.Post,
-  query-below t,
-  query.Post,
+  sel-stmt-below t,
+  sel-stmt.Post,
   select-below t,
   select.Post,
   simple-below t,
@@ -6708,44 +7223,44 @@ node-alter-requires : (t : ℕ) → node-lts.Need-alter-requires (
   list-by.Post,
   settings-below t,
   settings.Post,
-  with-of-below t,
-  with-of.Post,
+  with-below t,
+  with.Post,
   join-below t,
   join.Post,
   inline-below t,
   inline.Post,
-  commas-below t,
-  commas.Post,
-  row-below t,
-  row.Post,
+  comma-below t,
+  comma.Post,
+  inl-list-below t,
+  inl-list.Post,
   binary-below t,
   binary.Post,
   unary-below t,
   unary.Post,
   call-below t,
   call.Post,
-  cases-below t,
-  cases.Post,
-  when-of-below t,
-  when-of.Post,
+  case-below t,
+  case.Post,
+  when-below t,
+  when.Post,
   subquery-below t,
   subquery.Post,
-  parens-below t,
-  parens.Post,
-  brackets-below t,
-  brackets.Post,
-  solid-below t,
-  solid.Post,
-  braces-below t,
-  braces.Post,
-  types-below t,
-  types.Post,
-  tight-below t,
-  tight.Post,
+  paren-below t,
+  paren.Post,
+  bracket-below t,
+  bracket.Post,
+  no-spaces-below t,
+  no-spaces.Post,
+  brace-below t,
+  brace.Post,
+  dtype-below t,
+  dtype.Post,
+  tight-paren-below t,
+  tight-paren.Post,
   alter-below t,
   alter.Post,
-  unions-below t,
-  unions.Post,
+  union-below t,
+  union.Post,
   pass-below t,
   pass.Post,
 ) (node-at t) node.Post
@@ -6766,8 +7281,8 @@ node-enum-told-25 : (t : ℕ) → node-lts.Need-enum-told-25 (
   file.Post,
   queries-below t,
   queries.Post,
-  query-below t,
-  query.Post,
+  sel-stmt-below t,
+  sel-stmt.Post,
   select-below t,
   select.Post,
   simple-below t,
@@ -6776,50 +7291,50 @@ node-enum-told-25 : (t : ℕ) → node-lts.Need-enum-told-25 (
   list-by.Post,
   settings-below t,
   settings.Post,
-  with-of-below t,
-  with-of.Post,
+  with-below t,
+  with.Post,
   join-below t,
   join.Post,
   inline-below t,
   inline.Post,
-  commas-below t,
-  commas.Post,
-  row-below t,
-  row.Post,
+  comma-below t,
+  comma.Post,
+  inl-list-below t,
+  inl-list.Post,
   binary-below t,
   binary.Post,
   unary-below t,
   unary.Post,
   call-below t,
   call.Post,
-  cases-below t,
-  cases.Post,
-  when-of-below t,
-  when-of.Post,
+  case-below t,
+  case.Post,
+  when-below t,
+  when.Post,
   subquery-below t,
   subquery.Post,
-  parens-below t,
-  parens.Post,
-  brackets-below t,
-  brackets.Post,
-  solid-below t,
-  solid.Post,
-  braces-below t,
-  braces.Post,
-  types-below t,
-  types.Post,
-  tight-below t,
-  tight.Post,
+  paren-below t,
+  paren.Post,
+  bracket-below t,
+  bracket.Post,
+  no-spaces-below t,
+  no-spaces.Post,
+  brace-below t,
+  brace.Post,
+  dtype-below t,
+  dtype.Post,
+  tight-paren-below t,
+  tight-paren.Post,
   alter-below t,
   alter.Post,
-  unions-below t,
-  unions.Post,
+  union-below t,
+  union.Post,
   pass-below t,
   pass.Post,
 ) (node-at t) node.Post
 node-enum-told-25 t c = search needs
 
-node-unions-requires : (t : ℕ) → node-lts.Need-unions-requires (
+node-union-requires : (t : ℕ) → node-lts.Need-union-requires (
   is-copied-reads.Asked,
   is-copied-reads.Learnt,
   head-at-reads.Asked,
@@ -6834,8 +7349,8 @@ node-unions-requires : (t : ℕ) → node-lts.Need-unions-requires (
   file.Post,
   queries-below t,
   queries.Post,
-  query-below t,
-  query.Post,
+  sel-stmt-below t,
+  sel-stmt.Post,
   select-below t,
   select.Post,
   simple-below t,
@@ -6844,48 +7359,48 @@ node-unions-requires : (t : ℕ) → node-lts.Need-unions-requires (
   list-by.Post,
   settings-below t,
   settings.Post,
-  with-of-below t,
-  with-of.Post,
+  with-below t,
+  with.Post,
   join-below t,
   join.Post,
   inline-below t,
   inline.Post,
-  commas-below t,
-  commas.Post,
-  row-below t,
-  row.Post,
+  comma-below t,
+  comma.Post,
+  inl-list-below t,
+  inl-list.Post,
   binary-below t,
   binary.Post,
   unary-below t,
   unary.Post,
   call-below t,
   call.Post,
-  cases-below t,
-  cases.Post,
-  when-of-below t,
-  when-of.Post,
+  case-below t,
+  case.Post,
+  when-below t,
+  when.Post,
   subquery-below t,
   subquery.Post,
-  parens-below t,
-  parens.Post,
-  brackets-below t,
-  brackets.Post,
-  solid-below t,
-  solid.Post,
-  braces-below t,
-  braces.Post,
-  types-below t,
-  types.Post,
-  tight-below t,
-  tight.Post,
+  paren-below t,
+  paren.Post,
+  bracket-below t,
+  bracket.Post,
+  no-spaces-below t,
+  no-spaces.Post,
+  brace-below t,
+  brace.Post,
+  dtype-below t,
+  dtype.Post,
+  tight-paren-below t,
+  tight-paren.Post,
   alter-below t,
   alter.Post,
-  unions-below t,
-  unions.Post,
+  union-below t,
+  union.Post,
   pass-below t,
   pass.Post,
 ) (node-at t) node.Post
-node-unions-requires t c κs = (omega (arith, c .before .before .before .before .before .before .before .before .pre .0), c .before .before .before .before .before .before .before .before .pre .1 .0)
+node-union-requires t c κs = (omega (arith, c .before .before .before .before .before .before .before .before .pre .0), c .before .before .before .before .before .before .before .before .pre .1 .0)
 
 node-enum-told-26 : (t : ℕ) → node-lts.Need-enum-told-26 (
   is-copied-reads.Asked,
@@ -6902,8 +7417,8 @@ node-enum-told-26 : (t : ℕ) → node-lts.Need-enum-told-26 (
   file.Post,
   queries-below t,
   queries.Post,
-  query-below t,
-  query.Post,
+  sel-stmt-below t,
+  sel-stmt.Post,
   select-below t,
   select.Post,
   simple-below t,
@@ -6912,44 +7427,44 @@ node-enum-told-26 : (t : ℕ) → node-lts.Need-enum-told-26 (
   list-by.Post,
   settings-below t,
   settings.Post,
-  with-of-below t,
-  with-of.Post,
+  with-below t,
+  with.Post,
   join-below t,
   join.Post,
   inline-below t,
   inline.Post,
-  commas-below t,
-  commas.Post,
-  row-below t,
-  row.Post,
+  comma-below t,
+  comma.Post,
+  inl-list-below t,
+  inl-list.Post,
   binary-below t,
   binary.Post,
   unary-below t,
   unary.Post,
   call-below t,
   call.Post,
-  cases-below t,
-  cases.Post,
-  when-of-below t,
-  when-of.Post,
+  case-below t,
+  case.Post,
+  when-below t,
+  when.Post,
   subquery-below t,
   subquery.Post,
-  parens-below t,
-  parens.Post,
-  brackets-below t,
-  brackets.Post,
-  solid-below t,
-  solid.Post,
-  braces-below t,
-  braces.Post,
-  types-below t,
-  types.Post,
-  tight-below t,
-  tight.Post,
+  paren-below t,
+  paren.Post,
+  bracket-below t,
+  bracket.Post,
+  no-spaces-below t,
+  no-spaces.Post,
+  brace-below t,
+  brace.Post,
+  dtype-below t,
+  dtype.Post,
+  tight-paren-below t,
+  tight-paren.Post,
   alter-below t,
   alter.Post,
-  unions-below t,
-  unions.Post,
+  union-below t,
+  union.Post,
   pass-below t,
   pass.Post,
 ) (node-at t) node.Post
@@ -6970,8 +7485,8 @@ node-pass-requires : (t : ℕ) → node-lts.Need-pass-requires (
   file.Post,
   queries-below t,
   queries.Post,
-  query-below t,
-  query.Post,
+  sel-stmt-below t,
+  sel-stmt.Post,
   select-below t,
   select.Post,
   simple-below t,
@@ -6980,44 +7495,44 @@ node-pass-requires : (t : ℕ) → node-lts.Need-pass-requires (
   list-by.Post,
   settings-below t,
   settings.Post,
-  with-of-below t,
-  with-of.Post,
+  with-below t,
+  with.Post,
   join-below t,
   join.Post,
   inline-below t,
   inline.Post,
-  commas-below t,
-  commas.Post,
-  row-below t,
-  row.Post,
+  comma-below t,
+  comma.Post,
+  inl-list-below t,
+  inl-list.Post,
   binary-below t,
   binary.Post,
   unary-below t,
   unary.Post,
   call-below t,
   call.Post,
-  cases-below t,
-  cases.Post,
-  when-of-below t,
-  when-of.Post,
+  case-below t,
+  case.Post,
+  when-below t,
+  when.Post,
   subquery-below t,
   subquery.Post,
-  parens-below t,
-  parens.Post,
-  brackets-below t,
-  brackets.Post,
-  solid-below t,
-  solid.Post,
-  braces-below t,
-  braces.Post,
-  types-below t,
-  types.Post,
-  tight-below t,
-  tight.Post,
+  paren-below t,
+  paren.Post,
+  bracket-below t,
+  bracket.Post,
+  no-spaces-below t,
+  no-spaces.Post,
+  brace-below t,
+  brace.Post,
+  dtype-below t,
+  dtype.Post,
+  tight-paren-below t,
+  tight-paren.Post,
   alter-below t,
   alter.Post,
-  unions-below t,
-  unions.Post,
+  union-below t,
+  union.Post,
   pass-below t,
   pass.Post,
 ) (node-at t) node.Post
@@ -7038,8 +7553,8 @@ node-same-length-2 : (t : ℕ) → node-lts.Need-same-length-2 (
   file.Post,
   queries-below t,
   queries.Post,
-  query-below t,
-  query.Post,
+  sel-stmt-below t,
+  sel-stmt.Post,
   select-below t,
   select.Post,
   simple-below t,
@@ -7048,44 +7563,44 @@ node-same-length-2 : (t : ℕ) → node-lts.Need-same-length-2 (
   list-by.Post,
   settings-below t,
   settings.Post,
-  with-of-below t,
-  with-of.Post,
+  with-below t,
+  with.Post,
   join-below t,
   join.Post,
   inline-below t,
   inline.Post,
-  commas-below t,
-  commas.Post,
-  row-below t,
-  row.Post,
+  comma-below t,
+  comma.Post,
+  inl-list-below t,
+  inl-list.Post,
   binary-below t,
   binary.Post,
   unary-below t,
   unary.Post,
   call-below t,
   call.Post,
-  cases-below t,
-  cases.Post,
-  when-of-below t,
-  when-of.Post,
+  case-below t,
+  case.Post,
+  when-below t,
+  when.Post,
   subquery-below t,
   subquery.Post,
-  parens-below t,
-  parens.Post,
-  brackets-below t,
-  brackets.Post,
-  solid-below t,
-  solid.Post,
-  braces-below t,
-  braces.Post,
-  types-below t,
-  types.Post,
-  tight-below t,
-  tight.Post,
+  paren-below t,
+  paren.Post,
+  bracket-below t,
+  bracket.Post,
+  no-spaces-below t,
+  no-spaces.Post,
+  brace-below t,
+  brace.Post,
+  dtype-below t,
+  dtype.Post,
+  tight-paren-below t,
+  tight-paren.Post,
   alter-below t,
   alter.Post,
-  unions-below t,
-  unions.Post,
+  union-below t,
+  union.Post,
   pass-below t,
   pass.Post,
 ) (node-at t) node.Post
@@ -7106,8 +7621,8 @@ node-returns-2 : (t : ℕ) → node-lts.Need-returns-2 (
   file.Post,
   queries-below t,
   queries.Post,
-  query-below t,
-  query.Post,
+  sel-stmt-below t,
+  sel-stmt.Post,
   select-below t,
   select.Post,
   simple-below t,
@@ -7116,44 +7631,44 @@ node-returns-2 : (t : ℕ) → node-lts.Need-returns-2 (
   list-by.Post,
   settings-below t,
   settings.Post,
-  with-of-below t,
-  with-of.Post,
+  with-below t,
+  with.Post,
   join-below t,
   join.Post,
   inline-below t,
   inline.Post,
-  commas-below t,
-  commas.Post,
-  row-below t,
-  row.Post,
+  comma-below t,
+  comma.Post,
+  inl-list-below t,
+  inl-list.Post,
   binary-below t,
   binary.Post,
   unary-below t,
   unary.Post,
   call-below t,
   call.Post,
-  cases-below t,
-  cases.Post,
-  when-of-below t,
-  when-of.Post,
+  case-below t,
+  case.Post,
+  when-below t,
+  when.Post,
   subquery-below t,
   subquery.Post,
-  parens-below t,
-  parens.Post,
-  brackets-below t,
-  brackets.Post,
-  solid-below t,
-  solid.Post,
-  braces-below t,
-  braces.Post,
-  types-below t,
-  types.Post,
-  tight-below t,
-  tight.Post,
+  paren-below t,
+  paren.Post,
+  bracket-below t,
+  bracket.Post,
+  no-spaces-below t,
+  no-spaces.Post,
+  brace-below t,
+  brace.Post,
+  dtype-below t,
+  dtype.Post,
+  tight-paren-below t,
+  tight-paren.Post,
   alter-below t,
   alter.Post,
-  unions-below t,
-  unions.Post,
+  union-below t,
+  union.Post,
   pass-below t,
   pass.Post,
 ) (node-at t) node.Post
@@ -7175,8 +7690,8 @@ node-same-length-3 : (t : ℕ) → node-lts.Need-same-length-3 (
   file.Post,
   queries-below t,
   queries.Post,
-  query-below t,
-  query.Post,
+  sel-stmt-below t,
+  sel-stmt.Post,
   select-below t,
   select.Post,
   simple-below t,
@@ -7185,44 +7700,44 @@ node-same-length-3 : (t : ℕ) → node-lts.Need-same-length-3 (
   list-by.Post,
   settings-below t,
   settings.Post,
-  with-of-below t,
-  with-of.Post,
+  with-below t,
+  with.Post,
   join-below t,
   join.Post,
   inline-below t,
   inline.Post,
-  commas-below t,
-  commas.Post,
-  row-below t,
-  row.Post,
+  comma-below t,
+  comma.Post,
+  inl-list-below t,
+  inl-list.Post,
   binary-below t,
   binary.Post,
   unary-below t,
   unary.Post,
   call-below t,
   call.Post,
-  cases-below t,
-  cases.Post,
-  when-of-below t,
-  when-of.Post,
+  case-below t,
+  case.Post,
+  when-below t,
+  when.Post,
   subquery-below t,
   subquery.Post,
-  parens-below t,
-  parens.Post,
-  brackets-below t,
-  brackets.Post,
-  solid-below t,
-  solid.Post,
-  braces-below t,
-  braces.Post,
-  types-below t,
-  types.Post,
-  tight-below t,
-  tight.Post,
+  paren-below t,
+  paren.Post,
+  bracket-below t,
+  bracket.Post,
+  no-spaces-below t,
+  no-spaces.Post,
+  brace-below t,
+  brace.Post,
+  dtype-below t,
+  dtype.Post,
+  tight-paren-below t,
+  tight-paren.Post,
   alter-below t,
   alter.Post,
-  unions-below t,
-  unions.Post,
+  union-below t,
+  union.Post,
   pass-below t,
   pass.Post,
 ) (node-at t) node.Post
@@ -7243,8 +7758,8 @@ node-returns-3 : (t : ℕ) → node-lts.Need-returns-3 (
   file.Post,
   queries-below t,
   queries.Post,
-  query-below t,
-  query.Post,
+  sel-stmt-below t,
+  sel-stmt.Post,
   select-below t,
   select.Post,
   simple-below t,
@@ -7253,44 +7768,44 @@ node-returns-3 : (t : ℕ) → node-lts.Need-returns-3 (
   list-by.Post,
   settings-below t,
   settings.Post,
-  with-of-below t,
-  with-of.Post,
+  with-below t,
+  with.Post,
   join-below t,
   join.Post,
   inline-below t,
   inline.Post,
-  commas-below t,
-  commas.Post,
-  row-below t,
-  row.Post,
+  comma-below t,
+  comma.Post,
+  inl-list-below t,
+  inl-list.Post,
   binary-below t,
   binary.Post,
   unary-below t,
   unary.Post,
   call-below t,
   call.Post,
-  cases-below t,
-  cases.Post,
-  when-of-below t,
-  when-of.Post,
+  case-below t,
+  case.Post,
+  when-below t,
+  when.Post,
   subquery-below t,
   subquery.Post,
-  parens-below t,
-  parens.Post,
-  brackets-below t,
-  brackets.Post,
-  solid-below t,
-  solid.Post,
-  braces-below t,
-  braces.Post,
-  types-below t,
-  types.Post,
-  tight-below t,
-  tight.Post,
+  paren-below t,
+  paren.Post,
+  bracket-below t,
+  bracket.Post,
+  no-spaces-below t,
+  no-spaces.Post,
+  brace-below t,
+  brace.Post,
+  dtype-below t,
+  dtype.Post,
+  tight-paren-below t,
+  tight-paren.Post,
   alter-below t,
   alter.Post,
-  unions-below t,
-  unions.Post,
+  union-below t,
+  union.Post,
   pass-below t,
   pass.Post,
 ) (node-at t) node.Post
@@ -7312,8 +7827,8 @@ node-same-length-4 : (t : ℕ) → node-lts.Need-same-length-4 (
   file.Post,
   queries-below t,
   queries.Post,
-  query-below t,
-  query.Post,
+  sel-stmt-below t,
+  sel-stmt.Post,
   select-below t,
   select.Post,
   simple-below t,
@@ -7322,48 +7837,48 @@ node-same-length-4 : (t : ℕ) → node-lts.Need-same-length-4 (
   list-by.Post,
   settings-below t,
   settings.Post,
-  with-of-below t,
-  with-of.Post,
+  with-below t,
+  with.Post,
   join-below t,
   join.Post,
   inline-below t,
   inline.Post,
-  commas-below t,
-  commas.Post,
-  row-below t,
-  row.Post,
+  comma-below t,
+  comma.Post,
+  inl-list-below t,
+  inl-list.Post,
   binary-below t,
   binary.Post,
   unary-below t,
   unary.Post,
   call-below t,
   call.Post,
-  cases-below t,
-  cases.Post,
-  when-of-below t,
-  when-of.Post,
+  case-below t,
+  case.Post,
+  when-below t,
+  when.Post,
   subquery-below t,
   subquery.Post,
-  parens-below t,
-  parens.Post,
-  brackets-below t,
-  brackets.Post,
-  solid-below t,
-  solid.Post,
-  braces-below t,
-  braces.Post,
-  types-below t,
-  types.Post,
-  tight-below t,
-  tight.Post,
+  paren-below t,
+  paren.Post,
+  bracket-below t,
+  bracket.Post,
+  no-spaces-below t,
+  no-spaces.Post,
+  brace-below t,
+  brace.Post,
+  dtype-below t,
+  dtype.Post,
+  tight-paren-below t,
+  tight-paren.Post,
   alter-below t,
   alter.Post,
-  unions-below t,
-  unions.Post,
+  union-below t,
+  union.Post,
   pass-below t,
   pass.Post,
 ) (node-at t) node.Post
-node-same-length-4 t c = c .before .before .query .kept .1 .1 .1 .1 .0
+node-same-length-4 t c = c .before .before .sel-stmt .kept .1 .1 .1 .1 .0
 
 node-returns-4 : (t : ℕ) → node-lts.Need-returns-4 (
   is-copied-reads.Asked,
@@ -7380,8 +7895,8 @@ node-returns-4 : (t : ℕ) → node-lts.Need-returns-4 (
   file.Post,
   queries-below t,
   queries.Post,
-  query-below t,
-  query.Post,
+  sel-stmt-below t,
+  sel-stmt.Post,
   select-below t,
   select.Post,
   simple-below t,
@@ -7390,49 +7905,49 @@ node-returns-4 : (t : ℕ) → node-lts.Need-returns-4 (
   list-by.Post,
   settings-below t,
   settings.Post,
-  with-of-below t,
-  with-of.Post,
+  with-below t,
+  with.Post,
   join-below t,
   join.Post,
   inline-below t,
   inline.Post,
-  commas-below t,
-  commas.Post,
-  row-below t,
-  row.Post,
+  comma-below t,
+  comma.Post,
+  inl-list-below t,
+  inl-list.Post,
   binary-below t,
   binary.Post,
   unary-below t,
   unary.Post,
   call-below t,
   call.Post,
-  cases-below t,
-  cases.Post,
-  when-of-below t,
-  when-of.Post,
+  case-below t,
+  case.Post,
+  when-below t,
+  when.Post,
   subquery-below t,
   subquery.Post,
-  parens-below t,
-  parens.Post,
-  brackets-below t,
-  brackets.Post,
-  solid-below t,
-  solid.Post,
-  braces-below t,
-  braces.Post,
-  types-below t,
-  types.Post,
-  tight-below t,
-  tight.Post,
+  paren-below t,
+  paren.Post,
+  bracket-below t,
+  bracket.Post,
+  no-spaces-below t,
+  no-spaces.Post,
+  brace-below t,
+  brace.Post,
+  dtype-below t,
+  dtype.Post,
+  tight-paren-below t,
+  tight-paren.Post,
   alter-below t,
   alter.Post,
-  unions-below t,
-  unions.Post,
+  union-below t,
+  union.Post,
   pass-below t,
   pass.Post,
 ) (node-at t) node.Post
 unfolding armsOf
-node-returns-4 t c = node-by the-variants.SelectStatement (c .before .before .before .before .before .before .before .before .before .before .before .pre .1 .1) (⊎-elim (λ w. scanned-as (w .1 .ensures) (w .2 .left)) (λ w. clean-node (c .before .before .before .before .before .before .before .before .before .before .before .pre .1 .0) (c .before .before .before .before .before .before .before .before .before .before .before .pre .1 .1) (w .left)) (c .before .before .before .before .before .before .before .if1 .came)) (sym (c .before .before .before .before .enum-told3 .given .1) ∙ c .before .before .before .before .before .before .routine-of .ensures) (c .before .before .query .ensures)
+node-returns-4 t c = node-by the-variants.SelectStatement (c .before .before .before .before .before .before .before .before .before .before .before .pre .1 .1) (⊎-elim (λ w. scanned-as (w .1 .ensures) (w .2 .left)) (λ w. clean-node (c .before .before .before .before .before .before .before .before .before .before .before .pre .1 .0) (c .before .before .before .before .before .before .before .before .before .before .before .pre .1 .1) (w .left)) (c .before .before .before .before .before .before .before .if1 .came)) (sym (c .before .before .before .before .enum-told3 .given .1) ∙ c .before .before .before .before .before .before .routine-of .ensures) (c .before .before .sel-stmt .ensures)
 
 node-same-length-5 : (t : ℕ) → node-lts.Need-same-length-5 (
   is-copied-reads.Asked,
@@ -7449,8 +7964,8 @@ node-same-length-5 : (t : ℕ) → node-lts.Need-same-length-5 (
   file.Post,
   queries-below t,
   queries.Post,
-  query-below t,
-  query.Post,
+  sel-stmt-below t,
+  sel-stmt.Post,
   select-below t,
   select.Post,
   simple-below t,
@@ -7459,44 +7974,44 @@ node-same-length-5 : (t : ℕ) → node-lts.Need-same-length-5 (
   list-by.Post,
   settings-below t,
   settings.Post,
-  with-of-below t,
-  with-of.Post,
+  with-below t,
+  with.Post,
   join-below t,
   join.Post,
   inline-below t,
   inline.Post,
-  commas-below t,
-  commas.Post,
-  row-below t,
-  row.Post,
+  comma-below t,
+  comma.Post,
+  inl-list-below t,
+  inl-list.Post,
   binary-below t,
   binary.Post,
   unary-below t,
   unary.Post,
   call-below t,
   call.Post,
-  cases-below t,
-  cases.Post,
-  when-of-below t,
-  when-of.Post,
+  case-below t,
+  case.Post,
+  when-below t,
+  when.Post,
   subquery-below t,
   subquery.Post,
-  parens-below t,
-  parens.Post,
-  brackets-below t,
-  brackets.Post,
-  solid-below t,
-  solid.Post,
-  braces-below t,
-  braces.Post,
-  types-below t,
-  types.Post,
-  tight-below t,
-  tight.Post,
+  paren-below t,
+  paren.Post,
+  bracket-below t,
+  bracket.Post,
+  no-spaces-below t,
+  no-spaces.Post,
+  brace-below t,
+  brace.Post,
+  dtype-below t,
+  dtype.Post,
+  tight-paren-below t,
+  tight-paren.Post,
   alter-below t,
   alter.Post,
-  unions-below t,
-  unions.Post,
+  union-below t,
+  union.Post,
   pass-below t,
   pass.Post,
 ) (node-at t) node.Post
@@ -7517,8 +8032,8 @@ node-returns-5 : (t : ℕ) → node-lts.Need-returns-5 (
   file.Post,
   queries-below t,
   queries.Post,
-  query-below t,
-  query.Post,
+  sel-stmt-below t,
+  sel-stmt.Post,
   select-below t,
   select.Post,
   simple-below t,
@@ -7527,44 +8042,44 @@ node-returns-5 : (t : ℕ) → node-lts.Need-returns-5 (
   list-by.Post,
   settings-below t,
   settings.Post,
-  with-of-below t,
-  with-of.Post,
+  with-below t,
+  with.Post,
   join-below t,
   join.Post,
   inline-below t,
   inline.Post,
-  commas-below t,
-  commas.Post,
-  row-below t,
-  row.Post,
+  comma-below t,
+  comma.Post,
+  inl-list-below t,
+  inl-list.Post,
   binary-below t,
   binary.Post,
   unary-below t,
   unary.Post,
   call-below t,
   call.Post,
-  cases-below t,
-  cases.Post,
-  when-of-below t,
-  when-of.Post,
+  case-below t,
+  case.Post,
+  when-below t,
+  when.Post,
   subquery-below t,
   subquery.Post,
-  parens-below t,
-  parens.Post,
-  brackets-below t,
-  brackets.Post,
-  solid-below t,
-  solid.Post,
-  braces-below t,
-  braces.Post,
-  types-below t,
-  types.Post,
-  tight-below t,
-  tight.Post,
+  paren-below t,
+  paren.Post,
+  bracket-below t,
+  bracket.Post,
+  no-spaces-below t,
+  no-spaces.Post,
+  brace-below t,
+  brace.Post,
+  dtype-below t,
+  dtype.Post,
+  tight-paren-below t,
+  tight-paren.Post,
   alter-below t,
   alter.Post,
-  unions-below t,
-  unions.Post,
+  union-below t,
+  union.Post,
   pass-below t,
   pass.Post,
 ) (node-at t) node.Post
@@ -7586,8 +8101,8 @@ node-same-length-6 : (t : ℕ) → node-lts.Need-same-length-6 (
   file.Post,
   queries-below t,
   queries.Post,
-  query-below t,
-  query.Post,
+  sel-stmt-below t,
+  sel-stmt.Post,
   select-below t,
   select.Post,
   simple-below t,
@@ -7596,44 +8111,44 @@ node-same-length-6 : (t : ℕ) → node-lts.Need-same-length-6 (
   list-by.Post,
   settings-below t,
   settings.Post,
-  with-of-below t,
-  with-of.Post,
+  with-below t,
+  with.Post,
   join-below t,
   join.Post,
   inline-below t,
   inline.Post,
-  commas-below t,
-  commas.Post,
-  row-below t,
-  row.Post,
+  comma-below t,
+  comma.Post,
+  inl-list-below t,
+  inl-list.Post,
   binary-below t,
   binary.Post,
   unary-below t,
   unary.Post,
   call-below t,
   call.Post,
-  cases-below t,
-  cases.Post,
-  when-of-below t,
-  when-of.Post,
+  case-below t,
+  case.Post,
+  when-below t,
+  when.Post,
   subquery-below t,
   subquery.Post,
-  parens-below t,
-  parens.Post,
-  brackets-below t,
-  brackets.Post,
-  solid-below t,
-  solid.Post,
-  braces-below t,
-  braces.Post,
-  types-below t,
-  types.Post,
-  tight-below t,
-  tight.Post,
+  paren-below t,
+  paren.Post,
+  bracket-below t,
+  bracket.Post,
+  no-spaces-below t,
+  no-spaces.Post,
+  brace-below t,
+  brace.Post,
+  dtype-below t,
+  dtype.Post,
+  tight-paren-below t,
+  tight-paren.Post,
   alter-below t,
   alter.Post,
-  unions-below t,
-  unions.Post,
+  union-below t,
+  union.Post,
   pass-below t,
   pass.Post,
 ) (node-at t) node.Post
@@ -7654,8 +8169,8 @@ node-returns-6 : (t : ℕ) → node-lts.Need-returns-6 (
   file.Post,
   queries-below t,
   queries.Post,
-  query-below t,
-  query.Post,
+  sel-stmt-below t,
+  sel-stmt.Post,
   select-below t,
   select.Post,
   simple-below t,
@@ -7664,44 +8179,44 @@ node-returns-6 : (t : ℕ) → node-lts.Need-returns-6 (
   list-by.Post,
   settings-below t,
   settings.Post,
-  with-of-below t,
-  with-of.Post,
+  with-below t,
+  with.Post,
   join-below t,
   join.Post,
   inline-below t,
   inline.Post,
-  commas-below t,
-  commas.Post,
-  row-below t,
-  row.Post,
+  comma-below t,
+  comma.Post,
+  inl-list-below t,
+  inl-list.Post,
   binary-below t,
   binary.Post,
   unary-below t,
   unary.Post,
   call-below t,
   call.Post,
-  cases-below t,
-  cases.Post,
-  when-of-below t,
-  when-of.Post,
+  case-below t,
+  case.Post,
+  when-below t,
+  when.Post,
   subquery-below t,
   subquery.Post,
-  parens-below t,
-  parens.Post,
-  brackets-below t,
-  brackets.Post,
-  solid-below t,
-  solid.Post,
-  braces-below t,
-  braces.Post,
-  types-below t,
-  types.Post,
-  tight-below t,
-  tight.Post,
+  paren-below t,
+  paren.Post,
+  bracket-below t,
+  bracket.Post,
+  no-spaces-below t,
+  no-spaces.Post,
+  brace-below t,
+  brace.Post,
+  dtype-below t,
+  dtype.Post,
+  tight-paren-below t,
+  tight-paren.Post,
   alter-below t,
   alter.Post,
-  unions-below t,
-  unions.Post,
+  union-below t,
+  union.Post,
   pass-below t,
   pass.Post,
 ) (node-at t) node.Post
@@ -7723,8 +8238,8 @@ node-same-length-7 : (t : ℕ) → node-lts.Need-same-length-7 (
   file.Post,
   queries-below t,
   queries.Post,
-  query-below t,
-  query.Post,
+  sel-stmt-below t,
+  sel-stmt.Post,
   select-below t,
   select.Post,
   simple-below t,
@@ -7733,44 +8248,44 @@ node-same-length-7 : (t : ℕ) → node-lts.Need-same-length-7 (
   list-by.Post,
   settings-below t,
   settings.Post,
-  with-of-below t,
-  with-of.Post,
+  with-below t,
+  with.Post,
   join-below t,
   join.Post,
   inline-below t,
   inline.Post,
-  commas-below t,
-  commas.Post,
-  row-below t,
-  row.Post,
+  comma-below t,
+  comma.Post,
+  inl-list-below t,
+  inl-list.Post,
   binary-below t,
   binary.Post,
   unary-below t,
   unary.Post,
   call-below t,
   call.Post,
-  cases-below t,
-  cases.Post,
-  when-of-below t,
-  when-of.Post,
+  case-below t,
+  case.Post,
+  when-below t,
+  when.Post,
   subquery-below t,
   subquery.Post,
-  parens-below t,
-  parens.Post,
-  brackets-below t,
-  brackets.Post,
-  solid-below t,
-  solid.Post,
-  braces-below t,
-  braces.Post,
-  types-below t,
-  types.Post,
-  tight-below t,
-  tight.Post,
+  paren-below t,
+  paren.Post,
+  bracket-below t,
+  bracket.Post,
+  no-spaces-below t,
+  no-spaces.Post,
+  brace-below t,
+  brace.Post,
+  dtype-below t,
+  dtype.Post,
+  tight-paren-below t,
+  tight-paren.Post,
   alter-below t,
   alter.Post,
-  unions-below t,
-  unions.Post,
+  union-below t,
+  union.Post,
   pass-below t,
   pass.Post,
 ) (node-at t) node.Post
@@ -7791,8 +8306,8 @@ node-returns-7 : (t : ℕ) → node-lts.Need-returns-7 (
   file.Post,
   queries-below t,
   queries.Post,
-  query-below t,
-  query.Post,
+  sel-stmt-below t,
+  sel-stmt.Post,
   select-below t,
   select.Post,
   simple-below t,
@@ -7801,44 +8316,44 @@ node-returns-7 : (t : ℕ) → node-lts.Need-returns-7 (
   list-by.Post,
   settings-below t,
   settings.Post,
-  with-of-below t,
-  with-of.Post,
+  with-below t,
+  with.Post,
   join-below t,
   join.Post,
   inline-below t,
   inline.Post,
-  commas-below t,
-  commas.Post,
-  row-below t,
-  row.Post,
+  comma-below t,
+  comma.Post,
+  inl-list-below t,
+  inl-list.Post,
   binary-below t,
   binary.Post,
   unary-below t,
   unary.Post,
   call-below t,
   call.Post,
-  cases-below t,
-  cases.Post,
-  when-of-below t,
-  when-of.Post,
+  case-below t,
+  case.Post,
+  when-below t,
+  when.Post,
   subquery-below t,
   subquery.Post,
-  parens-below t,
-  parens.Post,
-  brackets-below t,
-  brackets.Post,
-  solid-below t,
-  solid.Post,
-  braces-below t,
-  braces.Post,
-  types-below t,
-  types.Post,
-  tight-below t,
-  tight.Post,
+  paren-below t,
+  paren.Post,
+  bracket-below t,
+  bracket.Post,
+  no-spaces-below t,
+  no-spaces.Post,
+  brace-below t,
+  brace.Post,
+  dtype-below t,
+  dtype.Post,
+  tight-paren-below t,
+  tight-paren.Post,
   alter-below t,
   alter.Post,
-  unions-below t,
-  unions.Post,
+  union-below t,
+  union.Post,
   pass-below t,
   pass.Post,
 ) (node-at t) node.Post
@@ -7860,8 +8375,8 @@ node-same-length-8 : (t : ℕ) → node-lts.Need-same-length-8 (
   file.Post,
   queries-below t,
   queries.Post,
-  query-below t,
-  query.Post,
+  sel-stmt-below t,
+  sel-stmt.Post,
   select-below t,
   select.Post,
   simple-below t,
@@ -7870,44 +8385,44 @@ node-same-length-8 : (t : ℕ) → node-lts.Need-same-length-8 (
   list-by.Post,
   settings-below t,
   settings.Post,
-  with-of-below t,
-  with-of.Post,
+  with-below t,
+  with.Post,
   join-below t,
   join.Post,
   inline-below t,
   inline.Post,
-  commas-below t,
-  commas.Post,
-  row-below t,
-  row.Post,
+  comma-below t,
+  comma.Post,
+  inl-list-below t,
+  inl-list.Post,
   binary-below t,
   binary.Post,
   unary-below t,
   unary.Post,
   call-below t,
   call.Post,
-  cases-below t,
-  cases.Post,
-  when-of-below t,
-  when-of.Post,
+  case-below t,
+  case.Post,
+  when-below t,
+  when.Post,
   subquery-below t,
   subquery.Post,
-  parens-below t,
-  parens.Post,
-  brackets-below t,
-  brackets.Post,
-  solid-below t,
-  solid.Post,
-  braces-below t,
-  braces.Post,
-  types-below t,
-  types.Post,
-  tight-below t,
-  tight.Post,
+  paren-below t,
+  paren.Post,
+  bracket-below t,
+  bracket.Post,
+  no-spaces-below t,
+  no-spaces.Post,
+  brace-below t,
+  brace.Post,
+  dtype-below t,
+  dtype.Post,
+  tight-paren-below t,
+  tight-paren.Post,
   alter-below t,
   alter.Post,
-  unions-below t,
-  unions.Post,
+  union-below t,
+  union.Post,
   pass-below t,
   pass.Post,
 ) (node-at t) node.Post
@@ -7928,8 +8443,8 @@ node-returns-8 : (t : ℕ) → node-lts.Need-returns-8 (
   file.Post,
   queries-below t,
   queries.Post,
-  query-below t,
-  query.Post,
+  sel-stmt-below t,
+  sel-stmt.Post,
   select-below t,
   select.Post,
   simple-below t,
@@ -7938,44 +8453,44 @@ node-returns-8 : (t : ℕ) → node-lts.Need-returns-8 (
   list-by.Post,
   settings-below t,
   settings.Post,
-  with-of-below t,
-  with-of.Post,
+  with-below t,
+  with.Post,
   join-below t,
   join.Post,
   inline-below t,
   inline.Post,
-  commas-below t,
-  commas.Post,
-  row-below t,
-  row.Post,
+  comma-below t,
+  comma.Post,
+  inl-list-below t,
+  inl-list.Post,
   binary-below t,
   binary.Post,
   unary-below t,
   unary.Post,
   call-below t,
   call.Post,
-  cases-below t,
-  cases.Post,
-  when-of-below t,
-  when-of.Post,
+  case-below t,
+  case.Post,
+  when-below t,
+  when.Post,
   subquery-below t,
   subquery.Post,
-  parens-below t,
-  parens.Post,
-  brackets-below t,
-  brackets.Post,
-  solid-below t,
-  solid.Post,
-  braces-below t,
-  braces.Post,
-  types-below t,
-  types.Post,
-  tight-below t,
-  tight.Post,
+  paren-below t,
+  paren.Post,
+  bracket-below t,
+  bracket.Post,
+  no-spaces-below t,
+  no-spaces.Post,
+  brace-below t,
+  brace.Post,
+  dtype-below t,
+  dtype.Post,
+  tight-paren-below t,
+  tight-paren.Post,
   alter-below t,
   alter.Post,
-  unions-below t,
-  unions.Post,
+  union-below t,
+  union.Post,
   pass-below t,
   pass.Post,
 ) (node-at t) node.Post
@@ -7997,8 +8512,8 @@ node-same-length-9 : (t : ℕ) → node-lts.Need-same-length-9 (
   file.Post,
   queries-below t,
   queries.Post,
-  query-below t,
-  query.Post,
+  sel-stmt-below t,
+  sel-stmt.Post,
   select-below t,
   select.Post,
   simple-below t,
@@ -8007,48 +8522,48 @@ node-same-length-9 : (t : ℕ) → node-lts.Need-same-length-9 (
   list-by.Post,
   settings-below t,
   settings.Post,
-  with-of-below t,
-  with-of.Post,
+  with-below t,
+  with.Post,
   join-below t,
   join.Post,
   inline-below t,
   inline.Post,
-  commas-below t,
-  commas.Post,
-  row-below t,
-  row.Post,
+  comma-below t,
+  comma.Post,
+  inl-list-below t,
+  inl-list.Post,
   binary-below t,
   binary.Post,
   unary-below t,
   unary.Post,
   call-below t,
   call.Post,
-  cases-below t,
-  cases.Post,
-  when-of-below t,
-  when-of.Post,
+  case-below t,
+  case.Post,
+  when-below t,
+  when.Post,
   subquery-below t,
   subquery.Post,
-  parens-below t,
-  parens.Post,
-  brackets-below t,
-  brackets.Post,
-  solid-below t,
-  solid.Post,
-  braces-below t,
-  braces.Post,
-  types-below t,
-  types.Post,
-  tight-below t,
-  tight.Post,
+  paren-below t,
+  paren.Post,
+  bracket-below t,
+  bracket.Post,
+  no-spaces-below t,
+  no-spaces.Post,
+  brace-below t,
+  brace.Post,
+  dtype-below t,
+  dtype.Post,
+  tight-paren-below t,
+  tight-paren.Post,
   alter-below t,
   alter.Post,
-  unions-below t,
-  unions.Post,
+  union-below t,
+  union.Post,
   pass-below t,
   pass.Post,
 ) (node-at t) node.Post
-node-same-length-9 t c = c .before .before .with-of .kept .1 .1 .1 .1 .0
+node-same-length-9 t c = c .before .before .with .kept .1 .1 .1 .1 .0
 
 node-returns-9 : (t : ℕ) → node-lts.Need-returns-9 (
   is-copied-reads.Asked,
@@ -8065,8 +8580,8 @@ node-returns-9 : (t : ℕ) → node-lts.Need-returns-9 (
   file.Post,
   queries-below t,
   queries.Post,
-  query-below t,
-  query.Post,
+  sel-stmt-below t,
+  sel-stmt.Post,
   select-below t,
   select.Post,
   simple-below t,
@@ -8075,49 +8590,49 @@ node-returns-9 : (t : ℕ) → node-lts.Need-returns-9 (
   list-by.Post,
   settings-below t,
   settings.Post,
-  with-of-below t,
-  with-of.Post,
+  with-below t,
+  with.Post,
   join-below t,
   join.Post,
   inline-below t,
   inline.Post,
-  commas-below t,
-  commas.Post,
-  row-below t,
-  row.Post,
+  comma-below t,
+  comma.Post,
+  inl-list-below t,
+  inl-list.Post,
   binary-below t,
   binary.Post,
   unary-below t,
   unary.Post,
   call-below t,
   call.Post,
-  cases-below t,
-  cases.Post,
-  when-of-below t,
-  when-of.Post,
+  case-below t,
+  case.Post,
+  when-below t,
+  when.Post,
   subquery-below t,
   subquery.Post,
-  parens-below t,
-  parens.Post,
-  brackets-below t,
-  brackets.Post,
-  solid-below t,
-  solid.Post,
-  braces-below t,
-  braces.Post,
-  types-below t,
-  types.Post,
-  tight-below t,
-  tight.Post,
+  paren-below t,
+  paren.Post,
+  bracket-below t,
+  bracket.Post,
+  no-spaces-below t,
+  no-spaces.Post,
+  brace-below t,
+  brace.Post,
+  dtype-below t,
+  dtype.Post,
+  tight-paren-below t,
+  tight-paren.Post,
   alter-below t,
   alter.Post,
-  unions-below t,
-  unions.Post,
+  union-below t,
+  union.Post,
   pass-below t,
   pass.Post,
 ) (node-at t) node.Post
 unfolding armsOf
-node-returns-9 t c = node-by the-variants.WithClause (c .before .before .before .before .before .before .before .before .before .before .before .pre .1 .1) (⊎-elim (λ w. scanned-as (w .1 .ensures) (w .2 .left)) (λ w. clean-node (c .before .before .before .before .before .before .before .before .before .before .before .pre .1 .0) (c .before .before .before .before .before .before .before .before .before .before .before .pre .1 .1) (w .left)) (c .before .before .before .before .before .before .before .if1 .came)) (sym (c .before .before .before .before .enum-told7 .given .1) ∙ c .before .before .before .before .before .before .routine-of .ensures) (c .before .before .with-of .ensures)
+node-returns-9 t c = node-by the-variants.WithClause (c .before .before .before .before .before .before .before .before .before .before .before .pre .1 .1) (⊎-elim (λ w. scanned-as (w .1 .ensures) (w .2 .left)) (λ w. clean-node (c .before .before .before .before .before .before .before .before .before .before .before .pre .1 .0) (c .before .before .before .before .before .before .before .before .before .before .before .pre .1 .1) (w .left)) (c .before .before .before .before .before .before .before .if1 .came)) (sym (c .before .before .before .before .enum-told7 .given .1) ∙ c .before .before .before .before .before .before .routine-of .ensures) (c .before .before .with .ensures)
 
 node-same-length-10 : (t : ℕ) → node-lts.Need-same-length-10 (
   is-copied-reads.Asked,
@@ -8134,8 +8649,8 @@ node-same-length-10 : (t : ℕ) → node-lts.Need-same-length-10 (
   file.Post,
   queries-below t,
   queries.Post,
-  query-below t,
-  query.Post,
+  sel-stmt-below t,
+  sel-stmt.Post,
   select-below t,
   select.Post,
   simple-below t,
@@ -8144,44 +8659,44 @@ node-same-length-10 : (t : ℕ) → node-lts.Need-same-length-10 (
   list-by.Post,
   settings-below t,
   settings.Post,
-  with-of-below t,
-  with-of.Post,
+  with-below t,
+  with.Post,
   join-below t,
   join.Post,
   inline-below t,
   inline.Post,
-  commas-below t,
-  commas.Post,
-  row-below t,
-  row.Post,
+  comma-below t,
+  comma.Post,
+  inl-list-below t,
+  inl-list.Post,
   binary-below t,
   binary.Post,
   unary-below t,
   unary.Post,
   call-below t,
   call.Post,
-  cases-below t,
-  cases.Post,
-  when-of-below t,
-  when-of.Post,
+  case-below t,
+  case.Post,
+  when-below t,
+  when.Post,
   subquery-below t,
   subquery.Post,
-  parens-below t,
-  parens.Post,
-  brackets-below t,
-  brackets.Post,
-  solid-below t,
-  solid.Post,
-  braces-below t,
-  braces.Post,
-  types-below t,
-  types.Post,
-  tight-below t,
-  tight.Post,
+  paren-below t,
+  paren.Post,
+  bracket-below t,
+  bracket.Post,
+  no-spaces-below t,
+  no-spaces.Post,
+  brace-below t,
+  brace.Post,
+  dtype-below t,
+  dtype.Post,
+  tight-paren-below t,
+  tight-paren.Post,
   alter-below t,
   alter.Post,
-  unions-below t,
-  unions.Post,
+  union-below t,
+  union.Post,
   pass-below t,
   pass.Post,
 ) (node-at t) node.Post
@@ -8202,8 +8717,8 @@ node-returns-10 : (t : ℕ) → node-lts.Need-returns-10 (
   file.Post,
   queries-below t,
   queries.Post,
-  query-below t,
-  query.Post,
+  sel-stmt-below t,
+  sel-stmt.Post,
   select-below t,
   select.Post,
   simple-below t,
@@ -8212,44 +8727,44 @@ node-returns-10 : (t : ℕ) → node-lts.Need-returns-10 (
   list-by.Post,
   settings-below t,
   settings.Post,
-  with-of-below t,
-  with-of.Post,
+  with-below t,
+  with.Post,
   join-below t,
   join.Post,
   inline-below t,
   inline.Post,
-  commas-below t,
-  commas.Post,
-  row-below t,
-  row.Post,
+  comma-below t,
+  comma.Post,
+  inl-list-below t,
+  inl-list.Post,
   binary-below t,
   binary.Post,
   unary-below t,
   unary.Post,
   call-below t,
   call.Post,
-  cases-below t,
-  cases.Post,
-  when-of-below t,
-  when-of.Post,
+  case-below t,
+  case.Post,
+  when-below t,
+  when.Post,
   subquery-below t,
   subquery.Post,
-  parens-below t,
-  parens.Post,
-  brackets-below t,
-  brackets.Post,
-  solid-below t,
-  solid.Post,
-  braces-below t,
-  braces.Post,
-  types-below t,
-  types.Post,
-  tight-below t,
-  tight.Post,
+  paren-below t,
+  paren.Post,
+  bracket-below t,
+  bracket.Post,
+  no-spaces-below t,
+  no-spaces.Post,
+  brace-below t,
+  brace.Post,
+  dtype-below t,
+  dtype.Post,
+  tight-paren-below t,
+  tight-paren.Post,
   alter-below t,
   alter.Post,
-  unions-below t,
-  unions.Post,
+  union-below t,
+  union.Post,
   pass-below t,
   pass.Post,
 ) (node-at t) node.Post
@@ -8271,8 +8786,8 @@ node-same-length-11 : (t : ℕ) → node-lts.Need-same-length-11 (
   file.Post,
   queries-below t,
   queries.Post,
-  query-below t,
-  query.Post,
+  sel-stmt-below t,
+  sel-stmt.Post,
   select-below t,
   select.Post,
   simple-below t,
@@ -8281,44 +8796,44 @@ node-same-length-11 : (t : ℕ) → node-lts.Need-same-length-11 (
   list-by.Post,
   settings-below t,
   settings.Post,
-  with-of-below t,
-  with-of.Post,
+  with-below t,
+  with.Post,
   join-below t,
   join.Post,
   inline-below t,
   inline.Post,
-  commas-below t,
-  commas.Post,
-  row-below t,
-  row.Post,
+  comma-below t,
+  comma.Post,
+  inl-list-below t,
+  inl-list.Post,
   binary-below t,
   binary.Post,
   unary-below t,
   unary.Post,
   call-below t,
   call.Post,
-  cases-below t,
-  cases.Post,
-  when-of-below t,
-  when-of.Post,
+  case-below t,
+  case.Post,
+  when-below t,
+  when.Post,
   subquery-below t,
   subquery.Post,
-  parens-below t,
-  parens.Post,
-  brackets-below t,
-  brackets.Post,
-  solid-below t,
-  solid.Post,
-  braces-below t,
-  braces.Post,
-  types-below t,
-  types.Post,
-  tight-below t,
-  tight.Post,
+  paren-below t,
+  paren.Post,
+  bracket-below t,
+  bracket.Post,
+  no-spaces-below t,
+  no-spaces.Post,
+  brace-below t,
+  brace.Post,
+  dtype-below t,
+  dtype.Post,
+  tight-paren-below t,
+  tight-paren.Post,
   alter-below t,
   alter.Post,
-  unions-below t,
-  unions.Post,
+  union-below t,
+  union.Post,
   pass-below t,
   pass.Post,
 ) (node-at t) node.Post
@@ -8339,8 +8854,8 @@ node-returns-11 : (t : ℕ) → node-lts.Need-returns-11 (
   file.Post,
   queries-below t,
   queries.Post,
-  query-below t,
-  query.Post,
+  sel-stmt-below t,
+  sel-stmt.Post,
   select-below t,
   select.Post,
   simple-below t,
@@ -8349,44 +8864,44 @@ node-returns-11 : (t : ℕ) → node-lts.Need-returns-11 (
   list-by.Post,
   settings-below t,
   settings.Post,
-  with-of-below t,
-  with-of.Post,
+  with-below t,
+  with.Post,
   join-below t,
   join.Post,
   inline-below t,
   inline.Post,
-  commas-below t,
-  commas.Post,
-  row-below t,
-  row.Post,
+  comma-below t,
+  comma.Post,
+  inl-list-below t,
+  inl-list.Post,
   binary-below t,
   binary.Post,
   unary-below t,
   unary.Post,
   call-below t,
   call.Post,
-  cases-below t,
-  cases.Post,
-  when-of-below t,
-  when-of.Post,
+  case-below t,
+  case.Post,
+  when-below t,
+  when.Post,
   subquery-below t,
   subquery.Post,
-  parens-below t,
-  parens.Post,
-  brackets-below t,
-  brackets.Post,
-  solid-below t,
-  solid.Post,
-  braces-below t,
-  braces.Post,
-  types-below t,
-  types.Post,
-  tight-below t,
-  tight.Post,
+  paren-below t,
+  paren.Post,
+  bracket-below t,
+  bracket.Post,
+  no-spaces-below t,
+  no-spaces.Post,
+  brace-below t,
+  brace.Post,
+  dtype-below t,
+  dtype.Post,
+  tight-paren-below t,
+  tight-paren.Post,
   alter-below t,
   alter.Post,
-  unions-below t,
-  unions.Post,
+  union-below t,
+  union.Post,
   pass-below t,
   pass.Post,
 ) (node-at t) node.Post
@@ -8408,8 +8923,8 @@ node-same-length-12 : (t : ℕ) → node-lts.Need-same-length-12 (
   file.Post,
   queries-below t,
   queries.Post,
-  query-below t,
-  query.Post,
+  sel-stmt-below t,
+  sel-stmt.Post,
   select-below t,
   select.Post,
   simple-below t,
@@ -8418,48 +8933,48 @@ node-same-length-12 : (t : ℕ) → node-lts.Need-same-length-12 (
   list-by.Post,
   settings-below t,
   settings.Post,
-  with-of-below t,
-  with-of.Post,
+  with-below t,
+  with.Post,
   join-below t,
   join.Post,
   inline-below t,
   inline.Post,
-  commas-below t,
-  commas.Post,
-  row-below t,
-  row.Post,
+  comma-below t,
+  comma.Post,
+  inl-list-below t,
+  inl-list.Post,
   binary-below t,
   binary.Post,
   unary-below t,
   unary.Post,
   call-below t,
   call.Post,
-  cases-below t,
-  cases.Post,
-  when-of-below t,
-  when-of.Post,
+  case-below t,
+  case.Post,
+  when-below t,
+  when.Post,
   subquery-below t,
   subquery.Post,
-  parens-below t,
-  parens.Post,
-  brackets-below t,
-  brackets.Post,
-  solid-below t,
-  solid.Post,
-  braces-below t,
-  braces.Post,
-  types-below t,
-  types.Post,
-  tight-below t,
-  tight.Post,
+  paren-below t,
+  paren.Post,
+  bracket-below t,
+  bracket.Post,
+  no-spaces-below t,
+  no-spaces.Post,
+  brace-below t,
+  brace.Post,
+  dtype-below t,
+  dtype.Post,
+  tight-paren-below t,
+  tight-paren.Post,
   alter-below t,
   alter.Post,
-  unions-below t,
-  unions.Post,
+  union-below t,
+  union.Post,
   pass-below t,
   pass.Post,
 ) (node-at t) node.Post
-node-same-length-12 t c = c .before .before .commas .kept .1 .1 .1 .1 .0
+node-same-length-12 t c = c .before .before .comma .kept .1 .1 .1 .1 .0
 
 node-returns-12 : (t : ℕ) → node-lts.Need-returns-12 (
   is-copied-reads.Asked,
@@ -8476,8 +8991,8 @@ node-returns-12 : (t : ℕ) → node-lts.Need-returns-12 (
   file.Post,
   queries-below t,
   queries.Post,
-  query-below t,
-  query.Post,
+  sel-stmt-below t,
+  sel-stmt.Post,
   select-below t,
   select.Post,
   simple-below t,
@@ -8486,49 +9001,49 @@ node-returns-12 : (t : ℕ) → node-lts.Need-returns-12 (
   list-by.Post,
   settings-below t,
   settings.Post,
-  with-of-below t,
-  with-of.Post,
+  with-below t,
+  with.Post,
   join-below t,
   join.Post,
   inline-below t,
   inline.Post,
-  commas-below t,
-  commas.Post,
-  row-below t,
-  row.Post,
+  comma-below t,
+  comma.Post,
+  inl-list-below t,
+  inl-list.Post,
   binary-below t,
   binary.Post,
   unary-below t,
   unary.Post,
   call-below t,
   call.Post,
-  cases-below t,
-  cases.Post,
-  when-of-below t,
-  when-of.Post,
+  case-below t,
+  case.Post,
+  when-below t,
+  when.Post,
   subquery-below t,
   subquery.Post,
-  parens-below t,
-  parens.Post,
-  brackets-below t,
-  brackets.Post,
-  solid-below t,
-  solid.Post,
-  braces-below t,
-  braces.Post,
-  types-below t,
-  types.Post,
-  tight-below t,
-  tight.Post,
+  paren-below t,
+  paren.Post,
+  bracket-below t,
+  bracket.Post,
+  no-spaces-below t,
+  no-spaces.Post,
+  brace-below t,
+  brace.Post,
+  dtype-below t,
+  dtype.Post,
+  tight-paren-below t,
+  tight-paren.Post,
   alter-below t,
   alter.Post,
-  unions-below t,
-  unions.Post,
+  union-below t,
+  union.Post,
   pass-below t,
   pass.Post,
 ) (node-at t) node.Post
 unfolding armsOf
-node-returns-12 t c = node-by the-variants.CommaList (c .before .before .before .before .before .before .before .before .before .before .before .pre .1 .1) (⊎-elim (λ w. scanned-as (w .1 .ensures) (w .2 .left)) (λ w. clean-node (c .before .before .before .before .before .before .before .before .before .before .before .pre .1 .0) (c .before .before .before .before .before .before .before .before .before .before .before .pre .1 .1) (w .left)) (c .before .before .before .before .before .before .before .if1 .came)) (sym (c .before .before .before .before .enum-told10 .given .1) ∙ c .before .before .before .before .before .before .routine-of .ensures) (c .before .before .commas .ensures)
+node-returns-12 t c = node-by the-variants.CommaList (c .before .before .before .before .before .before .before .before .before .before .before .pre .1 .1) (⊎-elim (λ w. scanned-as (w .1 .ensures) (w .2 .left)) (λ w. clean-node (c .before .before .before .before .before .before .before .before .before .before .before .pre .1 .0) (c .before .before .before .before .before .before .before .before .before .before .before .pre .1 .1) (w .left)) (c .before .before .before .before .before .before .before .if1 .came)) (sym (c .before .before .before .before .enum-told10 .given .1) ∙ c .before .before .before .before .before .before .routine-of .ensures) (c .before .before .comma .ensures)
 
 node-same-length-13 : (t : ℕ) → node-lts.Need-same-length-13 (
   is-copied-reads.Asked,
@@ -8545,8 +9060,8 @@ node-same-length-13 : (t : ℕ) → node-lts.Need-same-length-13 (
   file.Post,
   queries-below t,
   queries.Post,
-  query-below t,
-  query.Post,
+  sel-stmt-below t,
+  sel-stmt.Post,
   select-below t,
   select.Post,
   simple-below t,
@@ -8555,48 +9070,48 @@ node-same-length-13 : (t : ℕ) → node-lts.Need-same-length-13 (
   list-by.Post,
   settings-below t,
   settings.Post,
-  with-of-below t,
-  with-of.Post,
+  with-below t,
+  with.Post,
   join-below t,
   join.Post,
   inline-below t,
   inline.Post,
-  commas-below t,
-  commas.Post,
-  row-below t,
-  row.Post,
+  comma-below t,
+  comma.Post,
+  inl-list-below t,
+  inl-list.Post,
   binary-below t,
   binary.Post,
   unary-below t,
   unary.Post,
   call-below t,
   call.Post,
-  cases-below t,
-  cases.Post,
-  when-of-below t,
-  when-of.Post,
+  case-below t,
+  case.Post,
+  when-below t,
+  when.Post,
   subquery-below t,
   subquery.Post,
-  parens-below t,
-  parens.Post,
-  brackets-below t,
-  brackets.Post,
-  solid-below t,
-  solid.Post,
-  braces-below t,
-  braces.Post,
-  types-below t,
-  types.Post,
-  tight-below t,
-  tight.Post,
+  paren-below t,
+  paren.Post,
+  bracket-below t,
+  bracket.Post,
+  no-spaces-below t,
+  no-spaces.Post,
+  brace-below t,
+  brace.Post,
+  dtype-below t,
+  dtype.Post,
+  tight-paren-below t,
+  tight-paren.Post,
   alter-below t,
   alter.Post,
-  unions-below t,
-  unions.Post,
+  union-below t,
+  union.Post,
   pass-below t,
   pass.Post,
 ) (node-at t) node.Post
-node-same-length-13 t c = c .before .before .row .kept .1 .1 .1 .1 .0
+node-same-length-13 t c = c .before .before .inl-list .kept .1 .1 .1 .1 .0
 
 node-returns-13 : (t : ℕ) → node-lts.Need-returns-13 (
   is-copied-reads.Asked,
@@ -8613,8 +9128,8 @@ node-returns-13 : (t : ℕ) → node-lts.Need-returns-13 (
   file.Post,
   queries-below t,
   queries.Post,
-  query-below t,
-  query.Post,
+  sel-stmt-below t,
+  sel-stmt.Post,
   select-below t,
   select.Post,
   simple-below t,
@@ -8623,49 +9138,49 @@ node-returns-13 : (t : ℕ) → node-lts.Need-returns-13 (
   list-by.Post,
   settings-below t,
   settings.Post,
-  with-of-below t,
-  with-of.Post,
+  with-below t,
+  with.Post,
   join-below t,
   join.Post,
   inline-below t,
   inline.Post,
-  commas-below t,
-  commas.Post,
-  row-below t,
-  row.Post,
+  comma-below t,
+  comma.Post,
+  inl-list-below t,
+  inl-list.Post,
   binary-below t,
   binary.Post,
   unary-below t,
   unary.Post,
   call-below t,
   call.Post,
-  cases-below t,
-  cases.Post,
-  when-of-below t,
-  when-of.Post,
+  case-below t,
+  case.Post,
+  when-below t,
+  when.Post,
   subquery-below t,
   subquery.Post,
-  parens-below t,
-  parens.Post,
-  brackets-below t,
-  brackets.Post,
-  solid-below t,
-  solid.Post,
-  braces-below t,
-  braces.Post,
-  types-below t,
-  types.Post,
-  tight-below t,
-  tight.Post,
+  paren-below t,
+  paren.Post,
+  bracket-below t,
+  bracket.Post,
+  no-spaces-below t,
+  no-spaces.Post,
+  brace-below t,
+  brace.Post,
+  dtype-below t,
+  dtype.Post,
+  tight-paren-below t,
+  tight-paren.Post,
   alter-below t,
   alter.Post,
-  unions-below t,
-  unions.Post,
+  union-below t,
+  union.Post,
   pass-below t,
   pass.Post,
 ) (node-at t) node.Post
 unfolding armsOf
-node-returns-13 t c = node-by the-variants.InlineCommaList (c .before .before .before .before .before .before .before .before .before .before .before .pre .1 .1) (⊎-elim (λ w. scanned-as (w .1 .ensures) (w .2 .left)) (λ w. clean-node (c .before .before .before .before .before .before .before .before .before .before .before .pre .1 .0) (c .before .before .before .before .before .before .before .before .before .before .before .pre .1 .1) (w .left)) (c .before .before .before .before .before .before .before .if1 .came)) (sym (c .before .before .before .before .enum-told11 .given .1) ∙ c .before .before .before .before .before .before .routine-of .ensures) (c .before .before .row .ensures)
+node-returns-13 t c = node-by the-variants.InlineCommaList (c .before .before .before .before .before .before .before .before .before .before .before .pre .1 .1) (⊎-elim (λ w. scanned-as (w .1 .ensures) (w .2 .left)) (λ w. clean-node (c .before .before .before .before .before .before .before .before .before .before .before .pre .1 .0) (c .before .before .before .before .before .before .before .before .before .before .before .pre .1 .1) (w .left)) (c .before .before .before .before .before .before .before .if1 .came)) (sym (c .before .before .before .before .enum-told11 .given .1) ∙ c .before .before .before .before .before .before .routine-of .ensures) (c .before .before .inl-list .ensures)
 
 node-same-length-14 : (t : ℕ) → node-lts.Need-same-length-14 (
   is-copied-reads.Asked,
@@ -8682,8 +9197,8 @@ node-same-length-14 : (t : ℕ) → node-lts.Need-same-length-14 (
   file.Post,
   queries-below t,
   queries.Post,
-  query-below t,
-  query.Post,
+  sel-stmt-below t,
+  sel-stmt.Post,
   select-below t,
   select.Post,
   simple-below t,
@@ -8692,44 +9207,44 @@ node-same-length-14 : (t : ℕ) → node-lts.Need-same-length-14 (
   list-by.Post,
   settings-below t,
   settings.Post,
-  with-of-below t,
-  with-of.Post,
+  with-below t,
+  with.Post,
   join-below t,
   join.Post,
   inline-below t,
   inline.Post,
-  commas-below t,
-  commas.Post,
-  row-below t,
-  row.Post,
+  comma-below t,
+  comma.Post,
+  inl-list-below t,
+  inl-list.Post,
   binary-below t,
   binary.Post,
   unary-below t,
   unary.Post,
   call-below t,
   call.Post,
-  cases-below t,
-  cases.Post,
-  when-of-below t,
-  when-of.Post,
+  case-below t,
+  case.Post,
+  when-below t,
+  when.Post,
   subquery-below t,
   subquery.Post,
-  parens-below t,
-  parens.Post,
-  brackets-below t,
-  brackets.Post,
-  solid-below t,
-  solid.Post,
-  braces-below t,
-  braces.Post,
-  types-below t,
-  types.Post,
-  tight-below t,
-  tight.Post,
+  paren-below t,
+  paren.Post,
+  bracket-below t,
+  bracket.Post,
+  no-spaces-below t,
+  no-spaces.Post,
+  brace-below t,
+  brace.Post,
+  dtype-below t,
+  dtype.Post,
+  tight-paren-below t,
+  tight-paren.Post,
   alter-below t,
   alter.Post,
-  unions-below t,
-  unions.Post,
+  union-below t,
+  union.Post,
   pass-below t,
   pass.Post,
 ) (node-at t) node.Post
@@ -8750,8 +9265,8 @@ node-returns-14 : (t : ℕ) → node-lts.Need-returns-14 (
   file.Post,
   queries-below t,
   queries.Post,
-  query-below t,
-  query.Post,
+  sel-stmt-below t,
+  sel-stmt.Post,
   select-below t,
   select.Post,
   simple-below t,
@@ -8760,44 +9275,44 @@ node-returns-14 : (t : ℕ) → node-lts.Need-returns-14 (
   list-by.Post,
   settings-below t,
   settings.Post,
-  with-of-below t,
-  with-of.Post,
+  with-below t,
+  with.Post,
   join-below t,
   join.Post,
   inline-below t,
   inline.Post,
-  commas-below t,
-  commas.Post,
-  row-below t,
-  row.Post,
+  comma-below t,
+  comma.Post,
+  inl-list-below t,
+  inl-list.Post,
   binary-below t,
   binary.Post,
   unary-below t,
   unary.Post,
   call-below t,
   call.Post,
-  cases-below t,
-  cases.Post,
-  when-of-below t,
-  when-of.Post,
+  case-below t,
+  case.Post,
+  when-below t,
+  when.Post,
   subquery-below t,
   subquery.Post,
-  parens-below t,
-  parens.Post,
-  brackets-below t,
-  brackets.Post,
-  solid-below t,
-  solid.Post,
-  braces-below t,
-  braces.Post,
-  types-below t,
-  types.Post,
-  tight-below t,
-  tight.Post,
+  paren-below t,
+  paren.Post,
+  bracket-below t,
+  bracket.Post,
+  no-spaces-below t,
+  no-spaces.Post,
+  brace-below t,
+  brace.Post,
+  dtype-below t,
+  dtype.Post,
+  tight-paren-below t,
+  tight-paren.Post,
   alter-below t,
   alter.Post,
-  unions-below t,
-  unions.Post,
+  union-below t,
+  union.Post,
   pass-below t,
   pass.Post,
 ) (node-at t) node.Post
@@ -8819,8 +9334,8 @@ node-same-length-15 : (t : ℕ) → node-lts.Need-same-length-15 (
   file.Post,
   queries-below t,
   queries.Post,
-  query-below t,
-  query.Post,
+  sel-stmt-below t,
+  sel-stmt.Post,
   select-below t,
   select.Post,
   simple-below t,
@@ -8829,44 +9344,44 @@ node-same-length-15 : (t : ℕ) → node-lts.Need-same-length-15 (
   list-by.Post,
   settings-below t,
   settings.Post,
-  with-of-below t,
-  with-of.Post,
+  with-below t,
+  with.Post,
   join-below t,
   join.Post,
   inline-below t,
   inline.Post,
-  commas-below t,
-  commas.Post,
-  row-below t,
-  row.Post,
+  comma-below t,
+  comma.Post,
+  inl-list-below t,
+  inl-list.Post,
   binary-below t,
   binary.Post,
   unary-below t,
   unary.Post,
   call-below t,
   call.Post,
-  cases-below t,
-  cases.Post,
-  when-of-below t,
-  when-of.Post,
+  case-below t,
+  case.Post,
+  when-below t,
+  when.Post,
   subquery-below t,
   subquery.Post,
-  parens-below t,
-  parens.Post,
-  brackets-below t,
-  brackets.Post,
-  solid-below t,
-  solid.Post,
-  braces-below t,
-  braces.Post,
-  types-below t,
-  types.Post,
-  tight-below t,
-  tight.Post,
+  paren-below t,
+  paren.Post,
+  bracket-below t,
+  bracket.Post,
+  no-spaces-below t,
+  no-spaces.Post,
+  brace-below t,
+  brace.Post,
+  dtype-below t,
+  dtype.Post,
+  tight-paren-below t,
+  tight-paren.Post,
   alter-below t,
   alter.Post,
-  unions-below t,
-  unions.Post,
+  union-below t,
+  union.Post,
   pass-below t,
   pass.Post,
 ) (node-at t) node.Post
@@ -8887,8 +9402,8 @@ node-returns-15 : (t : ℕ) → node-lts.Need-returns-15 (
   file.Post,
   queries-below t,
   queries.Post,
-  query-below t,
-  query.Post,
+  sel-stmt-below t,
+  sel-stmt.Post,
   select-below t,
   select.Post,
   simple-below t,
@@ -8897,44 +9412,44 @@ node-returns-15 : (t : ℕ) → node-lts.Need-returns-15 (
   list-by.Post,
   settings-below t,
   settings.Post,
-  with-of-below t,
-  with-of.Post,
+  with-below t,
+  with.Post,
   join-below t,
   join.Post,
   inline-below t,
   inline.Post,
-  commas-below t,
-  commas.Post,
-  row-below t,
-  row.Post,
+  comma-below t,
+  comma.Post,
+  inl-list-below t,
+  inl-list.Post,
   binary-below t,
   binary.Post,
   unary-below t,
   unary.Post,
   call-below t,
   call.Post,
-  cases-below t,
-  cases.Post,
-  when-of-below t,
-  when-of.Post,
+  case-below t,
+  case.Post,
+  when-below t,
+  when.Post,
   subquery-below t,
   subquery.Post,
-  parens-below t,
-  parens.Post,
-  brackets-below t,
-  brackets.Post,
-  solid-below t,
-  solid.Post,
-  braces-below t,
-  braces.Post,
-  types-below t,
-  types.Post,
-  tight-below t,
-  tight.Post,
+  paren-below t,
+  paren.Post,
+  bracket-below t,
+  bracket.Post,
+  no-spaces-below t,
+  no-spaces.Post,
+  brace-below t,
+  brace.Post,
+  dtype-below t,
+  dtype.Post,
+  tight-paren-below t,
+  tight-paren.Post,
   alter-below t,
   alter.Post,
-  unions-below t,
-  unions.Post,
+  union-below t,
+  union.Post,
   pass-below t,
   pass.Post,
 ) (node-at t) node.Post
@@ -8956,8 +9471,8 @@ node-same-length-16 : (t : ℕ) → node-lts.Need-same-length-16 (
   file.Post,
   queries-below t,
   queries.Post,
-  query-below t,
-  query.Post,
+  sel-stmt-below t,
+  sel-stmt.Post,
   select-below t,
   select.Post,
   simple-below t,
@@ -8966,44 +9481,44 @@ node-same-length-16 : (t : ℕ) → node-lts.Need-same-length-16 (
   list-by.Post,
   settings-below t,
   settings.Post,
-  with-of-below t,
-  with-of.Post,
+  with-below t,
+  with.Post,
   join-below t,
   join.Post,
   inline-below t,
   inline.Post,
-  commas-below t,
-  commas.Post,
-  row-below t,
-  row.Post,
+  comma-below t,
+  comma.Post,
+  inl-list-below t,
+  inl-list.Post,
   binary-below t,
   binary.Post,
   unary-below t,
   unary.Post,
   call-below t,
   call.Post,
-  cases-below t,
-  cases.Post,
-  when-of-below t,
-  when-of.Post,
+  case-below t,
+  case.Post,
+  when-below t,
+  when.Post,
   subquery-below t,
   subquery.Post,
-  parens-below t,
-  parens.Post,
-  brackets-below t,
-  brackets.Post,
-  solid-below t,
-  solid.Post,
-  braces-below t,
-  braces.Post,
-  types-below t,
-  types.Post,
-  tight-below t,
-  tight.Post,
+  paren-below t,
+  paren.Post,
+  bracket-below t,
+  bracket.Post,
+  no-spaces-below t,
+  no-spaces.Post,
+  brace-below t,
+  brace.Post,
+  dtype-below t,
+  dtype.Post,
+  tight-paren-below t,
+  tight-paren.Post,
   alter-below t,
   alter.Post,
-  unions-below t,
-  unions.Post,
+  union-below t,
+  union.Post,
   pass-below t,
   pass.Post,
 ) (node-at t) node.Post
@@ -9024,8 +9539,8 @@ node-returns-16 : (t : ℕ) → node-lts.Need-returns-16 (
   file.Post,
   queries-below t,
   queries.Post,
-  query-below t,
-  query.Post,
+  sel-stmt-below t,
+  sel-stmt.Post,
   select-below t,
   select.Post,
   simple-below t,
@@ -9034,44 +9549,44 @@ node-returns-16 : (t : ℕ) → node-lts.Need-returns-16 (
   list-by.Post,
   settings-below t,
   settings.Post,
-  with-of-below t,
-  with-of.Post,
+  with-below t,
+  with.Post,
   join-below t,
   join.Post,
   inline-below t,
   inline.Post,
-  commas-below t,
-  commas.Post,
-  row-below t,
-  row.Post,
+  comma-below t,
+  comma.Post,
+  inl-list-below t,
+  inl-list.Post,
   binary-below t,
   binary.Post,
   unary-below t,
   unary.Post,
   call-below t,
   call.Post,
-  cases-below t,
-  cases.Post,
-  when-of-below t,
-  when-of.Post,
+  case-below t,
+  case.Post,
+  when-below t,
+  when.Post,
   subquery-below t,
   subquery.Post,
-  parens-below t,
-  parens.Post,
-  brackets-below t,
-  brackets.Post,
-  solid-below t,
-  solid.Post,
-  braces-below t,
-  braces.Post,
-  types-below t,
-  types.Post,
-  tight-below t,
-  tight.Post,
+  paren-below t,
+  paren.Post,
+  bracket-below t,
+  bracket.Post,
+  no-spaces-below t,
+  no-spaces.Post,
+  brace-below t,
+  brace.Post,
+  dtype-below t,
+  dtype.Post,
+  tight-paren-below t,
+  tight-paren.Post,
   alter-below t,
   alter.Post,
-  unions-below t,
-  unions.Post,
+  union-below t,
+  union.Post,
   pass-below t,
   pass.Post,
 ) (node-at t) node.Post
@@ -9093,8 +9608,8 @@ node-same-length-17 : (t : ℕ) → node-lts.Need-same-length-17 (
   file.Post,
   queries-below t,
   queries.Post,
-  query-below t,
-  query.Post,
+  sel-stmt-below t,
+  sel-stmt.Post,
   select-below t,
   select.Post,
   simple-below t,
@@ -9103,48 +9618,48 @@ node-same-length-17 : (t : ℕ) → node-lts.Need-same-length-17 (
   list-by.Post,
   settings-below t,
   settings.Post,
-  with-of-below t,
-  with-of.Post,
+  with-below t,
+  with.Post,
   join-below t,
   join.Post,
   inline-below t,
   inline.Post,
-  commas-below t,
-  commas.Post,
-  row-below t,
-  row.Post,
+  comma-below t,
+  comma.Post,
+  inl-list-below t,
+  inl-list.Post,
   binary-below t,
   binary.Post,
   unary-below t,
   unary.Post,
   call-below t,
   call.Post,
-  cases-below t,
-  cases.Post,
-  when-of-below t,
-  when-of.Post,
+  case-below t,
+  case.Post,
+  when-below t,
+  when.Post,
   subquery-below t,
   subquery.Post,
-  parens-below t,
-  parens.Post,
-  brackets-below t,
-  brackets.Post,
-  solid-below t,
-  solid.Post,
-  braces-below t,
-  braces.Post,
-  types-below t,
-  types.Post,
-  tight-below t,
-  tight.Post,
+  paren-below t,
+  paren.Post,
+  bracket-below t,
+  bracket.Post,
+  no-spaces-below t,
+  no-spaces.Post,
+  brace-below t,
+  brace.Post,
+  dtype-below t,
+  dtype.Post,
+  tight-paren-below t,
+  tight-paren.Post,
   alter-below t,
   alter.Post,
-  unions-below t,
-  unions.Post,
+  union-below t,
+  union.Post,
   pass-below t,
   pass.Post,
 ) (node-at t) node.Post
-node-same-length-17 t c = c .before .before .cases .kept .1 .1 .1 .1 .0
+node-same-length-17 t c = c .before .before .case .kept .1 .1 .1 .1 .0
 
 node-returns-17 : (t : ℕ) → node-lts.Need-returns-17 (
   is-copied-reads.Asked,
@@ -9161,8 +9676,8 @@ node-returns-17 : (t : ℕ) → node-lts.Need-returns-17 (
   file.Post,
   queries-below t,
   queries.Post,
-  query-below t,
-  query.Post,
+  sel-stmt-below t,
+  sel-stmt.Post,
   select-below t,
   select.Post,
   simple-below t,
@@ -9171,49 +9686,49 @@ node-returns-17 : (t : ℕ) → node-lts.Need-returns-17 (
   list-by.Post,
   settings-below t,
   settings.Post,
-  with-of-below t,
-  with-of.Post,
+  with-below t,
+  with.Post,
   join-below t,
   join.Post,
   inline-below t,
   inline.Post,
-  commas-below t,
-  commas.Post,
-  row-below t,
-  row.Post,
+  comma-below t,
+  comma.Post,
+  inl-list-below t,
+  inl-list.Post,
   binary-below t,
   binary.Post,
   unary-below t,
   unary.Post,
   call-below t,
   call.Post,
-  cases-below t,
-  cases.Post,
-  when-of-below t,
-  when-of.Post,
+  case-below t,
+  case.Post,
+  when-below t,
+  when.Post,
   subquery-below t,
   subquery.Post,
-  parens-below t,
-  parens.Post,
-  brackets-below t,
-  brackets.Post,
-  solid-below t,
-  solid.Post,
-  braces-below t,
-  braces.Post,
-  types-below t,
-  types.Post,
-  tight-below t,
-  tight.Post,
+  paren-below t,
+  paren.Post,
+  bracket-below t,
+  bracket.Post,
+  no-spaces-below t,
+  no-spaces.Post,
+  brace-below t,
+  brace.Post,
+  dtype-below t,
+  dtype.Post,
+  tight-paren-below t,
+  tight-paren.Post,
   alter-below t,
   alter.Post,
-  unions-below t,
-  unions.Post,
+  union-below t,
+  union.Post,
   pass-below t,
   pass.Post,
 ) (node-at t) node.Post
 unfolding armsOf
-node-returns-17 t c = node-by the-variants.CaseExpression (c .before .before .before .before .before .before .before .before .before .before .before .pre .1 .1) (⊎-elim (λ w. scanned-as (w .1 .ensures) (w .2 .left)) (λ w. clean-node (c .before .before .before .before .before .before .before .before .before .before .before .pre .1 .0) (c .before .before .before .before .before .before .before .before .before .before .before .pre .1 .1) (w .left)) (c .before .before .before .before .before .before .before .if1 .came)) (sym (c .before .before .before .before .enum-told15 .given .1) ∙ c .before .before .before .before .before .before .routine-of .ensures) (c .before .before .cases .ensures)
+node-returns-17 t c = node-by the-variants.CaseExpression (c .before .before .before .before .before .before .before .before .before .before .before .pre .1 .1) (⊎-elim (λ w. scanned-as (w .1 .ensures) (w .2 .left)) (λ w. clean-node (c .before .before .before .before .before .before .before .before .before .before .before .pre .1 .0) (c .before .before .before .before .before .before .before .before .before .before .before .pre .1 .1) (w .left)) (c .before .before .before .before .before .before .before .if1 .came)) (sym (c .before .before .before .before .enum-told15 .given .1) ∙ c .before .before .before .before .before .before .routine-of .ensures) (c .before .before .case .ensures)
 
 node-same-length-18 : (t : ℕ) → node-lts.Need-same-length-18 (
   is-copied-reads.Asked,
@@ -9230,8 +9745,8 @@ node-same-length-18 : (t : ℕ) → node-lts.Need-same-length-18 (
   file.Post,
   queries-below t,
   queries.Post,
-  query-below t,
-  query.Post,
+  sel-stmt-below t,
+  sel-stmt.Post,
   select-below t,
   select.Post,
   simple-below t,
@@ -9240,48 +9755,48 @@ node-same-length-18 : (t : ℕ) → node-lts.Need-same-length-18 (
   list-by.Post,
   settings-below t,
   settings.Post,
-  with-of-below t,
-  with-of.Post,
+  with-below t,
+  with.Post,
   join-below t,
   join.Post,
   inline-below t,
   inline.Post,
-  commas-below t,
-  commas.Post,
-  row-below t,
-  row.Post,
+  comma-below t,
+  comma.Post,
+  inl-list-below t,
+  inl-list.Post,
   binary-below t,
   binary.Post,
   unary-below t,
   unary.Post,
   call-below t,
   call.Post,
-  cases-below t,
-  cases.Post,
-  when-of-below t,
-  when-of.Post,
+  case-below t,
+  case.Post,
+  when-below t,
+  when.Post,
   subquery-below t,
   subquery.Post,
-  parens-below t,
-  parens.Post,
-  brackets-below t,
-  brackets.Post,
-  solid-below t,
-  solid.Post,
-  braces-below t,
-  braces.Post,
-  types-below t,
-  types.Post,
-  tight-below t,
-  tight.Post,
+  paren-below t,
+  paren.Post,
+  bracket-below t,
+  bracket.Post,
+  no-spaces-below t,
+  no-spaces.Post,
+  brace-below t,
+  brace.Post,
+  dtype-below t,
+  dtype.Post,
+  tight-paren-below t,
+  tight-paren.Post,
   alter-below t,
   alter.Post,
-  unions-below t,
-  unions.Post,
+  union-below t,
+  union.Post,
   pass-below t,
   pass.Post,
 ) (node-at t) node.Post
-node-same-length-18 t c = c .before .before .when-of .kept .1 .1 .1 .1 .0
+node-same-length-18 t c = c .before .before .when .kept .1 .1 .1 .1 .0
 
 node-returns-18 : (t : ℕ) → node-lts.Need-returns-18 (
   is-copied-reads.Asked,
@@ -9298,8 +9813,8 @@ node-returns-18 : (t : ℕ) → node-lts.Need-returns-18 (
   file.Post,
   queries-below t,
   queries.Post,
-  query-below t,
-  query.Post,
+  sel-stmt-below t,
+  sel-stmt.Post,
   select-below t,
   select.Post,
   simple-below t,
@@ -9308,49 +9823,49 @@ node-returns-18 : (t : ℕ) → node-lts.Need-returns-18 (
   list-by.Post,
   settings-below t,
   settings.Post,
-  with-of-below t,
-  with-of.Post,
+  with-below t,
+  with.Post,
   join-below t,
   join.Post,
   inline-below t,
   inline.Post,
-  commas-below t,
-  commas.Post,
-  row-below t,
-  row.Post,
+  comma-below t,
+  comma.Post,
+  inl-list-below t,
+  inl-list.Post,
   binary-below t,
   binary.Post,
   unary-below t,
   unary.Post,
   call-below t,
   call.Post,
-  cases-below t,
-  cases.Post,
-  when-of-below t,
-  when-of.Post,
+  case-below t,
+  case.Post,
+  when-below t,
+  when.Post,
   subquery-below t,
   subquery.Post,
-  parens-below t,
-  parens.Post,
-  brackets-below t,
-  brackets.Post,
-  solid-below t,
-  solid.Post,
-  braces-below t,
-  braces.Post,
-  types-below t,
-  types.Post,
-  tight-below t,
-  tight.Post,
+  paren-below t,
+  paren.Post,
+  bracket-below t,
+  bracket.Post,
+  no-spaces-below t,
+  no-spaces.Post,
+  brace-below t,
+  brace.Post,
+  dtype-below t,
+  dtype.Post,
+  tight-paren-below t,
+  tight-paren.Post,
   alter-below t,
   alter.Post,
-  unions-below t,
-  unions.Post,
+  union-below t,
+  union.Post,
   pass-below t,
   pass.Post,
 ) (node-at t) node.Post
 unfolding armsOf
-node-returns-18 t c = node-by the-variants.WhenClause (c .before .before .before .before .before .before .before .before .before .before .before .pre .1 .1) (⊎-elim (λ w. scanned-as (w .1 .ensures) (w .2 .left)) (λ w. clean-node (c .before .before .before .before .before .before .before .before .before .before .before .pre .1 .0) (c .before .before .before .before .before .before .before .before .before .before .before .pre .1 .1) (w .left)) (c .before .before .before .before .before .before .before .if1 .came)) (sym (c .before .before .before .before .enum-told16 .given .1) ∙ c .before .before .before .before .before .before .routine-of .ensures) (c .before .before .when-of .ensures)
+node-returns-18 t c = node-by the-variants.WhenClause (c .before .before .before .before .before .before .before .before .before .before .before .pre .1 .1) (⊎-elim (λ w. scanned-as (w .1 .ensures) (w .2 .left)) (λ w. clean-node (c .before .before .before .before .before .before .before .before .before .before .before .pre .1 .0) (c .before .before .before .before .before .before .before .before .before .before .before .pre .1 .1) (w .left)) (c .before .before .before .before .before .before .before .if1 .came)) (sym (c .before .before .before .before .enum-told16 .given .1) ∙ c .before .before .before .before .before .before .routine-of .ensures) (c .before .before .when .ensures)
 
 node-same-length-19 : (t : ℕ) → node-lts.Need-same-length-19 (
   is-copied-reads.Asked,
@@ -9367,8 +9882,8 @@ node-same-length-19 : (t : ℕ) → node-lts.Need-same-length-19 (
   file.Post,
   queries-below t,
   queries.Post,
-  query-below t,
-  query.Post,
+  sel-stmt-below t,
+  sel-stmt.Post,
   select-below t,
   select.Post,
   simple-below t,
@@ -9377,44 +9892,44 @@ node-same-length-19 : (t : ℕ) → node-lts.Need-same-length-19 (
   list-by.Post,
   settings-below t,
   settings.Post,
-  with-of-below t,
-  with-of.Post,
+  with-below t,
+  with.Post,
   join-below t,
   join.Post,
   inline-below t,
   inline.Post,
-  commas-below t,
-  commas.Post,
-  row-below t,
-  row.Post,
+  comma-below t,
+  comma.Post,
+  inl-list-below t,
+  inl-list.Post,
   binary-below t,
   binary.Post,
   unary-below t,
   unary.Post,
   call-below t,
   call.Post,
-  cases-below t,
-  cases.Post,
-  when-of-below t,
-  when-of.Post,
+  case-below t,
+  case.Post,
+  when-below t,
+  when.Post,
   subquery-below t,
   subquery.Post,
-  parens-below t,
-  parens.Post,
-  brackets-below t,
-  brackets.Post,
-  solid-below t,
-  solid.Post,
-  braces-below t,
-  braces.Post,
-  types-below t,
-  types.Post,
-  tight-below t,
-  tight.Post,
+  paren-below t,
+  paren.Post,
+  bracket-below t,
+  bracket.Post,
+  no-spaces-below t,
+  no-spaces.Post,
+  brace-below t,
+  brace.Post,
+  dtype-below t,
+  dtype.Post,
+  tight-paren-below t,
+  tight-paren.Post,
   alter-below t,
   alter.Post,
-  unions-below t,
-  unions.Post,
+  union-below t,
+  union.Post,
   pass-below t,
   pass.Post,
 ) (node-at t) node.Post
@@ -9435,8 +9950,8 @@ node-returns-19 : (t : ℕ) → node-lts.Need-returns-19 (
   file.Post,
   queries-below t,
   queries.Post,
-  query-below t,
-  query.Post,
+  sel-stmt-below t,
+  sel-stmt.Post,
   select-below t,
   select.Post,
   simple-below t,
@@ -9445,44 +9960,44 @@ node-returns-19 : (t : ℕ) → node-lts.Need-returns-19 (
   list-by.Post,
   settings-below t,
   settings.Post,
-  with-of-below t,
-  with-of.Post,
+  with-below t,
+  with.Post,
   join-below t,
   join.Post,
   inline-below t,
   inline.Post,
-  commas-below t,
-  commas.Post,
-  row-below t,
-  row.Post,
+  comma-below t,
+  comma.Post,
+  inl-list-below t,
+  inl-list.Post,
   binary-below t,
   binary.Post,
   unary-below t,
   unary.Post,
   call-below t,
   call.Post,
-  cases-below t,
-  cases.Post,
-  when-of-below t,
-  when-of.Post,
+  case-below t,
+  case.Post,
+  when-below t,
+  when.Post,
   subquery-below t,
   subquery.Post,
-  parens-below t,
-  parens.Post,
-  brackets-below t,
-  brackets.Post,
-  solid-below t,
-  solid.Post,
-  braces-below t,
-  braces.Post,
-  types-below t,
-  types.Post,
-  tight-below t,
-  tight.Post,
+  paren-below t,
+  paren.Post,
+  bracket-below t,
+  bracket.Post,
+  no-spaces-below t,
+  no-spaces.Post,
+  brace-below t,
+  brace.Post,
+  dtype-below t,
+  dtype.Post,
+  tight-paren-below t,
+  tight-paren.Post,
   alter-below t,
   alter.Post,
-  unions-below t,
-  unions.Post,
+  union-below t,
+  union.Post,
   pass-below t,
   pass.Post,
 ) (node-at t) node.Post
@@ -9504,8 +10019,8 @@ node-same-length-20 : (t : ℕ) → node-lts.Need-same-length-20 (
   file.Post,
   queries-below t,
   queries.Post,
-  query-below t,
-  query.Post,
+  sel-stmt-below t,
+  sel-stmt.Post,
   select-below t,
   select.Post,
   simple-below t,
@@ -9514,48 +10029,48 @@ node-same-length-20 : (t : ℕ) → node-lts.Need-same-length-20 (
   list-by.Post,
   settings-below t,
   settings.Post,
-  with-of-below t,
-  with-of.Post,
+  with-below t,
+  with.Post,
   join-below t,
   join.Post,
   inline-below t,
   inline.Post,
-  commas-below t,
-  commas.Post,
-  row-below t,
-  row.Post,
+  comma-below t,
+  comma.Post,
+  inl-list-below t,
+  inl-list.Post,
   binary-below t,
   binary.Post,
   unary-below t,
   unary.Post,
   call-below t,
   call.Post,
-  cases-below t,
-  cases.Post,
-  when-of-below t,
-  when-of.Post,
+  case-below t,
+  case.Post,
+  when-below t,
+  when.Post,
   subquery-below t,
   subquery.Post,
-  parens-below t,
-  parens.Post,
-  brackets-below t,
-  brackets.Post,
-  solid-below t,
-  solid.Post,
-  braces-below t,
-  braces.Post,
-  types-below t,
-  types.Post,
-  tight-below t,
-  tight.Post,
+  paren-below t,
+  paren.Post,
+  bracket-below t,
+  bracket.Post,
+  no-spaces-below t,
+  no-spaces.Post,
+  brace-below t,
+  brace.Post,
+  dtype-below t,
+  dtype.Post,
+  tight-paren-below t,
+  tight-paren.Post,
   alter-below t,
   alter.Post,
-  unions-below t,
-  unions.Post,
+  union-below t,
+  union.Post,
   pass-below t,
   pass.Post,
 ) (node-at t) node.Post
-node-same-length-20 t c = c .before .before .parens .kept .1 .1 .1 .1 .0
+node-same-length-20 t c = c .before .before .paren .kept .1 .1 .1 .1 .0
 
 node-returns-20 : (t : ℕ) → node-lts.Need-returns-20 (
   is-copied-reads.Asked,
@@ -9572,8 +10087,8 @@ node-returns-20 : (t : ℕ) → node-lts.Need-returns-20 (
   file.Post,
   queries-below t,
   queries.Post,
-  query-below t,
-  query.Post,
+  sel-stmt-below t,
+  sel-stmt.Post,
   select-below t,
   select.Post,
   simple-below t,
@@ -9582,49 +10097,49 @@ node-returns-20 : (t : ℕ) → node-lts.Need-returns-20 (
   list-by.Post,
   settings-below t,
   settings.Post,
-  with-of-below t,
-  with-of.Post,
+  with-below t,
+  with.Post,
   join-below t,
   join.Post,
   inline-below t,
   inline.Post,
-  commas-below t,
-  commas.Post,
-  row-below t,
-  row.Post,
+  comma-below t,
+  comma.Post,
+  inl-list-below t,
+  inl-list.Post,
   binary-below t,
   binary.Post,
   unary-below t,
   unary.Post,
   call-below t,
   call.Post,
-  cases-below t,
-  cases.Post,
-  when-of-below t,
-  when-of.Post,
+  case-below t,
+  case.Post,
+  when-below t,
+  when.Post,
   subquery-below t,
   subquery.Post,
-  parens-below t,
-  parens.Post,
-  brackets-below t,
-  brackets.Post,
-  solid-below t,
-  solid.Post,
-  braces-below t,
-  braces.Post,
-  types-below t,
-  types.Post,
-  tight-below t,
-  tight.Post,
+  paren-below t,
+  paren.Post,
+  bracket-below t,
+  bracket.Post,
+  no-spaces-below t,
+  no-spaces.Post,
+  brace-below t,
+  brace.Post,
+  dtype-below t,
+  dtype.Post,
+  tight-paren-below t,
+  tight-paren.Post,
   alter-below t,
   alter.Post,
-  unions-below t,
-  unions.Post,
+  union-below t,
+  union.Post,
   pass-below t,
   pass.Post,
 ) (node-at t) node.Post
 unfolding armsOf
-node-returns-20 t c = node-by the-variants.ParenList (c .before .before .before .before .before .before .before .before .before .before .before .pre .1 .1) (⊎-elim (λ w. scanned-as (w .1 .ensures) (w .2 .left)) (λ w. clean-node (c .before .before .before .before .before .before .before .before .before .before .before .pre .1 .0) (c .before .before .before .before .before .before .before .before .before .before .before .pre .1 .1) (w .left)) (c .before .before .before .before .before .before .before .if1 .came)) (sym (c .before .before .before .before .enum-told18 .given .1) ∙ c .before .before .before .before .before .before .routine-of .ensures) (c .before .before .parens .ensures)
+node-returns-20 t c = node-by the-variants.ParenList (c .before .before .before .before .before .before .before .before .before .before .before .pre .1 .1) (⊎-elim (λ w. scanned-as (w .1 .ensures) (w .2 .left)) (λ w. clean-node (c .before .before .before .before .before .before .before .before .before .before .before .pre .1 .0) (c .before .before .before .before .before .before .before .before .before .before .before .pre .1 .1) (w .left)) (c .before .before .before .before .before .before .before .if1 .came)) (sym (c .before .before .before .before .enum-told18 .given .1) ∙ c .before .before .before .before .before .before .routine-of .ensures) (c .before .before .paren .ensures)
 
 node-same-length-21 : (t : ℕ) → node-lts.Need-same-length-21 (
   is-copied-reads.Asked,
@@ -9641,8 +10156,8 @@ node-same-length-21 : (t : ℕ) → node-lts.Need-same-length-21 (
   file.Post,
   queries-below t,
   queries.Post,
-  query-below t,
-  query.Post,
+  sel-stmt-below t,
+  sel-stmt.Post,
   select-below t,
   select.Post,
   simple-below t,
@@ -9651,48 +10166,48 @@ node-same-length-21 : (t : ℕ) → node-lts.Need-same-length-21 (
   list-by.Post,
   settings-below t,
   settings.Post,
-  with-of-below t,
-  with-of.Post,
+  with-below t,
+  with.Post,
   join-below t,
   join.Post,
   inline-below t,
   inline.Post,
-  commas-below t,
-  commas.Post,
-  row-below t,
-  row.Post,
+  comma-below t,
+  comma.Post,
+  inl-list-below t,
+  inl-list.Post,
   binary-below t,
   binary.Post,
   unary-below t,
   unary.Post,
   call-below t,
   call.Post,
-  cases-below t,
-  cases.Post,
-  when-of-below t,
-  when-of.Post,
+  case-below t,
+  case.Post,
+  when-below t,
+  when.Post,
   subquery-below t,
   subquery.Post,
-  parens-below t,
-  parens.Post,
-  brackets-below t,
-  brackets.Post,
-  solid-below t,
-  solid.Post,
-  braces-below t,
-  braces.Post,
-  types-below t,
-  types.Post,
-  tight-below t,
-  tight.Post,
+  paren-below t,
+  paren.Post,
+  bracket-below t,
+  bracket.Post,
+  no-spaces-below t,
+  no-spaces.Post,
+  brace-below t,
+  brace.Post,
+  dtype-below t,
+  dtype.Post,
+  tight-paren-below t,
+  tight-paren.Post,
   alter-below t,
   alter.Post,
-  unions-below t,
-  unions.Post,
+  union-below t,
+  union.Post,
   pass-below t,
   pass.Post,
 ) (node-at t) node.Post
-node-same-length-21 t c = c .before .before .brackets .kept .1 .1 .1 .1 .0
+node-same-length-21 t c = c .before .before .bracket .kept .1 .1 .1 .1 .0
 
 node-returns-21 : (t : ℕ) → node-lts.Need-returns-21 (
   is-copied-reads.Asked,
@@ -9709,8 +10224,8 @@ node-returns-21 : (t : ℕ) → node-lts.Need-returns-21 (
   file.Post,
   queries-below t,
   queries.Post,
-  query-below t,
-  query.Post,
+  sel-stmt-below t,
+  sel-stmt.Post,
   select-below t,
   select.Post,
   simple-below t,
@@ -9719,49 +10234,49 @@ node-returns-21 : (t : ℕ) → node-lts.Need-returns-21 (
   list-by.Post,
   settings-below t,
   settings.Post,
-  with-of-below t,
-  with-of.Post,
+  with-below t,
+  with.Post,
   join-below t,
   join.Post,
   inline-below t,
   inline.Post,
-  commas-below t,
-  commas.Post,
-  row-below t,
-  row.Post,
+  comma-below t,
+  comma.Post,
+  inl-list-below t,
+  inl-list.Post,
   binary-below t,
   binary.Post,
   unary-below t,
   unary.Post,
   call-below t,
   call.Post,
-  cases-below t,
-  cases.Post,
-  when-of-below t,
-  when-of.Post,
+  case-below t,
+  case.Post,
+  when-below t,
+  when.Post,
   subquery-below t,
   subquery.Post,
-  parens-below t,
-  parens.Post,
-  brackets-below t,
-  brackets.Post,
-  solid-below t,
-  solid.Post,
-  braces-below t,
-  braces.Post,
-  types-below t,
-  types.Post,
-  tight-below t,
-  tight.Post,
+  paren-below t,
+  paren.Post,
+  bracket-below t,
+  bracket.Post,
+  no-spaces-below t,
+  no-spaces.Post,
+  brace-below t,
+  brace.Post,
+  dtype-below t,
+  dtype.Post,
+  tight-paren-below t,
+  tight-paren.Post,
   alter-below t,
   alter.Post,
-  unions-below t,
-  unions.Post,
+  union-below t,
+  union.Post,
   pass-below t,
   pass.Post,
 ) (node-at t) node.Post
 unfolding armsOf
-node-returns-21 t c = node-by the-variants.BracketList (c .before .before .before .before .before .before .before .before .before .before .before .pre .1 .1) (⊎-elim (λ w. scanned-as (w .1 .ensures) (w .2 .left)) (λ w. clean-node (c .before .before .before .before .before .before .before .before .before .before .before .pre .1 .0) (c .before .before .before .before .before .before .before .before .before .before .before .pre .1 .1) (w .left)) (c .before .before .before .before .before .before .before .if1 .came)) (sym (c .before .before .before .before .enum-told19 .given .1) ∙ c .before .before .before .before .before .before .routine-of .ensures) (c .before .before .brackets .ensures)
+node-returns-21 t c = node-by the-variants.BracketList (c .before .before .before .before .before .before .before .before .before .before .before .pre .1 .1) (⊎-elim (λ w. scanned-as (w .1 .ensures) (w .2 .left)) (λ w. clean-node (c .before .before .before .before .before .before .before .before .before .before .before .pre .1 .0) (c .before .before .before .before .before .before .before .before .before .before .before .pre .1 .1) (w .left)) (c .before .before .before .before .before .before .before .if1 .came)) (sym (c .before .before .before .before .enum-told19 .given .1) ∙ c .before .before .before .before .before .before .routine-of .ensures) (c .before .before .bracket .ensures)
 
 node-same-length-22 : (t : ℕ) → node-lts.Need-same-length-22 (
   is-copied-reads.Asked,
@@ -9778,8 +10293,8 @@ node-same-length-22 : (t : ℕ) → node-lts.Need-same-length-22 (
   file.Post,
   queries-below t,
   queries.Post,
-  query-below t,
-  query.Post,
+  sel-stmt-below t,
+  sel-stmt.Post,
   select-below t,
   select.Post,
   simple-below t,
@@ -9788,48 +10303,48 @@ node-same-length-22 : (t : ℕ) → node-lts.Need-same-length-22 (
   list-by.Post,
   settings-below t,
   settings.Post,
-  with-of-below t,
-  with-of.Post,
+  with-below t,
+  with.Post,
   join-below t,
   join.Post,
   inline-below t,
   inline.Post,
-  commas-below t,
-  commas.Post,
-  row-below t,
-  row.Post,
+  comma-below t,
+  comma.Post,
+  inl-list-below t,
+  inl-list.Post,
   binary-below t,
   binary.Post,
   unary-below t,
   unary.Post,
   call-below t,
   call.Post,
-  cases-below t,
-  cases.Post,
-  when-of-below t,
-  when-of.Post,
+  case-below t,
+  case.Post,
+  when-below t,
+  when.Post,
   subquery-below t,
   subquery.Post,
-  parens-below t,
-  parens.Post,
-  brackets-below t,
-  brackets.Post,
-  solid-below t,
-  solid.Post,
-  braces-below t,
-  braces.Post,
-  types-below t,
-  types.Post,
-  tight-below t,
-  tight.Post,
+  paren-below t,
+  paren.Post,
+  bracket-below t,
+  bracket.Post,
+  no-spaces-below t,
+  no-spaces.Post,
+  brace-below t,
+  brace.Post,
+  dtype-below t,
+  dtype.Post,
+  tight-paren-below t,
+  tight-paren.Post,
   alter-below t,
   alter.Post,
-  unions-below t,
-  unions.Post,
+  union-below t,
+  union.Post,
   pass-below t,
   pass.Post,
 ) (node-at t) node.Post
-node-same-length-22 t c = c .before .before .solid .kept .1 .1 .1 .1 .0
+node-same-length-22 t c = c .before .before .no-spaces .kept .1 .1 .1 .1 .0
 
 node-returns-22 : (t : ℕ) → node-lts.Need-returns-22 (
   is-copied-reads.Asked,
@@ -9846,8 +10361,8 @@ node-returns-22 : (t : ℕ) → node-lts.Need-returns-22 (
   file.Post,
   queries-below t,
   queries.Post,
-  query-below t,
-  query.Post,
+  sel-stmt-below t,
+  sel-stmt.Post,
   select-below t,
   select.Post,
   simple-below t,
@@ -9856,49 +10371,49 @@ node-returns-22 : (t : ℕ) → node-lts.Need-returns-22 (
   list-by.Post,
   settings-below t,
   settings.Post,
-  with-of-below t,
-  with-of.Post,
+  with-below t,
+  with.Post,
   join-below t,
   join.Post,
   inline-below t,
   inline.Post,
-  commas-below t,
-  commas.Post,
-  row-below t,
-  row.Post,
+  comma-below t,
+  comma.Post,
+  inl-list-below t,
+  inl-list.Post,
   binary-below t,
   binary.Post,
   unary-below t,
   unary.Post,
   call-below t,
   call.Post,
-  cases-below t,
-  cases.Post,
-  when-of-below t,
-  when-of.Post,
+  case-below t,
+  case.Post,
+  when-below t,
+  when.Post,
   subquery-below t,
   subquery.Post,
-  parens-below t,
-  parens.Post,
-  brackets-below t,
-  brackets.Post,
-  solid-below t,
-  solid.Post,
-  braces-below t,
-  braces.Post,
-  types-below t,
-  types.Post,
-  tight-below t,
-  tight.Post,
+  paren-below t,
+  paren.Post,
+  bracket-below t,
+  bracket.Post,
+  no-spaces-below t,
+  no-spaces.Post,
+  brace-below t,
+  brace.Post,
+  dtype-below t,
+  dtype.Post,
+  tight-paren-below t,
+  tight-paren.Post,
   alter-below t,
   alter.Post,
-  unions-below t,
-  unions.Post,
+  union-below t,
+  union.Post,
   pass-below t,
   pass.Post,
 ) (node-at t) node.Post
 unfolding armsOf
-node-returns-22 t c = node-by the-variants.InlineNoSpaces (c .before .before .before .before .before .before .before .before .before .before .before .pre .1 .1) (⊎-elim (λ w. scanned-as (w .1 .ensures) (w .2 .left)) (λ w. clean-node (c .before .before .before .before .before .before .before .before .before .before .before .pre .1 .0) (c .before .before .before .before .before .before .before .before .before .before .before .pre .1 .1) (w .left)) (c .before .before .before .before .before .before .before .if1 .came)) (sym (c .before .before .before .before .enum-told20 .given .1) ∙ c .before .before .before .before .before .before .routine-of .ensures) (c .before .before .solid .ensures)
+node-returns-22 t c = node-by the-variants.InlineNoSpaces (c .before .before .before .before .before .before .before .before .before .before .before .pre .1 .1) (⊎-elim (λ w. scanned-as (w .1 .ensures) (w .2 .left)) (λ w. clean-node (c .before .before .before .before .before .before .before .before .before .before .before .pre .1 .0) (c .before .before .before .before .before .before .before .before .before .before .before .pre .1 .1) (w .left)) (c .before .before .before .before .before .before .before .if1 .came)) (sym (c .before .before .before .before .enum-told20 .given .1) ∙ c .before .before .before .before .before .before .routine-of .ensures) (c .before .before .no-spaces .ensures)
 
 node-same-length-23 : (t : ℕ) → node-lts.Need-same-length-23 (
   is-copied-reads.Asked,
@@ -9915,8 +10430,8 @@ node-same-length-23 : (t : ℕ) → node-lts.Need-same-length-23 (
   file.Post,
   queries-below t,
   queries.Post,
-  query-below t,
-  query.Post,
+  sel-stmt-below t,
+  sel-stmt.Post,
   select-below t,
   select.Post,
   simple-below t,
@@ -9925,48 +10440,48 @@ node-same-length-23 : (t : ℕ) → node-lts.Need-same-length-23 (
   list-by.Post,
   settings-below t,
   settings.Post,
-  with-of-below t,
-  with-of.Post,
+  with-below t,
+  with.Post,
   join-below t,
   join.Post,
   inline-below t,
   inline.Post,
-  commas-below t,
-  commas.Post,
-  row-below t,
-  row.Post,
+  comma-below t,
+  comma.Post,
+  inl-list-below t,
+  inl-list.Post,
   binary-below t,
   binary.Post,
   unary-below t,
   unary.Post,
   call-below t,
   call.Post,
-  cases-below t,
-  cases.Post,
-  when-of-below t,
-  when-of.Post,
+  case-below t,
+  case.Post,
+  when-below t,
+  when.Post,
   subquery-below t,
   subquery.Post,
-  parens-below t,
-  parens.Post,
-  brackets-below t,
-  brackets.Post,
-  solid-below t,
-  solid.Post,
-  braces-below t,
-  braces.Post,
-  types-below t,
-  types.Post,
-  tight-below t,
-  tight.Post,
+  paren-below t,
+  paren.Post,
+  bracket-below t,
+  bracket.Post,
+  no-spaces-below t,
+  no-spaces.Post,
+  brace-below t,
+  brace.Post,
+  dtype-below t,
+  dtype.Post,
+  tight-paren-below t,
+  tight-paren.Post,
   alter-below t,
   alter.Post,
-  unions-below t,
-  unions.Post,
+  union-below t,
+  union.Post,
   pass-below t,
   pass.Post,
 ) (node-at t) node.Post
-node-same-length-23 t c = c .before .before .braces .kept .1 .1 .1 .1 .0
+node-same-length-23 t c = c .before .before .brace .kept .1 .1 .1 .1 .0
 
 node-returns-23 : (t : ℕ) → node-lts.Need-returns-23 (
   is-copied-reads.Asked,
@@ -9983,8 +10498,8 @@ node-returns-23 : (t : ℕ) → node-lts.Need-returns-23 (
   file.Post,
   queries-below t,
   queries.Post,
-  query-below t,
-  query.Post,
+  sel-stmt-below t,
+  sel-stmt.Post,
   select-below t,
   select.Post,
   simple-below t,
@@ -9993,49 +10508,49 @@ node-returns-23 : (t : ℕ) → node-lts.Need-returns-23 (
   list-by.Post,
   settings-below t,
   settings.Post,
-  with-of-below t,
-  with-of.Post,
+  with-below t,
+  with.Post,
   join-below t,
   join.Post,
   inline-below t,
   inline.Post,
-  commas-below t,
-  commas.Post,
-  row-below t,
-  row.Post,
+  comma-below t,
+  comma.Post,
+  inl-list-below t,
+  inl-list.Post,
   binary-below t,
   binary.Post,
   unary-below t,
   unary.Post,
   call-below t,
   call.Post,
-  cases-below t,
-  cases.Post,
-  when-of-below t,
-  when-of.Post,
+  case-below t,
+  case.Post,
+  when-below t,
+  when.Post,
   subquery-below t,
   subquery.Post,
-  parens-below t,
-  parens.Post,
-  brackets-below t,
-  brackets.Post,
-  solid-below t,
-  solid.Post,
-  braces-below t,
-  braces.Post,
-  types-below t,
-  types.Post,
-  tight-below t,
-  tight.Post,
+  paren-below t,
+  paren.Post,
+  bracket-below t,
+  bracket.Post,
+  no-spaces-below t,
+  no-spaces.Post,
+  brace-below t,
+  brace.Post,
+  dtype-below t,
+  dtype.Post,
+  tight-paren-below t,
+  tight-paren.Post,
   alter-below t,
   alter.Post,
-  unions-below t,
-  unions.Post,
+  union-below t,
+  union.Post,
   pass-below t,
   pass.Post,
 ) (node-at t) node.Post
 unfolding armsOf
-node-returns-23 t c = node-by the-variants.BraceList (c .before .before .before .before .before .before .before .before .before .before .before .pre .1 .1) (⊎-elim (λ w. scanned-as (w .1 .ensures) (w .2 .left)) (λ w. clean-node (c .before .before .before .before .before .before .before .before .before .before .before .pre .1 .0) (c .before .before .before .before .before .before .before .before .before .before .before .pre .1 .1) (w .left)) (c .before .before .before .before .before .before .before .if1 .came)) (sym (c .before .before .before .before .enum-told21 .given .1) ∙ c .before .before .before .before .before .before .routine-of .ensures) (c .before .before .braces .ensures)
+node-returns-23 t c = node-by the-variants.BraceList (c .before .before .before .before .before .before .before .before .before .before .before .pre .1 .1) (⊎-elim (λ w. scanned-as (w .1 .ensures) (w .2 .left)) (λ w. clean-node (c .before .before .before .before .before .before .before .before .before .before .before .pre .1 .0) (c .before .before .before .before .before .before .before .before .before .before .before .pre .1 .1) (w .left)) (c .before .before .before .before .before .before .before .if1 .came)) (sym (c .before .before .before .before .enum-told21 .given .1) ∙ c .before .before .before .before .before .before .routine-of .ensures) (c .before .before .brace .ensures)
 
 node-same-length-24 : (t : ℕ) → node-lts.Need-same-length-24 (
   is-copied-reads.Asked,
@@ -10052,8 +10567,8 @@ node-same-length-24 : (t : ℕ) → node-lts.Need-same-length-24 (
   file.Post,
   queries-below t,
   queries.Post,
-  query-below t,
-  query.Post,
+  sel-stmt-below t,
+  sel-stmt.Post,
   select-below t,
   select.Post,
   simple-below t,
@@ -10062,48 +10577,48 @@ node-same-length-24 : (t : ℕ) → node-lts.Need-same-length-24 (
   list-by.Post,
   settings-below t,
   settings.Post,
-  with-of-below t,
-  with-of.Post,
+  with-below t,
+  with.Post,
   join-below t,
   join.Post,
   inline-below t,
   inline.Post,
-  commas-below t,
-  commas.Post,
-  row-below t,
-  row.Post,
+  comma-below t,
+  comma.Post,
+  inl-list-below t,
+  inl-list.Post,
   binary-below t,
   binary.Post,
   unary-below t,
   unary.Post,
   call-below t,
   call.Post,
-  cases-below t,
-  cases.Post,
-  when-of-below t,
-  when-of.Post,
+  case-below t,
+  case.Post,
+  when-below t,
+  when.Post,
   subquery-below t,
   subquery.Post,
-  parens-below t,
-  parens.Post,
-  brackets-below t,
-  brackets.Post,
-  solid-below t,
-  solid.Post,
-  braces-below t,
-  braces.Post,
-  types-below t,
-  types.Post,
-  tight-below t,
-  tight.Post,
+  paren-below t,
+  paren.Post,
+  bracket-below t,
+  bracket.Post,
+  no-spaces-below t,
+  no-spaces.Post,
+  brace-below t,
+  brace.Post,
+  dtype-below t,
+  dtype.Post,
+  tight-paren-below t,
+  tight-paren.Post,
   alter-below t,
   alter.Post,
-  unions-below t,
-  unions.Post,
+  union-below t,
+  union.Post,
   pass-below t,
   pass.Post,
 ) (node-at t) node.Post
-node-same-length-24 t c = c .before .before .types .kept .1 .1 .1 .1 .0
+node-same-length-24 t c = c .before .before .dtype .kept .1 .1 .1 .1 .0
 
 node-returns-24 : (t : ℕ) → node-lts.Need-returns-24 (
   is-copied-reads.Asked,
@@ -10120,8 +10635,8 @@ node-returns-24 : (t : ℕ) → node-lts.Need-returns-24 (
   file.Post,
   queries-below t,
   queries.Post,
-  query-below t,
-  query.Post,
+  sel-stmt-below t,
+  sel-stmt.Post,
   select-below t,
   select.Post,
   simple-below t,
@@ -10130,49 +10645,49 @@ node-returns-24 : (t : ℕ) → node-lts.Need-returns-24 (
   list-by.Post,
   settings-below t,
   settings.Post,
-  with-of-below t,
-  with-of.Post,
+  with-below t,
+  with.Post,
   join-below t,
   join.Post,
   inline-below t,
   inline.Post,
-  commas-below t,
-  commas.Post,
-  row-below t,
-  row.Post,
+  comma-below t,
+  comma.Post,
+  inl-list-below t,
+  inl-list.Post,
   binary-below t,
   binary.Post,
   unary-below t,
   unary.Post,
   call-below t,
   call.Post,
-  cases-below t,
-  cases.Post,
-  when-of-below t,
-  when-of.Post,
+  case-below t,
+  case.Post,
+  when-below t,
+  when.Post,
   subquery-below t,
   subquery.Post,
-  parens-below t,
-  parens.Post,
-  brackets-below t,
-  brackets.Post,
-  solid-below t,
-  solid.Post,
-  braces-below t,
-  braces.Post,
-  types-below t,
-  types.Post,
-  tight-below t,
-  tight.Post,
+  paren-below t,
+  paren.Post,
+  bracket-below t,
+  bracket.Post,
+  no-spaces-below t,
+  no-spaces.Post,
+  brace-below t,
+  brace.Post,
+  dtype-below t,
+  dtype.Post,
+  tight-paren-below t,
+  tight-paren.Post,
   alter-below t,
   alter.Post,
-  unions-below t,
-  unions.Post,
+  union-below t,
+  union.Post,
   pass-below t,
   pass.Post,
 ) (node-at t) node.Post
 unfolding armsOf
-node-returns-24 t c = node-by the-variants.DataType (c .before .before .before .before .before .before .before .before .before .before .before .pre .1 .1) (⊎-elim (λ w. scanned-as (w .1 .ensures) (w .2 .left)) (λ w. clean-node (c .before .before .before .before .before .before .before .before .before .before .before .pre .1 .0) (c .before .before .before .before .before .before .before .before .before .before .before .pre .1 .1) (w .left)) (c .before .before .before .before .before .before .before .if1 .came)) (sym (c .before .before .before .before .enum-told22 .given .1) ∙ c .before .before .before .before .before .before .routine-of .ensures) (c .before .before .types .ensures)
+node-returns-24 t c = node-by the-variants.DataType (c .before .before .before .before .before .before .before .before .before .before .before .pre .1 .1) (⊎-elim (λ w. scanned-as (w .1 .ensures) (w .2 .left)) (λ w. clean-node (c .before .before .before .before .before .before .before .before .before .before .before .pre .1 .0) (c .before .before .before .before .before .before .before .before .before .before .before .pre .1 .1) (w .left)) (c .before .before .before .before .before .before .before .if1 .came)) (sym (c .before .before .before .before .enum-told22 .given .1) ∙ c .before .before .before .before .before .before .routine-of .ensures) (c .before .before .dtype .ensures)
 
 node-same-length-25 : (t : ℕ) → node-lts.Need-same-length-25 (
   is-copied-reads.Asked,
@@ -10189,8 +10704,8 @@ node-same-length-25 : (t : ℕ) → node-lts.Need-same-length-25 (
   file.Post,
   queries-below t,
   queries.Post,
-  query-below t,
-  query.Post,
+  sel-stmt-below t,
+  sel-stmt.Post,
   select-below t,
   select.Post,
   simple-below t,
@@ -10199,48 +10714,48 @@ node-same-length-25 : (t : ℕ) → node-lts.Need-same-length-25 (
   list-by.Post,
   settings-below t,
   settings.Post,
-  with-of-below t,
-  with-of.Post,
+  with-below t,
+  with.Post,
   join-below t,
   join.Post,
   inline-below t,
   inline.Post,
-  commas-below t,
-  commas.Post,
-  row-below t,
-  row.Post,
+  comma-below t,
+  comma.Post,
+  inl-list-below t,
+  inl-list.Post,
   binary-below t,
   binary.Post,
   unary-below t,
   unary.Post,
   call-below t,
   call.Post,
-  cases-below t,
-  cases.Post,
-  when-of-below t,
-  when-of.Post,
+  case-below t,
+  case.Post,
+  when-below t,
+  when.Post,
   subquery-below t,
   subquery.Post,
-  parens-below t,
-  parens.Post,
-  brackets-below t,
-  brackets.Post,
-  solid-below t,
-  solid.Post,
-  braces-below t,
-  braces.Post,
-  types-below t,
-  types.Post,
-  tight-below t,
-  tight.Post,
+  paren-below t,
+  paren.Post,
+  bracket-below t,
+  bracket.Post,
+  no-spaces-below t,
+  no-spaces.Post,
+  brace-below t,
+  brace.Post,
+  dtype-below t,
+  dtype.Post,
+  tight-paren-below t,
+  tight-paren.Post,
   alter-below t,
   alter.Post,
-  unions-below t,
-  unions.Post,
+  union-below t,
+  union.Post,
   pass-below t,
   pass.Post,
 ) (node-at t) node.Post
-node-same-length-25 t c = c .before .before .tight .kept .1 .1 .1 .1 .0
+node-same-length-25 t c = c .before .before .tight-paren .kept .1 .1 .1 .1 .0
 
 node-returns-25 : (t : ℕ) → node-lts.Need-returns-25 (
   is-copied-reads.Asked,
@@ -10257,8 +10772,8 @@ node-returns-25 : (t : ℕ) → node-lts.Need-returns-25 (
   file.Post,
   queries-below t,
   queries.Post,
-  query-below t,
-  query.Post,
+  sel-stmt-below t,
+  sel-stmt.Post,
   select-below t,
   select.Post,
   simple-below t,
@@ -10267,49 +10782,49 @@ node-returns-25 : (t : ℕ) → node-lts.Need-returns-25 (
   list-by.Post,
   settings-below t,
   settings.Post,
-  with-of-below t,
-  with-of.Post,
+  with-below t,
+  with.Post,
   join-below t,
   join.Post,
   inline-below t,
   inline.Post,
-  commas-below t,
-  commas.Post,
-  row-below t,
-  row.Post,
+  comma-below t,
+  comma.Post,
+  inl-list-below t,
+  inl-list.Post,
   binary-below t,
   binary.Post,
   unary-below t,
   unary.Post,
   call-below t,
   call.Post,
-  cases-below t,
-  cases.Post,
-  when-of-below t,
-  when-of.Post,
+  case-below t,
+  case.Post,
+  when-below t,
+  when.Post,
   subquery-below t,
   subquery.Post,
-  parens-below t,
-  parens.Post,
-  brackets-below t,
-  brackets.Post,
-  solid-below t,
-  solid.Post,
-  braces-below t,
-  braces.Post,
-  types-below t,
-  types.Post,
-  tight-below t,
-  tight.Post,
+  paren-below t,
+  paren.Post,
+  bracket-below t,
+  bracket.Post,
+  no-spaces-below t,
+  no-spaces.Post,
+  brace-below t,
+  brace.Post,
+  dtype-below t,
+  dtype.Post,
+  tight-paren-below t,
+  tight-paren.Post,
   alter-below t,
   alter.Post,
-  unions-below t,
-  unions.Post,
+  union-below t,
+  union.Post,
   pass-below t,
   pass.Post,
 ) (node-at t) node.Post
 unfolding armsOf
-node-returns-25 t c = node-by the-variants.InlineTightParens (c .before .before .before .before .before .before .before .before .before .before .before .pre .1 .1) (⊎-elim (λ w. scanned-as (w .1 .ensures) (w .2 .left)) (λ w. clean-node (c .before .before .before .before .before .before .before .before .before .before .before .pre .1 .0) (c .before .before .before .before .before .before .before .before .before .before .before .pre .1 .1) (w .left)) (c .before .before .before .before .before .before .before .if1 .came)) (sym (c .before .before .before .before .enum-told23 .given .1) ∙ c .before .before .before .before .before .before .routine-of .ensures) (c .before .before .tight .ensures)
+node-returns-25 t c = node-by the-variants.InlineTightParens (c .before .before .before .before .before .before .before .before .before .before .before .pre .1 .1) (⊎-elim (λ w. scanned-as (w .1 .ensures) (w .2 .left)) (λ w. clean-node (c .before .before .before .before .before .before .before .before .before .before .before .pre .1 .0) (c .before .before .before .before .before .before .before .before .before .before .before .pre .1 .1) (w .left)) (c .before .before .before .before .before .before .before .if1 .came)) (sym (c .before .before .before .before .enum-told23 .given .1) ∙ c .before .before .before .before .before .before .routine-of .ensures) (c .before .before .tight-paren .ensures)
 
 node-same-length-26 : (t : ℕ) → node-lts.Need-same-length-26 (
   is-copied-reads.Asked,
@@ -10326,8 +10841,8 @@ node-same-length-26 : (t : ℕ) → node-lts.Need-same-length-26 (
   file.Post,
   queries-below t,
   queries.Post,
-  query-below t,
-  query.Post,
+  sel-stmt-below t,
+  sel-stmt.Post,
   select-below t,
   select.Post,
   simple-below t,
@@ -10336,44 +10851,44 @@ node-same-length-26 : (t : ℕ) → node-lts.Need-same-length-26 (
   list-by.Post,
   settings-below t,
   settings.Post,
-  with-of-below t,
-  with-of.Post,
+  with-below t,
+  with.Post,
   join-below t,
   join.Post,
   inline-below t,
   inline.Post,
-  commas-below t,
-  commas.Post,
-  row-below t,
-  row.Post,
+  comma-below t,
+  comma.Post,
+  inl-list-below t,
+  inl-list.Post,
   binary-below t,
   binary.Post,
   unary-below t,
   unary.Post,
   call-below t,
   call.Post,
-  cases-below t,
-  cases.Post,
-  when-of-below t,
-  when-of.Post,
+  case-below t,
+  case.Post,
+  when-below t,
+  when.Post,
   subquery-below t,
   subquery.Post,
-  parens-below t,
-  parens.Post,
-  brackets-below t,
-  brackets.Post,
-  solid-below t,
-  solid.Post,
-  braces-below t,
-  braces.Post,
-  types-below t,
-  types.Post,
-  tight-below t,
-  tight.Post,
+  paren-below t,
+  paren.Post,
+  bracket-below t,
+  bracket.Post,
+  no-spaces-below t,
+  no-spaces.Post,
+  brace-below t,
+  brace.Post,
+  dtype-below t,
+  dtype.Post,
+  tight-paren-below t,
+  tight-paren.Post,
   alter-below t,
   alter.Post,
-  unions-below t,
-  unions.Post,
+  union-below t,
+  union.Post,
   pass-below t,
   pass.Post,
 ) (node-at t) node.Post
@@ -10394,8 +10909,8 @@ node-returns-26 : (t : ℕ) → node-lts.Need-returns-26 (
   file.Post,
   queries-below t,
   queries.Post,
-  query-below t,
-  query.Post,
+  sel-stmt-below t,
+  sel-stmt.Post,
   select-below t,
   select.Post,
   simple-below t,
@@ -10404,44 +10919,44 @@ node-returns-26 : (t : ℕ) → node-lts.Need-returns-26 (
   list-by.Post,
   settings-below t,
   settings.Post,
-  with-of-below t,
-  with-of.Post,
+  with-below t,
+  with.Post,
   join-below t,
   join.Post,
   inline-below t,
   inline.Post,
-  commas-below t,
-  commas.Post,
-  row-below t,
-  row.Post,
+  comma-below t,
+  comma.Post,
+  inl-list-below t,
+  inl-list.Post,
   binary-below t,
   binary.Post,
   unary-below t,
   unary.Post,
   call-below t,
   call.Post,
-  cases-below t,
-  cases.Post,
-  when-of-below t,
-  when-of.Post,
+  case-below t,
+  case.Post,
+  when-below t,
+  when.Post,
   subquery-below t,
   subquery.Post,
-  parens-below t,
-  parens.Post,
-  brackets-below t,
-  brackets.Post,
-  solid-below t,
-  solid.Post,
-  braces-below t,
-  braces.Post,
-  types-below t,
-  types.Post,
-  tight-below t,
-  tight.Post,
+  paren-below t,
+  paren.Post,
+  bracket-below t,
+  bracket.Post,
+  no-spaces-below t,
+  no-spaces.Post,
+  brace-below t,
+  brace.Post,
+  dtype-below t,
+  dtype.Post,
+  tight-paren-below t,
+  tight-paren.Post,
   alter-below t,
   alter.Post,
-  unions-below t,
-  unions.Post,
+  union-below t,
+  union.Post,
   pass-below t,
   pass.Post,
 ) (node-at t) node.Post
@@ -10463,8 +10978,8 @@ node-same-length-27 : (t : ℕ) → node-lts.Need-same-length-27 (
   file.Post,
   queries-below t,
   queries.Post,
-  query-below t,
-  query.Post,
+  sel-stmt-below t,
+  sel-stmt.Post,
   select-below t,
   select.Post,
   simple-below t,
@@ -10473,48 +10988,48 @@ node-same-length-27 : (t : ℕ) → node-lts.Need-same-length-27 (
   list-by.Post,
   settings-below t,
   settings.Post,
-  with-of-below t,
-  with-of.Post,
+  with-below t,
+  with.Post,
   join-below t,
   join.Post,
   inline-below t,
   inline.Post,
-  commas-below t,
-  commas.Post,
-  row-below t,
-  row.Post,
+  comma-below t,
+  comma.Post,
+  inl-list-below t,
+  inl-list.Post,
   binary-below t,
   binary.Post,
   unary-below t,
   unary.Post,
   call-below t,
   call.Post,
-  cases-below t,
-  cases.Post,
-  when-of-below t,
-  when-of.Post,
+  case-below t,
+  case.Post,
+  when-below t,
+  when.Post,
   subquery-below t,
   subquery.Post,
-  parens-below t,
-  parens.Post,
-  brackets-below t,
-  brackets.Post,
-  solid-below t,
-  solid.Post,
-  braces-below t,
-  braces.Post,
-  types-below t,
-  types.Post,
-  tight-below t,
-  tight.Post,
+  paren-below t,
+  paren.Post,
+  bracket-below t,
+  bracket.Post,
+  no-spaces-below t,
+  no-spaces.Post,
+  brace-below t,
+  brace.Post,
+  dtype-below t,
+  dtype.Post,
+  tight-paren-below t,
+  tight-paren.Post,
   alter-below t,
   alter.Post,
-  unions-below t,
-  unions.Post,
+  union-below t,
+  union.Post,
   pass-below t,
   pass.Post,
 ) (node-at t) node.Post
-node-same-length-27 t c = c .before .before .unions .kept .1 .1 .1 .1 .0
+node-same-length-27 t c = c .before .before .union .kept .1 .1 .1 .1 .0
 
 node-returns-27 : (t : ℕ) → node-lts.Need-returns-27 (
   is-copied-reads.Asked,
@@ -10531,8 +11046,8 @@ node-returns-27 : (t : ℕ) → node-lts.Need-returns-27 (
   file.Post,
   queries-below t,
   queries.Post,
-  query-below t,
-  query.Post,
+  sel-stmt-below t,
+  sel-stmt.Post,
   select-below t,
   select.Post,
   simple-below t,
@@ -10541,49 +11056,49 @@ node-returns-27 : (t : ℕ) → node-lts.Need-returns-27 (
   list-by.Post,
   settings-below t,
   settings.Post,
-  with-of-below t,
-  with-of.Post,
+  with-below t,
+  with.Post,
   join-below t,
   join.Post,
   inline-below t,
   inline.Post,
-  commas-below t,
-  commas.Post,
-  row-below t,
-  row.Post,
+  comma-below t,
+  comma.Post,
+  inl-list-below t,
+  inl-list.Post,
   binary-below t,
   binary.Post,
   unary-below t,
   unary.Post,
   call-below t,
   call.Post,
-  cases-below t,
-  cases.Post,
-  when-of-below t,
-  when-of.Post,
+  case-below t,
+  case.Post,
+  when-below t,
+  when.Post,
   subquery-below t,
   subquery.Post,
-  parens-below t,
-  parens.Post,
-  brackets-below t,
-  brackets.Post,
-  solid-below t,
-  solid.Post,
-  braces-below t,
-  braces.Post,
-  types-below t,
-  types.Post,
-  tight-below t,
-  tight.Post,
+  paren-below t,
+  paren.Post,
+  bracket-below t,
+  bracket.Post,
+  no-spaces-below t,
+  no-spaces.Post,
+  brace-below t,
+  brace.Post,
+  dtype-below t,
+  dtype.Post,
+  tight-paren-below t,
+  tight-paren.Post,
   alter-below t,
   alter.Post,
-  unions-below t,
-  unions.Post,
+  union-below t,
+  union.Post,
   pass-below t,
   pass.Post,
 ) (node-at t) node.Post
 unfolding armsOf
-node-returns-27 t c = node-by the-variants.UnionClause (c .before .before .before .before .before .before .before .before .before .before .before .pre .1 .1) (⊎-elim (λ w. scanned-as (w .1 .ensures) (w .2 .left)) (λ w. clean-node (c .before .before .before .before .before .before .before .before .before .before .before .pre .1 .0) (c .before .before .before .before .before .before .before .before .before .before .before .pre .1 .1) (w .left)) (c .before .before .before .before .before .before .before .if1 .came)) (sym (c .before .before .before .before .enum-told25 .given .1) ∙ c .before .before .before .before .before .before .routine-of .ensures) (c .before .before .unions .ensures)
+node-returns-27 t c = node-by the-variants.UnionClause (c .before .before .before .before .before .before .before .before .before .before .before .pre .1 .1) (⊎-elim (λ w. scanned-as (w .1 .ensures) (w .2 .left)) (λ w. clean-node (c .before .before .before .before .before .before .before .before .before .before .before .pre .1 .0) (c .before .before .before .before .before .before .before .before .before .before .before .pre .1 .1) (w .left)) (c .before .before .before .before .before .before .before .if1 .came)) (sym (c .before .before .before .before .enum-told25 .given .1) ∙ c .before .before .before .before .before .before .routine-of .ensures) (c .before .before .union .ensures)
 
 node-same-length-28 : (t : ℕ) → node-lts.Need-same-length-28 (
   is-copied-reads.Asked,
@@ -10600,8 +11115,8 @@ node-same-length-28 : (t : ℕ) → node-lts.Need-same-length-28 (
   file.Post,
   queries-below t,
   queries.Post,
-  query-below t,
-  query.Post,
+  sel-stmt-below t,
+  sel-stmt.Post,
   select-below t,
   select.Post,
   simple-below t,
@@ -10610,44 +11125,44 @@ node-same-length-28 : (t : ℕ) → node-lts.Need-same-length-28 (
   list-by.Post,
   settings-below t,
   settings.Post,
-  with-of-below t,
-  with-of.Post,
+  with-below t,
+  with.Post,
   join-below t,
   join.Post,
   inline-below t,
   inline.Post,
-  commas-below t,
-  commas.Post,
-  row-below t,
-  row.Post,
+  comma-below t,
+  comma.Post,
+  inl-list-below t,
+  inl-list.Post,
   binary-below t,
   binary.Post,
   unary-below t,
   unary.Post,
   call-below t,
   call.Post,
-  cases-below t,
-  cases.Post,
-  when-of-below t,
-  when-of.Post,
+  case-below t,
+  case.Post,
+  when-below t,
+  when.Post,
   subquery-below t,
   subquery.Post,
-  parens-below t,
-  parens.Post,
-  brackets-below t,
-  brackets.Post,
-  solid-below t,
-  solid.Post,
-  braces-below t,
-  braces.Post,
-  types-below t,
-  types.Post,
-  tight-below t,
-  tight.Post,
+  paren-below t,
+  paren.Post,
+  bracket-below t,
+  bracket.Post,
+  no-spaces-below t,
+  no-spaces.Post,
+  brace-below t,
+  brace.Post,
+  dtype-below t,
+  dtype.Post,
+  tight-paren-below t,
+  tight-paren.Post,
   alter-below t,
   alter.Post,
-  unions-below t,
-  unions.Post,
+  union-below t,
+  union.Post,
   pass-below t,
   pass.Post,
 ) (node-at t) node.Post
@@ -10668,8 +11183,8 @@ node-returns-28 : (t : ℕ) → node-lts.Need-returns-28 (
   file.Post,
   queries-below t,
   queries.Post,
-  query-below t,
-  query.Post,
+  sel-stmt-below t,
+  sel-stmt.Post,
   select-below t,
   select.Post,
   simple-below t,
@@ -10678,219 +11193,219 @@ node-returns-28 : (t : ℕ) → node-lts.Need-returns-28 (
   list-by.Post,
   settings-below t,
   settings.Post,
-  with-of-below t,
-  with-of.Post,
+  with-below t,
+  with.Post,
   join-below t,
   join.Post,
   inline-below t,
   inline.Post,
-  commas-below t,
-  commas.Post,
-  row-below t,
-  row.Post,
+  comma-below t,
+  comma.Post,
+  inl-list-below t,
+  inl-list.Post,
   binary-below t,
   binary.Post,
   unary-below t,
   unary.Post,
   call-below t,
   call.Post,
-  cases-below t,
-  cases.Post,
-  when-of-below t,
-  when-of.Post,
+  case-below t,
+  case.Post,
+  when-below t,
+  when.Post,
   subquery-below t,
   subquery.Post,
-  parens-below t,
-  parens.Post,
-  brackets-below t,
-  brackets.Post,
-  solid-below t,
-  solid.Post,
-  braces-below t,
-  braces.Post,
-  types-below t,
-  types.Post,
-  tight-below t,
-  tight.Post,
+  paren-below t,
+  paren.Post,
+  bracket-below t,
+  bracket.Post,
+  no-spaces-below t,
+  no-spaces.Post,
+  brace-below t,
+  brace.Post,
+  dtype-below t,
+  dtype.Post,
+  tight-paren-below t,
+  tight-paren.Post,
   alter-below t,
   alter.Post,
-  unions-below t,
-  unions.Post,
+  union-below t,
+  union.Post,
   pass-below t,
   pass.Post,
 ) (node-at t) node.Post
 unfolding armsOf
 node-returns-28 t c = node-by the-variants.Passthrough (c .before .before .before .before .before .before .before .before .before .before .before .pre .1 .1) (⊎-elim (λ w. scanned-as (w .1 .ensures) (w .2 .left)) (λ w. clean-node (c .before .before .before .before .before .before .before .before .before .before .before .pre .1 .0) (c .before .before .before .before .before .before .before .before .before .before .before .pre .1 .1) (w .left)) (c .before .before .before .before .before .before .before .if1 .came)) (sym (c .before .before .before .before .enum-told26 .given .1) ∙ c .before .before .before .before .before .before .routine-of .ensures) (c .before .before .pass .ensures)
 
-abbrev parens-Inv-loop : parens-lts.InvT-loop
-parens-Inv-loop source tape config errors out₀ left at i₀ ctx₀ out i ctx = Loop source tape config errors left at (always formatParenList) formatParenList ctx₀ out₀ out i ctx (flagged false)
+abbrev paren-Inv-loop : paren-lts.InvT-loop
+paren-Inv-loop source tape config errors out₀ left at i₀ ctx₀ out i ctx = Loop source tape config errors left at (always formatParenList) formatParenList ctx₀ out₀ out i ctx (flagged false)
 
-abbrev parens-μ-loop : parens-lts.MeasureT-loop
-parens-μ-loop source tape config errors out₀ left at i₀ ctx₀ out i ctx = length tape - i
+abbrev paren-μ-loop : paren-lts.MeasureT-loop
+paren-μ-loop source tape config errors out₀ left at i₀ ctx₀ out i ctx = length tape - i
 
-parens-add-i : (t : ℕ) → parens-lts.Need-add-i (
+paren-add-i : (t : ℕ) → paren-lts.Need-add-i (
   head-at-reads.Asked,
   head-at-reads.Learnt,
   paren-list-token-reads.Asked,
   paren-list-token-reads.Learnt,
   node-below t,
   node.Post,
-) (parens-at t) parens.Post parens-Inv-loop parens-μ-loop
-parens-add-i t c = omega (arith, c .before .before .before .pre .1 .inside, c .before .before .before .pre .1 .sizes .tape-fits)
+) (paren-at t) paren.Post paren-Inv-loop paren-μ-loop
+paren-add-i t c = omega (arith, c .before .before .before .pre .1 .inside, c .before .before .before .pre .1 .sizes .tape-fits)
 
-parens-loop-holds : (t : ℕ) → parens-lts.Need-loop-holds (
+paren-loop-holds : (t : ℕ) → paren-lts.Need-loop-holds (
   head-at-reads.Asked,
   head-at-reads.Learnt,
   paren-list-token-reads.Asked,
   paren-list-token-reads.Learnt,
   node-below t,
   node.Post,
-) (parens-at t) parens.Post parens-Inv-loop parens-μ-loop
+) (paren-at t) paren.Post paren-Inv-loop paren-μ-loop
 unfolding formatParenList
-parens-loop-holds t c = loop-first (always formatParenList) formatParenList _ (c .before .before .before .pre .1) (λ all z. refl)
+paren-loop-holds t c = loop-first (always formatParenList) formatParenList _ (c .before .before .before .pre .1) (λ all z. refl)
 
-parens-shared-slice-read-if1 : (t : ℕ) → parens-lts.Need-shared-slice-read-if1 (
+paren-shared-slice-read-if1 : (t : ℕ) → paren-lts.Need-shared-slice-read-if1 (
   head-at-reads.Asked,
   head-at-reads.Learnt,
   paren-list-token-reads.Asked,
   paren-list-token-reads.Learnt,
   node-below t,
   node.Post,
-) (parens-at t) parens.Post parens-Inv-loop parens-μ-loop
-parens-shared-slice-read-if1 t c = omega (arith, c .before .loop .inv .inside)
+) (paren-at t) paren.Post paren-Inv-loop paren-μ-loop
+paren-shared-slice-read-if1 t c = omega (arith, c .before .loop .inv .inside)
 
-parens-head-at-requires : (t : ℕ) → parens-lts.Need-head-at-requires (
+paren-head-at-requires : (t : ℕ) → paren-lts.Need-head-at-requires (
   head-at-reads.Asked,
   head-at-reads.Learnt,
   paren-list-token-reads.Asked,
   paren-list-token-reads.Learnt,
   node-below t,
   node.Post,
-) (parens-at t) parens.Post parens-Inv-loop parens-μ-loop
-parens-head-at-requires t c κs = loop-fits (c .before .before .before .before .before .before .pre .1) (c .before .before .loop .inv) (c .if1 .taken)
+) (paren-at t) paren.Post paren-Inv-loop paren-μ-loop
+paren-head-at-requires t c κs = loop-fits (c .before .before .before .before .before .before .pre .1) (c .before .before .loop .inv) (c .if1 .taken)
 
-parens-shared-slice-read-if2 : (t : ℕ) → parens-lts.Need-shared-slice-read-if2 (
+paren-shared-slice-read-if2 : (t : ℕ) → paren-lts.Need-shared-slice-read-if2 (
   head-at-reads.Asked,
   head-at-reads.Learnt,
   paren-list-token-reads.Asked,
   paren-list-token-reads.Learnt,
   node-below t,
   node.Post,
-) (parens-at t) parens.Post parens-Inv-loop parens-μ-loop
-parens-shared-slice-read-if2 t c = omega (arith, c .before .before .before .before .loop .inv .inside)
+) (paren-at t) paren.Post paren-Inv-loop paren-μ-loop
+paren-shared-slice-read-if2 t c = omega (arith, c .before .before .before .before .loop .inv .inside)
 
-parens-paren-list-token-requires : (t : ℕ) → parens-lts.Need-paren-list-token-requires (
+paren-paren-list-token-requires : (t : ℕ) → paren-lts.Need-paren-list-token-requires (
   head-at-reads.Asked,
   head-at-reads.Learnt,
   paren-list-token-reads.Asked,
   paren-list-token-reads.Learnt,
   node-below t,
   node.Post,
-) (parens-at t) parens.Post parens-Inv-loop parens-μ-loop
-parens-paren-list-token-requires t c κs = token-ready (c .before .before .before .before .before .before .before .before .before .before .pre .1) (c .before .before .before .before .before .before .loop .inv) _ (c .before .if2 .taken) (c .before .before .before .head-at .ensures)
+) (paren-at t) paren.Post paren-Inv-loop paren-μ-loop
+paren-paren-list-token-requires t c κs = token-ready (c .before .before .before .before .before .before .before .before .before .before .pre .1) (c .before .before .before .before .before .before .loop .inv) _ (c .before .if2 .taken) (c .before .before .before .head-at .ensures)
 
-parens-add-i-2 : (t : ℕ) → parens-lts.Need-add-i-2 (
+paren-add-i-2 : (t : ℕ) → paren-lts.Need-add-i-2 (
   head-at-reads.Asked,
   head-at-reads.Learnt,
   paren-list-token-reads.Asked,
   paren-list-token-reads.Learnt,
   node-below t,
   node.Post,
-) (parens-at t) parens.Post parens-Inv-loop parens-μ-loop
-parens-add-i-2 t c = omega (arith, loop-fits (c .before .before .before .before .before .before .before .before .before .before .before .before .before .pre .1) (c .before .before .before .before .before .before .before .before .before .loop .inv) (c .before .before .before .before .before .before .before .if1 .taken), c .before .before .before .before .before .before .before .before .before .before .before .before .before .pre .1 .sizes .tape-fits)
+) (paren-at t) paren.Post paren-Inv-loop paren-μ-loop
+paren-add-i-2 t c = omega (arith, loop-fits (c .before .before .before .before .before .before .before .before .before .before .before .before .before .pre .1) (c .before .before .before .before .before .before .before .before .before .loop .inv) (c .before .before .before .before .before .before .before .if1 .taken), c .before .before .before .before .before .before .before .before .before .before .before .before .before .pre .1 .sizes .tape-fits)
 
-parens-loop-less : (t : ℕ) → parens-lts.Need-loop-less (
+paren-loop-less : (t : ℕ) → paren-lts.Need-loop-less (
   head-at-reads.Asked,
   head-at-reads.Learnt,
   paren-list-token-reads.Asked,
   paren-list-token-reads.Learnt,
   node-below t,
   node.Post,
-) (parens-at t) parens.Post parens-Inv-loop parens-μ-loop
-parens-loop-less t c = omega (arith, c .before .before .before .before .before .before .before .before .before .loop .inv .inside)
+) (paren-at t) paren.Post paren-Inv-loop paren-μ-loop
+paren-loop-less t c = omega (arith, c .before .before .before .before .before .before .before .before .before .loop .inv .inside)
 
-parens-loop-again : (t : ℕ) → parens-lts.Need-loop-again (
+paren-loop-again : (t : ℕ) → paren-lts.Need-loop-again (
   head-at-reads.Asked,
   head-at-reads.Learnt,
   paren-list-token-reads.Asked,
   paren-list-token-reads.Learnt,
   node-below t,
   node.Post,
-) (parens-at t) parens.Post parens-Inv-loop parens-μ-loop
+) (paren-at t) paren.Post paren-Inv-loop paren-μ-loop
 unfolding formatParenList
-parens-loop-again t c = token-next (c .before .before .before .before .before .before .before .before .before .before .before .before .before .pre .1) (c .before .before .before .before .before .before .before .before .before .loop .inv) (c .before .before .before .before .if2 .taken) (c .before .before .before .before .before .before .head-at .ensures) (c .before .before .paren-list-token .ensures) refl (c .before .before .paren-list-token .kept .1 .1 .0)
+paren-loop-again t c = token-next (c .before .before .before .before .before .before .before .before .before .before .before .before .before .pre .1) (c .before .before .before .before .before .before .before .before .before .loop .inv) (c .before .before .before .before .if2 .taken) (c .before .before .before .before .before .before .head-at .ensures) (c .before .before .paren-list-token .ensures) refl (c .before .before .paren-list-token .kept .1 .1 .0)
 
-parens-sub-node : (t : ℕ) → parens-lts.Need-sub-node (
+paren-sub-node : (t : ℕ) → paren-lts.Need-sub-node (
   head-at-reads.Asked,
   head-at-reads.Learnt,
   paren-list-token-reads.Asked,
   paren-list-token-reads.Learnt,
   node-below t,
   node.Post,
-) (parens-at t) parens.Post parens-Inv-loop parens-μ-loop
-parens-sub-node t c = left-pos (c .before .before .before .before .before .before .before .before .before .before .pre .1) (c .before .before .before .before .before .before .loop .inv) (c .before .before .before .before .if1 .taken) (c .before .if2 .left)
+) (paren-at t) paren.Post paren-Inv-loop paren-μ-loop
+paren-sub-node t c = left-pos (c .before .before .before .before .before .before .before .before .before .before .pre .1) (c .before .before .before .before .before .before .loop .inv) (c .before .before .before .before .if1 .taken) (c .before .if2 .left)
 
-parens-node-requires : (t : ℕ) → parens-lts.Need-node-requires (
+paren-node-requires : (t : ℕ) → paren-lts.Need-node-requires (
   head-at-reads.Asked,
   head-at-reads.Learnt,
   paren-list-token-reads.Asked,
   paren-list-token-reads.Learnt,
   node-below t,
   node.Post,
-) (parens-at t) parens.Post parens-Inv-loop parens-μ-loop
-parens-node-requires t c κs = (omega (arith, c .before .before .before .before .before .before .before .before .before .before .pre .0, left-pos (c .before .before .before .before .before .before .before .before .before .before .pre .1) (c .before .before .before .before .before .before .loop .inv) (c .before .before .before .before .if1 .taken) (c .before .if2 .left)), node-ready (c .before .before .before .before .before .before .before .before .before .before .pre .1) (c .before .before .before .before .before .before .loop .inv) (c .before .before .before .before .if1 .taken) (c .before .if2 .left) (c .before .before .before .head-at .ensures) (no-spacing {xs = c .before .before .before .before .before .before .loop .out}) (omega arith))
+) (paren-at t) paren.Post paren-Inv-loop paren-μ-loop
+paren-node-requires t c κs = (omega (arith, c .before .before .before .before .before .before .before .before .before .before .pre .0, left-pos (c .before .before .before .before .before .before .before .before .before .before .pre .1) (c .before .before .before .before .before .before .loop .inv) (c .before .before .before .before .if1 .taken) (c .before .if2 .left)), node-ready (c .before .before .before .before .before .before .before .before .before .before .pre .1) (c .before .before .before .before .before .before .loop .inv) (c .before .before .before .before .if1 .taken) (c .before .if2 .left) (c .before .before .before .head-at .ensures) (no-spacing {xs = c .before .before .before .before .before .before .loop .out}) (omega arith))
 
-parens-loop-less-2 : (t : ℕ) → parens-lts.Need-loop-less-2 (
+paren-loop-less-2 : (t : ℕ) → paren-lts.Need-loop-less-2 (
   head-at-reads.Asked,
   head-at-reads.Learnt,
   paren-list-token-reads.Asked,
   paren-list-token-reads.Learnt,
   node-below t,
   node.Post,
-) (parens-at t) parens.Post parens-Inv-loop parens-μ-loop
-parens-loop-less-2 t c = omega (arith, c .before .before .before .before .before .before .before .before .before .before .loop .inv .inside, c .before .before .before .node .ensures .on)
+) (paren-at t) paren.Post paren-Inv-loop paren-μ-loop
+paren-loop-less-2 t c = omega (arith, c .before .before .before .before .before .before .before .before .before .before .loop .inv .inside, c .before .before .before .node .ensures .forward)
 
-parens-loop-again-2 : (t : ℕ) → parens-lts.Need-loop-again-2 (
+paren-loop-again-2 : (t : ℕ) → paren-lts.Need-loop-again-2 (
   head-at-reads.Asked,
   head-at-reads.Learnt,
   paren-list-token-reads.Asked,
   paren-list-token-reads.Learnt,
   node-below t,
   node.Post,
-) (parens-at t) parens.Post parens-Inv-loop parens-μ-loop
+) (paren-at t) paren.Post paren-Inv-loop paren-μ-loop
 unfolding formatParenList
-parens-loop-again-2 t c = node-next (c .before .before .before .before .before .before .before .before .before .before .before .before .before .before .pre .1) (c .before .before .before .before .before .before .before .before .before .before .loop .inv) (formatParenList .atNode (flagged false) (c .before .before .before .before .before .before .before .head-at .result .kind) 0) (c .before .before .before .before .before .before .before .before .if1 .taken) (c .before .before .before .before .before .if2 .left) (c .before .before .before .before .before .before .before .head-at .ensures) (λ k z. refl) (no-spacing {xs = c .before .before .before .before .before .before .before .before .before .before .loop .out}) (c .before .before .before .node .ensures) refl no-spacing (omega arith) (omega arith) (c .before .before .before .node .kept .1 .1 .1 .1 .0)
+paren-loop-again-2 t c = node-next (c .before .before .before .before .before .before .before .before .before .before .before .before .before .before .pre .1) (c .before .before .before .before .before .before .before .before .before .before .loop .inv) (formatParenList .atNode (flagged false) (c .before .before .before .before .before .before .before .head-at .result .kind) 0) (c .before .before .before .before .before .before .before .before .if1 .taken) (c .before .before .before .before .before .if2 .left) (c .before .before .before .before .before .before .before .head-at .ensures) (λ k z. refl) (no-spacing {xs = c .before .before .before .before .before .before .before .before .before .before .loop .out}) (c .before .before .before .node .ensures) refl no-spacing (omega arith) (omega arith) (c .before .before .before .node .kept .1 .1 .1 .1 .0)
 
-parens-add-t22 : (t : ℕ) → parens-lts.Need-add-t22 (
+paren-add-t22 : (t : ℕ) → paren-lts.Need-add-t22 (
   head-at-reads.Asked,
   head-at-reads.Learnt,
   paren-list-token-reads.Asked,
   paren-list-token-reads.Learnt,
   node-below t,
   node.Post,
-) (parens-at t) parens.Post parens-Inv-loop parens-μ-loop
-parens-add-t22 t c = omega (arith, c .before .before .loop .inv .inside, c .before .before .before .before .before .before .pre .1 .sizes .tape-fits)
+) (paren-at t) paren.Post paren-Inv-loop paren-μ-loop
+paren-add-t22 t c = omega (arith, c .before .before .loop .inv .inside, c .before .before .before .before .before .before .pre .1 .sizes .tape-fits)
 
-parens-same-length : (t : ℕ) → parens-lts.Need-same-length (
+paren-same-length : (t : ℕ) → paren-lts.Need-same-length (
   head-at-reads.Asked,
   head-at-reads.Learnt,
   paren-list-token-reads.Asked,
   paren-list-token-reads.Learnt,
   node-below t,
   node.Post,
-) (parens-at t) parens.Post parens-Inv-loop parens-μ-loop
-parens-same-length t c = c .before .before .loop .inv .same
+) (paren-at t) paren.Post paren-Inv-loop paren-μ-loop
+paren-same-length t c = c .before .before .loop .inv .same
 
-parens-returns : (t : ℕ) → parens-lts.Need-returns (
+paren-returns : (t : ℕ) → paren-lts.Need-returns (
   head-at-reads.Asked,
   head-at-reads.Learnt,
   paren-list-token-reads.Asked,
   paren-list-token-reads.Learnt,
   node-below t,
   node.Post,
-) (parens-at t) parens.Post parens-Inv-loop parens-μ-loop
+) (paren-at t) paren.Post paren-Inv-loop paren-μ-loop
 unfolding formatParenList
-parens-returns t c = loop-last (c .before .before .before .before .before .before .pre .1) (c .before .before .loop .inv) (c .if1 .left) no-spacing (omega arith)
+paren-returns t c = loop-last (c .before .before .before .before .before .before .pre .1) (c .before .before .loop .inv) (c .if1 .left) no-spacing (omega arith)
 
 abbrev pass-Inv-loop : pass-lts.InvT-loop
 pass-Inv-loop source tape config errors out₀ left at i₀ ctx₀ out i ctx = Loop source tape config errors left at (always formatPassthrough) formatPassthrough ctx₀ out₀ out i ctx (flagged false)
@@ -11018,7 +11533,7 @@ pass-loop-less-2 : (t : ℕ) → pass-lts.Need-loop-less-2 (
   node-below t,
   node.Post,
 ) (pass-at t) pass.Post pass-Inv-loop pass-μ-loop
-pass-loop-less-2 t c = omega (arith, c .before .before .before .before .before .before .before .before .before .before .loop .inv .inside, c .before .before .before .node .ensures .on)
+pass-loop-less-2 t c = omega (arith, c .before .before .before .before .before .before .before .before .before .before .loop .inv .inside, c .before .before .before .node .ensures .forward)
 
 pass-loop-again-2 : (t : ℕ) → pass-lts.Need-loop-again-2 (
   head-at-reads.Asked,
@@ -11224,7 +11739,7 @@ queries-loop-less-2 : (t : ℕ) → queries-lts.Need-loop-less-2 (
   node-below t,
   node.Post,
 ) (queries-at t) queries.Post queries-Inv-loop queries-μ-loop
-queries-loop-less-2 t c = omega (arith, c .before .before .before .before .before .before .before .before .before .before .before .before .before .before .loop .inv .inside, c .before .before .before .node .ensures .on)
+queries-loop-less-2 t c = omega (arith, c .before .before .before .before .before .before .before .before .before .before .before .before .before .before .loop .inv .inside, c .before .before .before .node .ensures .forward)
 
 queries-loop-again-2 : (t : ℕ) → queries-lts.Need-loop-again-2 (
   head-at-reads.Asked,
@@ -11276,13 +11791,13 @@ queries-returns : (t : ℕ) → queries-lts.Need-returns (
 unfolding formatQueryList
 queries-returns t c = loop-last (c .before .before .before .before .before .before .pre .1) (c .before .before .loop .inv) (c .if1 .left) no-spacing (omega arith)
 
-abbrev query-Inv-loop : query-lts.InvT-loop
-query-Inv-loop source tape config errors out₀ left at i₀ ctx₀ local₀ out i ctx local = Loop source tape config errors left at (always formatSelectStatement) formatSelectStatement ctx₀ out₀ out i ctx local
+abbrev sel-stmt-Inv-loop : sel-stmt-lts.InvT-loop
+sel-stmt-Inv-loop source tape config errors out₀ left at i₀ ctx₀ local₀ out i ctx local = Loop source tape config errors left at (always formatSelectStatement) formatSelectStatement ctx₀ out₀ out i ctx local
 
-abbrev query-μ-loop : query-lts.MeasureT-loop
-query-μ-loop source tape config errors out₀ left at i₀ ctx₀ local₀ out i ctx local = length tape - i
+abbrev sel-stmt-μ-loop : sel-stmt-lts.MeasureT-loop
+sel-stmt-μ-loop source tape config errors out₀ left at i₀ ctx₀ local₀ out i ctx local = length tape - i
 
-query-add-i : (t : ℕ) → query-lts.Need-add-i (
+sel-stmt-add-i : (t : ℕ) → sel-stmt-lts.Need-add-i (
   head-at-reads.Asked,
   head-at-reads.Learnt,
   select-statement-token-reads.Asked,
@@ -11291,10 +11806,10 @@ query-add-i : (t : ℕ) → query-lts.Need-add-i (
   select-statement-before-reads.Learnt,
   node-below t,
   node.Post,
-) (query-at t) query.Post query-Inv-loop query-μ-loop
-query-add-i t c = omega (arith, c .before .before .before .pre .1 .inside, c .before .before .before .pre .1 .sizes .tape-fits)
+) (sel-stmt-at t) sel-stmt.Post sel-stmt-Inv-loop sel-stmt-μ-loop
+sel-stmt-add-i t c = omega (arith, c .before .before .before .pre .1 .inside, c .before .before .before .pre .1 .sizes .tape-fits)
 
-query-loop-holds : (t : ℕ) → query-lts.Need-loop-holds (
+sel-stmt-loop-holds : (t : ℕ) → sel-stmt-lts.Need-loop-holds (
   head-at-reads.Asked,
   head-at-reads.Learnt,
   select-statement-token-reads.Asked,
@@ -11303,11 +11818,11 @@ query-loop-holds : (t : ℕ) → query-lts.Need-loop-holds (
   select-statement-before-reads.Learnt,
   node-below t,
   node.Post,
-) (query-at t) query.Post query-Inv-loop query-μ-loop
+) (sel-stmt-at t) sel-stmt.Post sel-stmt-Inv-loop sel-stmt-μ-loop
 unfolding formatSelectStatement
-query-loop-holds t c = loop-first (always formatSelectStatement) formatSelectStatement _ (c .before .before .before .pre .1) (λ all z. refl)
+sel-stmt-loop-holds t c = loop-first (always formatSelectStatement) formatSelectStatement _ (c .before .before .before .pre .1) (λ all z. refl)
 
-query-shared-slice-read-if1 : (t : ℕ) → query-lts.Need-shared-slice-read-if1 (
+sel-stmt-shared-slice-read-if1 : (t : ℕ) → sel-stmt-lts.Need-shared-slice-read-if1 (
   head-at-reads.Asked,
   head-at-reads.Learnt,
   select-statement-token-reads.Asked,
@@ -11316,10 +11831,10 @@ query-shared-slice-read-if1 : (t : ℕ) → query-lts.Need-shared-slice-read-if1
   select-statement-before-reads.Learnt,
   node-below t,
   node.Post,
-) (query-at t) query.Post query-Inv-loop query-μ-loop
-query-shared-slice-read-if1 t c = omega (arith, c .before .loop .inv .inside)
+) (sel-stmt-at t) sel-stmt.Post sel-stmt-Inv-loop sel-stmt-μ-loop
+sel-stmt-shared-slice-read-if1 t c = omega (arith, c .before .loop .inv .inside)
 
-query-head-at-requires : (t : ℕ) → query-lts.Need-head-at-requires (
+sel-stmt-head-at-requires : (t : ℕ) → sel-stmt-lts.Need-head-at-requires (
   head-at-reads.Asked,
   head-at-reads.Learnt,
   select-statement-token-reads.Asked,
@@ -11328,10 +11843,10 @@ query-head-at-requires : (t : ℕ) → query-lts.Need-head-at-requires (
   select-statement-before-reads.Learnt,
   node-below t,
   node.Post,
-) (query-at t) query.Post query-Inv-loop query-μ-loop
-query-head-at-requires t c κs = loop-fits (c .before .before .before .before .before .before .pre .1) (c .before .before .loop .inv) (c .if1 .taken)
+) (sel-stmt-at t) sel-stmt.Post sel-stmt-Inv-loop sel-stmt-μ-loop
+sel-stmt-head-at-requires t c κs = loop-fits (c .before .before .before .before .before .before .pre .1) (c .before .before .loop .inv) (c .if1 .taken)
 
-query-shared-slice-read-if2 : (t : ℕ) → query-lts.Need-shared-slice-read-if2 (
+sel-stmt-shared-slice-read-if2 : (t : ℕ) → sel-stmt-lts.Need-shared-slice-read-if2 (
   head-at-reads.Asked,
   head-at-reads.Learnt,
   select-statement-token-reads.Asked,
@@ -11340,10 +11855,23 @@ query-shared-slice-read-if2 : (t : ℕ) → query-lts.Need-shared-slice-read-if2
   select-statement-before-reads.Learnt,
   node-below t,
   node.Post,
-) (query-at t) query.Post query-Inv-loop query-μ-loop
-query-shared-slice-read-if2 t c = omega (arith, c .before .before .before .before .loop .inv .inside)
+) (sel-stmt-at t) sel-stmt.Post sel-stmt-Inv-loop sel-stmt-μ-loop
+sel-stmt-shared-slice-read-if2 t c = omega (arith, c .before .before .before .before .loop .inv .inside)
 
-query-select-statement-token-requires : (t : ℕ) → query-lts.Need-select-statement-token-requires (
+sel-stmt-select-statement-token-requires :
+    (t : ℕ) → sel-stmt-lts.Need-select-statement-token-requires (
+      head-at-reads.Asked,
+      head-at-reads.Learnt,
+      select-statement-token-reads.Asked,
+      select-statement-token-reads.Learnt,
+      select-statement-before-reads.Asked,
+      select-statement-before-reads.Learnt,
+      node-below t,
+      node.Post,
+    ) (sel-stmt-at t) sel-stmt.Post sel-stmt-Inv-loop sel-stmt-μ-loop
+sel-stmt-select-statement-token-requires t c κs = token-ready (c .before .before .before .before .before .before .before .before .before .before .pre .1) (c .before .before .before .before .before .before .loop .inv) _ (c .before .if2 .taken) (c .before .before .before .head-at .ensures)
+
+sel-stmt-add-i-2 : (t : ℕ) → sel-stmt-lts.Need-add-i-2 (
   head-at-reads.Asked,
   head-at-reads.Learnt,
   select-statement-token-reads.Asked,
@@ -11352,10 +11880,10 @@ query-select-statement-token-requires : (t : ℕ) → query-lts.Need-select-stat
   select-statement-before-reads.Learnt,
   node-below t,
   node.Post,
-) (query-at t) query.Post query-Inv-loop query-μ-loop
-query-select-statement-token-requires t c κs = token-ready (c .before .before .before .before .before .before .before .before .before .before .pre .1) (c .before .before .before .before .before .before .loop .inv) _ (c .before .if2 .taken) (c .before .before .before .head-at .ensures)
+) (sel-stmt-at t) sel-stmt.Post sel-stmt-Inv-loop sel-stmt-μ-loop
+sel-stmt-add-i-2 t c = omega (arith, loop-fits (c .before .before .before .before .before .before .before .before .before .before .before .before .before .pre .1) (c .before .before .before .before .before .before .before .before .before .loop .inv) (c .before .before .before .before .before .before .before .if1 .taken), c .before .before .before .before .before .before .before .before .before .before .before .before .before .pre .1 .sizes .tape-fits)
 
-query-add-i-2 : (t : ℕ) → query-lts.Need-add-i-2 (
+sel-stmt-loop-less : (t : ℕ) → sel-stmt-lts.Need-loop-less (
   head-at-reads.Asked,
   head-at-reads.Learnt,
   select-statement-token-reads.Asked,
@@ -11364,10 +11892,10 @@ query-add-i-2 : (t : ℕ) → query-lts.Need-add-i-2 (
   select-statement-before-reads.Learnt,
   node-below t,
   node.Post,
-) (query-at t) query.Post query-Inv-loop query-μ-loop
-query-add-i-2 t c = omega (arith, loop-fits (c .before .before .before .before .before .before .before .before .before .before .before .before .before .pre .1) (c .before .before .before .before .before .before .before .before .before .loop .inv) (c .before .before .before .before .before .before .before .if1 .taken), c .before .before .before .before .before .before .before .before .before .before .before .before .before .pre .1 .sizes .tape-fits)
+) (sel-stmt-at t) sel-stmt.Post sel-stmt-Inv-loop sel-stmt-μ-loop
+sel-stmt-loop-less t c = omega (arith, c .before .before .before .before .before .before .before .before .before .loop .inv .inside)
 
-query-loop-less : (t : ℕ) → query-lts.Need-loop-less (
+sel-stmt-loop-again : (t : ℕ) → sel-stmt-lts.Need-loop-again (
   head-at-reads.Asked,
   head-at-reads.Learnt,
   select-statement-token-reads.Asked,
@@ -11376,23 +11904,24 @@ query-loop-less : (t : ℕ) → query-lts.Need-loop-less (
   select-statement-before-reads.Learnt,
   node-below t,
   node.Post,
-) (query-at t) query.Post query-Inv-loop query-μ-loop
-query-loop-less t c = omega (arith, c .before .before .before .before .before .before .before .before .before .loop .inv .inside)
-
-query-loop-again : (t : ℕ) → query-lts.Need-loop-again (
-  head-at-reads.Asked,
-  head-at-reads.Learnt,
-  select-statement-token-reads.Asked,
-  select-statement-token-reads.Learnt,
-  select-statement-before-reads.Asked,
-  select-statement-before-reads.Learnt,
-  node-below t,
-  node.Post,
-) (query-at t) query.Post query-Inv-loop query-μ-loop
+) (sel-stmt-at t) sel-stmt.Post sel-stmt-Inv-loop sel-stmt-μ-loop
 unfolding formatSelectStatement
-query-loop-again t c = token-next (c .before .before .before .before .before .before .before .before .before .before .before .before .before .pre .1) (c .before .before .before .before .before .before .before .before .before .loop .inv) (c .before .before .before .before .if2 .taken) (c .before .before .before .before .before .before .head-at .ensures) (c .before .before .select-statement-token .ensures) refl (c .before .before .select-statement-token .kept .1 .1 .0)
+sel-stmt-loop-again t c = token-next (c .before .before .before .before .before .before .before .before .before .before .before .before .before .pre .1) (c .before .before .before .before .before .before .before .before .before .loop .inv) (c .before .before .before .before .if2 .taken) (c .before .before .before .before .before .before .head-at .ensures) (c .before .before .select-statement-token .ensures) refl (c .before .before .select-statement-token .kept .1 .1 .0)
 
-query-select-statement-before-requires : (t : ℕ) → query-lts.Need-select-statement-before-requires (
+sel-stmt-select-statement-before-requires :
+    (t : ℕ) → sel-stmt-lts.Need-select-statement-before-requires (
+      head-at-reads.Asked,
+      head-at-reads.Learnt,
+      select-statement-token-reads.Asked,
+      select-statement-token-reads.Learnt,
+      select-statement-before-reads.Asked,
+      select-statement-before-reads.Learnt,
+      node-below t,
+      node.Post,
+    ) (sel-stmt-at t) sel-stmt.Post sel-stmt-Inv-loop sel-stmt-μ-loop
+sel-stmt-select-statement-before-requires t c κs = let r = side-ready (c .before .before .before .before .before .before .before .before .before .before .pre .1) (c .before .before .before .before .before .before .loop .inv) in omega arith
+
+sel-stmt-sub-node : (t : ℕ) → sel-stmt-lts.Need-sub-node (
   head-at-reads.Asked,
   head-at-reads.Learnt,
   select-statement-token-reads.Asked,
@@ -11401,10 +11930,10 @@ query-select-statement-before-requires : (t : ℕ) → query-lts.Need-select-sta
   select-statement-before-reads.Learnt,
   node-below t,
   node.Post,
-) (query-at t) query.Post query-Inv-loop query-μ-loop
-query-select-statement-before-requires t c κs = let r = side-ready (c .before .before .before .before .before .before .before .before .before .before .pre .1) (c .before .before .before .before .before .before .loop .inv) in omega arith
+) (sel-stmt-at t) sel-stmt.Post sel-stmt-Inv-loop sel-stmt-μ-loop
+sel-stmt-sub-node t c = left-pos (c .before .before .before .before .before .before .before .before .before .before .before .before .before .before .pre .1) (c .before .before .before .before .before .before .before .before .before .before .loop .inv) (c .before .before .before .before .before .before .before .before .if1 .taken) (c .before .before .before .before .before .if2 .left)
 
-query-sub-node : (t : ℕ) → query-lts.Need-sub-node (
+sel-stmt-node-requires : (t : ℕ) → sel-stmt-lts.Need-node-requires (
   head-at-reads.Asked,
   head-at-reads.Learnt,
   select-statement-token-reads.Asked,
@@ -11413,10 +11942,10 @@ query-sub-node : (t : ℕ) → query-lts.Need-sub-node (
   select-statement-before-reads.Learnt,
   node-below t,
   node.Post,
-) (query-at t) query.Post query-Inv-loop query-μ-loop
-query-sub-node t c = left-pos (c .before .before .before .before .before .before .before .before .before .before .before .before .before .before .pre .1) (c .before .before .before .before .before .before .before .before .before .before .loop .inv) (c .before .before .before .before .before .before .before .before .if1 .taken) (c .before .before .before .before .before .if2 .left)
+) (sel-stmt-at t) sel-stmt.Post sel-stmt-Inv-loop sel-stmt-μ-loop
+sel-stmt-node-requires t c κs = (omega (arith, c .before .before .before .before .before .before .before .before .before .before .before .before .before .before .pre .0, left-pos (c .before .before .before .before .before .before .before .before .before .before .before .before .before .before .pre .1) (c .before .before .before .before .before .before .before .before .before .before .loop .inv) (c .before .before .before .before .before .before .before .before .if1 .taken) (c .before .before .before .before .before .if2 .left)), node-ready (c .before .before .before .before .before .before .before .before .before .before .before .before .before .before .pre .1) (c .before .before .before .before .before .before .before .before .before .before .loop .inv) (c .before .before .before .before .before .before .before .before .if1 .taken) (c .before .before .before .before .before .if2 .left) (c .before .before .before .before .before .before .before .head-at .ensures) (c .before .before .before .select-statement-before .ensures) (omega arith))
 
-query-node-requires : (t : ℕ) → query-lts.Need-node-requires (
+sel-stmt-loop-less-2 : (t : ℕ) → sel-stmt-lts.Need-loop-less-2 (
   head-at-reads.Asked,
   head-at-reads.Learnt,
   select-statement-token-reads.Asked,
@@ -11425,10 +11954,10 @@ query-node-requires : (t : ℕ) → query-lts.Need-node-requires (
   select-statement-before-reads.Learnt,
   node-below t,
   node.Post,
-) (query-at t) query.Post query-Inv-loop query-μ-loop
-query-node-requires t c κs = (omega (arith, c .before .before .before .before .before .before .before .before .before .before .before .before .before .before .pre .0, left-pos (c .before .before .before .before .before .before .before .before .before .before .before .before .before .before .pre .1) (c .before .before .before .before .before .before .before .before .before .before .loop .inv) (c .before .before .before .before .before .before .before .before .if1 .taken) (c .before .before .before .before .before .if2 .left)), node-ready (c .before .before .before .before .before .before .before .before .before .before .before .before .before .before .pre .1) (c .before .before .before .before .before .before .before .before .before .before .loop .inv) (c .before .before .before .before .before .before .before .before .if1 .taken) (c .before .before .before .before .before .if2 .left) (c .before .before .before .before .before .before .before .head-at .ensures) (c .before .before .before .select-statement-before .ensures) (omega arith))
+) (sel-stmt-at t) sel-stmt.Post sel-stmt-Inv-loop sel-stmt-μ-loop
+sel-stmt-loop-less-2 t c = omega (arith, c .before .before .before .before .before .before .before .before .before .before .before .before .before .before .loop .inv .inside, c .before .before .before .node .ensures .forward)
 
-query-loop-less-2 : (t : ℕ) → query-lts.Need-loop-less-2 (
+sel-stmt-loop-again-2 : (t : ℕ) → sel-stmt-lts.Need-loop-again-2 (
   head-at-reads.Asked,
   head-at-reads.Learnt,
   select-statement-token-reads.Asked,
@@ -11437,23 +11966,11 @@ query-loop-less-2 : (t : ℕ) → query-lts.Need-loop-less-2 (
   select-statement-before-reads.Learnt,
   node-below t,
   node.Post,
-) (query-at t) query.Post query-Inv-loop query-μ-loop
-query-loop-less-2 t c = omega (arith, c .before .before .before .before .before .before .before .before .before .before .before .before .before .before .loop .inv .inside, c .before .before .before .node .ensures .on)
-
-query-loop-again-2 : (t : ℕ) → query-lts.Need-loop-again-2 (
-  head-at-reads.Asked,
-  head-at-reads.Learnt,
-  select-statement-token-reads.Asked,
-  select-statement-token-reads.Learnt,
-  select-statement-before-reads.Asked,
-  select-statement-before-reads.Learnt,
-  node-below t,
-  node.Post,
-) (query-at t) query.Post query-Inv-loop query-μ-loop
+) (sel-stmt-at t) sel-stmt.Post sel-stmt-Inv-loop sel-stmt-μ-loop
 unfolding formatSelectStatement
-query-loop-again-2 t c = node-next (c .before .before .before .before .before .before .before .before .before .before .before .before .before .before .before .before .before .before .pre .1) (c .before .before .before .before .before .before .before .before .before .before .before .before .before .before .loop .inv) (formatSelectStatement .atNode (c .before .before .before .before .before .before .before .before .before .before .before .before .before .before .loop .local) (c .before .before .before .before .before .before .before .before .before .before .before .head-at .result .kind) 0) (c .before .before .before .before .before .before .before .before .before .before .before .before .if1 .taken) (c .before .before .before .before .before .before .before .before .before .if2 .left) (c .before .before .before .before .before .before .before .before .before .before .before .head-at .ensures) (λ k z. refl) (c .before .before .before .before .before .before .before .select-statement-before .ensures) (c .before .before .before .node .ensures) refl no-spacing (omega arith) (omega arith) (c .before .before .before .node .kept .1 .1 .1 .1 .0 ∙ c .before .before .before .before .before .before .before .select-statement-before .kept .0)
+sel-stmt-loop-again-2 t c = node-next (c .before .before .before .before .before .before .before .before .before .before .before .before .before .before .before .before .before .before .pre .1) (c .before .before .before .before .before .before .before .before .before .before .before .before .before .before .loop .inv) (formatSelectStatement .atNode (c .before .before .before .before .before .before .before .before .before .before .before .before .before .before .loop .local) (c .before .before .before .before .before .before .before .before .before .before .before .head-at .result .kind) 0) (c .before .before .before .before .before .before .before .before .before .before .before .before .if1 .taken) (c .before .before .before .before .before .before .before .before .before .if2 .left) (c .before .before .before .before .before .before .before .before .before .before .before .head-at .ensures) (λ k z. refl) (c .before .before .before .before .before .before .before .select-statement-before .ensures) (c .before .before .before .node .ensures) refl no-spacing (omega arith) (omega arith) (c .before .before .before .node .kept .1 .1 .1 .1 .0 ∙ c .before .before .before .before .before .before .before .select-statement-before .kept .0)
 
-query-add-t28 : (t : ℕ) → query-lts.Need-add-t28 (
+sel-stmt-add-t28 : (t : ℕ) → sel-stmt-lts.Need-add-t28 (
   head-at-reads.Asked,
   head-at-reads.Learnt,
   select-statement-token-reads.Asked,
@@ -11462,10 +11979,10 @@ query-add-t28 : (t : ℕ) → query-lts.Need-add-t28 (
   select-statement-before-reads.Learnt,
   node-below t,
   node.Post,
-) (query-at t) query.Post query-Inv-loop query-μ-loop
-query-add-t28 t c = omega (arith, c .before .before .loop .inv .inside, c .before .before .before .before .before .before .pre .1 .sizes .tape-fits)
+) (sel-stmt-at t) sel-stmt.Post sel-stmt-Inv-loop sel-stmt-μ-loop
+sel-stmt-add-t28 t c = omega (arith, c .before .before .loop .inv .inside, c .before .before .before .before .before .before .pre .1 .sizes .tape-fits)
 
-query-same-length : (t : ℕ) → query-lts.Need-same-length (
+sel-stmt-same-length : (t : ℕ) → sel-stmt-lts.Need-same-length (
   head-at-reads.Asked,
   head-at-reads.Learnt,
   select-statement-token-reads.Asked,
@@ -11474,10 +11991,10 @@ query-same-length : (t : ℕ) → query-lts.Need-same-length (
   select-statement-before-reads.Learnt,
   node-below t,
   node.Post,
-) (query-at t) query.Post query-Inv-loop query-μ-loop
-query-same-length t c = c .before .before .loop .inv .same
+) (sel-stmt-at t) sel-stmt.Post sel-stmt-Inv-loop sel-stmt-μ-loop
+sel-stmt-same-length t c = c .before .before .loop .inv .same
 
-query-returns : (t : ℕ) → query-lts.Need-returns (
+sel-stmt-returns : (t : ℕ) → sel-stmt-lts.Need-returns (
   head-at-reads.Asked,
   head-at-reads.Learnt,
   select-statement-token-reads.Asked,
@@ -11486,179 +12003,9 @@ query-returns : (t : ℕ) → query-lts.Need-returns (
   select-statement-before-reads.Learnt,
   node-below t,
   node.Post,
-) (query-at t) query.Post query-Inv-loop query-μ-loop
+) (sel-stmt-at t) sel-stmt.Post sel-stmt-Inv-loop sel-stmt-μ-loop
 unfolding formatSelectStatement
-query-returns t c = loop-last (c .before .before .before .before .before .before .pre .1) (c .before .before .loop .inv) (c .if1 .left) no-spacing (omega arith)
-
-abbrev row-Inv-loop : row-lts.InvT-loop
-row-Inv-loop source tape config errors out₀ left at i₀ ctx₀ out i ctx = Loop source tape config errors left at (always formatInlineCommaList) formatInlineCommaList ctx₀ out₀ out i ctx (flagged false)
-
-abbrev row-μ-loop : row-lts.MeasureT-loop
-row-μ-loop source tape config errors out₀ left at i₀ ctx₀ out i ctx = length tape - i
-
-row-add-i : (t : ℕ) → row-lts.Need-add-i (
-  head-at-reads.Asked,
-  head-at-reads.Learnt,
-  inline-comma-list-token-reads.Asked,
-  inline-comma-list-token-reads.Learnt,
-  node-below t,
-  node.Post,
-) (row-at t) row.Post row-Inv-loop row-μ-loop
-row-add-i t c = omega (arith, c .before .before .before .pre .1 .inside, c .before .before .before .pre .1 .sizes .tape-fits)
-
-row-loop-holds : (t : ℕ) → row-lts.Need-loop-holds (
-  head-at-reads.Asked,
-  head-at-reads.Learnt,
-  inline-comma-list-token-reads.Asked,
-  inline-comma-list-token-reads.Learnt,
-  node-below t,
-  node.Post,
-) (row-at t) row.Post row-Inv-loop row-μ-loop
-unfolding formatInlineCommaList
-row-loop-holds t c = loop-first (always formatInlineCommaList) formatInlineCommaList _ (c .before .before .before .pre .1) (λ all z. refl)
-
-row-shared-slice-read-if1 : (t : ℕ) → row-lts.Need-shared-slice-read-if1 (
-  head-at-reads.Asked,
-  head-at-reads.Learnt,
-  inline-comma-list-token-reads.Asked,
-  inline-comma-list-token-reads.Learnt,
-  node-below t,
-  node.Post,
-) (row-at t) row.Post row-Inv-loop row-μ-loop
-row-shared-slice-read-if1 t c = omega (arith, c .before .loop .inv .inside)
-
-row-head-at-requires : (t : ℕ) → row-lts.Need-head-at-requires (
-  head-at-reads.Asked,
-  head-at-reads.Learnt,
-  inline-comma-list-token-reads.Asked,
-  inline-comma-list-token-reads.Learnt,
-  node-below t,
-  node.Post,
-) (row-at t) row.Post row-Inv-loop row-μ-loop
-row-head-at-requires t c κs = loop-fits (c .before .before .before .before .before .before .pre .1) (c .before .before .loop .inv) (c .if1 .taken)
-
-row-shared-slice-read-if2 : (t : ℕ) → row-lts.Need-shared-slice-read-if2 (
-  head-at-reads.Asked,
-  head-at-reads.Learnt,
-  inline-comma-list-token-reads.Asked,
-  inline-comma-list-token-reads.Learnt,
-  node-below t,
-  node.Post,
-) (row-at t) row.Post row-Inv-loop row-μ-loop
-row-shared-slice-read-if2 t c = omega (arith, c .before .before .before .before .loop .inv .inside)
-
-row-inline-comma-list-token-requires : (t : ℕ) → row-lts.Need-inline-comma-list-token-requires (
-  head-at-reads.Asked,
-  head-at-reads.Learnt,
-  inline-comma-list-token-reads.Asked,
-  inline-comma-list-token-reads.Learnt,
-  node-below t,
-  node.Post,
-) (row-at t) row.Post row-Inv-loop row-μ-loop
-row-inline-comma-list-token-requires t c κs = token-ready (c .before .before .before .before .before .before .before .before .before .before .pre .1) (c .before .before .before .before .before .before .loop .inv) _ (c .before .if2 .taken) (c .before .before .before .head-at .ensures)
-
-row-add-i-2 : (t : ℕ) → row-lts.Need-add-i-2 (
-  head-at-reads.Asked,
-  head-at-reads.Learnt,
-  inline-comma-list-token-reads.Asked,
-  inline-comma-list-token-reads.Learnt,
-  node-below t,
-  node.Post,
-) (row-at t) row.Post row-Inv-loop row-μ-loop
-row-add-i-2 t c = omega (arith, loop-fits (c .before .before .before .before .before .before .before .before .before .before .before .before .before .pre .1) (c .before .before .before .before .before .before .before .before .before .loop .inv) (c .before .before .before .before .before .before .before .if1 .taken), c .before .before .before .before .before .before .before .before .before .before .before .before .before .pre .1 .sizes .tape-fits)
-
-row-loop-less : (t : ℕ) → row-lts.Need-loop-less (
-  head-at-reads.Asked,
-  head-at-reads.Learnt,
-  inline-comma-list-token-reads.Asked,
-  inline-comma-list-token-reads.Learnt,
-  node-below t,
-  node.Post,
-) (row-at t) row.Post row-Inv-loop row-μ-loop
-row-loop-less t c = omega (arith, c .before .before .before .before .before .before .before .before .before .loop .inv .inside)
-
-row-loop-again : (t : ℕ) → row-lts.Need-loop-again (
-  head-at-reads.Asked,
-  head-at-reads.Learnt,
-  inline-comma-list-token-reads.Asked,
-  inline-comma-list-token-reads.Learnt,
-  node-below t,
-  node.Post,
-) (row-at t) row.Post row-Inv-loop row-μ-loop
-unfolding formatInlineCommaList
-row-loop-again t c = token-next (c .before .before .before .before .before .before .before .before .before .before .before .before .before .pre .1) (c .before .before .before .before .before .before .before .before .before .loop .inv) (c .before .before .before .before .if2 .taken) (c .before .before .before .before .before .before .head-at .ensures) (c .before .before .inline-comma-list-token .ensures) refl (c .before .before .inline-comma-list-token .kept .1 .1 .0)
-
-row-sub-node : (t : ℕ) → row-lts.Need-sub-node (
-  head-at-reads.Asked,
-  head-at-reads.Learnt,
-  inline-comma-list-token-reads.Asked,
-  inline-comma-list-token-reads.Learnt,
-  node-below t,
-  node.Post,
-) (row-at t) row.Post row-Inv-loop row-μ-loop
-row-sub-node t c = left-pos (c .before .before .before .before .before .before .before .before .before .before .pre .1) (c .before .before .before .before .before .before .loop .inv) (c .before .before .before .before .if1 .taken) (c .before .if2 .left)
-
-row-node-requires : (t : ℕ) → row-lts.Need-node-requires (
-  head-at-reads.Asked,
-  head-at-reads.Learnt,
-  inline-comma-list-token-reads.Asked,
-  inline-comma-list-token-reads.Learnt,
-  node-below t,
-  node.Post,
-) (row-at t) row.Post row-Inv-loop row-μ-loop
-row-node-requires t c κs = (omega (arith, c .before .before .before .before .before .before .before .before .before .before .pre .0, left-pos (c .before .before .before .before .before .before .before .before .before .before .pre .1) (c .before .before .before .before .before .before .loop .inv) (c .before .before .before .before .if1 .taken) (c .before .if2 .left)), node-ready (c .before .before .before .before .before .before .before .before .before .before .pre .1) (c .before .before .before .before .before .before .loop .inv) (c .before .before .before .before .if1 .taken) (c .before .if2 .left) (c .before .before .before .head-at .ensures) (no-spacing {xs = c .before .before .before .before .before .before .loop .out}) (omega arith))
-
-row-loop-less-2 : (t : ℕ) → row-lts.Need-loop-less-2 (
-  head-at-reads.Asked,
-  head-at-reads.Learnt,
-  inline-comma-list-token-reads.Asked,
-  inline-comma-list-token-reads.Learnt,
-  node-below t,
-  node.Post,
-) (row-at t) row.Post row-Inv-loop row-μ-loop
-row-loop-less-2 t c = omega (arith, c .before .before .before .before .before .before .before .before .before .before .loop .inv .inside, c .before .before .before .node .ensures .on)
-
-row-loop-again-2 : (t : ℕ) → row-lts.Need-loop-again-2 (
-  head-at-reads.Asked,
-  head-at-reads.Learnt,
-  inline-comma-list-token-reads.Asked,
-  inline-comma-list-token-reads.Learnt,
-  node-below t,
-  node.Post,
-) (row-at t) row.Post row-Inv-loop row-μ-loop
-unfolding formatInlineCommaList
-row-loop-again-2 t c = node-next (c .before .before .before .before .before .before .before .before .before .before .before .before .before .before .pre .1) (c .before .before .before .before .before .before .before .before .before .before .loop .inv) (formatInlineCommaList .atNode (flagged false) (c .before .before .before .before .before .before .before .head-at .result .kind) 0) (c .before .before .before .before .before .before .before .before .if1 .taken) (c .before .before .before .before .before .if2 .left) (c .before .before .before .before .before .before .before .head-at .ensures) (λ k z. refl) (no-spacing {xs = c .before .before .before .before .before .before .before .before .before .before .loop .out}) (c .before .before .before .node .ensures) refl no-spacing (omega arith) (omega arith) (c .before .before .before .node .kept .1 .1 .1 .1 .0)
-
-row-add-t22 : (t : ℕ) → row-lts.Need-add-t22 (
-  head-at-reads.Asked,
-  head-at-reads.Learnt,
-  inline-comma-list-token-reads.Asked,
-  inline-comma-list-token-reads.Learnt,
-  node-below t,
-  node.Post,
-) (row-at t) row.Post row-Inv-loop row-μ-loop
-row-add-t22 t c = omega (arith, c .before .before .loop .inv .inside, c .before .before .before .before .before .before .pre .1 .sizes .tape-fits)
-
-row-same-length : (t : ℕ) → row-lts.Need-same-length (
-  head-at-reads.Asked,
-  head-at-reads.Learnt,
-  inline-comma-list-token-reads.Asked,
-  inline-comma-list-token-reads.Learnt,
-  node-below t,
-  node.Post,
-) (row-at t) row.Post row-Inv-loop row-μ-loop
-row-same-length t c = c .before .before .loop .inv .same
-
-row-returns : (t : ℕ) → row-lts.Need-returns (
-  head-at-reads.Asked,
-  head-at-reads.Learnt,
-  inline-comma-list-token-reads.Asked,
-  inline-comma-list-token-reads.Learnt,
-  node-below t,
-  node.Post,
-) (row-at t) row.Post row-Inv-loop row-μ-loop
-unfolding formatInlineCommaList
-row-returns t c = loop-last (c .before .before .before .before .before .before .pre .1) (c .before .before .loop .inv) (c .if1 .left) no-spacing (omega arith)
+sel-stmt-returns t c = loop-last (c .before .before .before .before .before .before .pre .1) (c .before .before .loop .inv) (c .if1 .left) no-spacing (omega arith)
 
 abbrev select-Inv-loop : select-lts.InvT-loop
 select-Inv-loop source tape config errors out₀ left at i₀ ctx₀ local out i ctx = Loop source tape config errors left at (always formatSelectClause) formatSelectClause ctx₀ out₀ out i ctx (flagged false)
@@ -11862,7 +12209,7 @@ select-loop-less-2 : (t : ℕ) → select-lts.Need-loop-less-2 (
   select-clause-after-reads.Asked,
   select-clause-after-reads.Learnt,
 ) (select-at t) select.Post select-Inv-loop select-μ-loop
-select-loop-less-2 t c = omega (arith, c .before .before .before .before .before .before .before .before .before .before .before .before .before .before .before .loop .inv .inside, c .before .before .before .before .node .ensures .on)
+select-loop-less-2 t c = omega (arith, c .before .before .before .before .before .before .before .before .before .before .before .before .before .before .before .loop .inv .inside, c .before .before .before .before .node .ensures .forward)
 
 select-loop-again-2 : (t : ℕ) → select-lts.Need-loop-again-2 (
   head-at-reads.Asked,
@@ -12126,7 +12473,7 @@ settings-loop-less-2 : (t : ℕ) → settings-lts.Need-loop-less-2 (
   settings-clause-after-reads.Asked,
   settings-clause-after-reads.Learnt,
 ) (settings-at t) settings.Post settings-Inv-loop settings-μ-loop
-settings-loop-less-2 t c = omega (arith, c .before .before .before .before .before .before .before .before .before .before .before .before .before .before .before .loop .inv .inside, c .before .before .before .before .node .ensures .on)
+settings-loop-less-2 t c = omega (arith, c .before .before .before .before .before .before .before .before .before .before .before .before .before .before .before .loop .inv .inside, c .before .before .before .before .node .ensures .forward)
 
 settings-loop-again-2 : (t : ℕ) → settings-lts.Need-loop-again-2 (
   head-at-reads.Asked,
@@ -12348,7 +12695,7 @@ simple-loop-less-2 : (t : ℕ) → simple-lts.Need-loop-less-2 (
   node-below t,
   node.Post,
 ) (simple-at t) simple.Post simple-Inv-loop simple-μ-loop
-simple-loop-less-2 t c = omega (arith, c .before .before .before .before .before .before .before .before .before .before .before .loop .inv .inside, c .before .before .before .node .ensures .on)
+simple-loop-less-2 t c = omega (arith, c .before .before .before .before .before .before .before .before .before .before .before .loop .inv .inside, c .before .before .before .node .ensures .forward)
 
 simple-loop-again-2 : (t : ℕ) → simple-lts.Need-loop-again-2 (
   head-at-reads.Asked,
@@ -12399,176 +12746,6 @@ simple-returns : (t : ℕ) → simple-lts.Need-returns (
 ) (simple-at t) simple.Post simple-Inv-loop simple-μ-loop
 unfolding formatSimpleClause
 simple-returns t c = loop-last (c .before .before .before .before .before .before .pre .1) (c .before .before .loop .inv) (c .if1 .left) no-spacing (omega arith)
-
-abbrev solid-Inv-loop : solid-lts.InvT-loop
-solid-Inv-loop source tape config errors out₀ left at i₀ ctx₀ out i ctx = Loop source tape config errors left at (always formatInlineNoSpaces) formatInlineNoSpaces ctx₀ out₀ out i ctx (flagged false)
-
-abbrev solid-μ-loop : solid-lts.MeasureT-loop
-solid-μ-loop source tape config errors out₀ left at i₀ ctx₀ out i ctx = length tape - i
-
-solid-add-i : (t : ℕ) → solid-lts.Need-add-i (
-  head-at-reads.Asked,
-  head-at-reads.Learnt,
-  emit-other-reads.Asked,
-  emit-other-reads.Learnt,
-  node-below t,
-  node.Post,
-) (solid-at t) solid.Post solid-Inv-loop solid-μ-loop
-solid-add-i t c = omega (arith, c .before .before .before .pre .1 .inside, c .before .before .before .pre .1 .sizes .tape-fits)
-
-solid-loop-holds : (t : ℕ) → solid-lts.Need-loop-holds (
-  head-at-reads.Asked,
-  head-at-reads.Learnt,
-  emit-other-reads.Asked,
-  emit-other-reads.Learnt,
-  node-below t,
-  node.Post,
-) (solid-at t) solid.Post solid-Inv-loop solid-μ-loop
-unfolding formatInlineNoSpaces
-solid-loop-holds t c = loop-first (always formatInlineNoSpaces) formatInlineNoSpaces _ (c .before .before .before .pre .1) (λ all z. refl)
-
-solid-shared-slice-read-if1 : (t : ℕ) → solid-lts.Need-shared-slice-read-if1 (
-  head-at-reads.Asked,
-  head-at-reads.Learnt,
-  emit-other-reads.Asked,
-  emit-other-reads.Learnt,
-  node-below t,
-  node.Post,
-) (solid-at t) solid.Post solid-Inv-loop solid-μ-loop
-solid-shared-slice-read-if1 t c = omega (arith, c .before .loop .inv .inside)
-
-solid-head-at-requires : (t : ℕ) → solid-lts.Need-head-at-requires (
-  head-at-reads.Asked,
-  head-at-reads.Learnt,
-  emit-other-reads.Asked,
-  emit-other-reads.Learnt,
-  node-below t,
-  node.Post,
-) (solid-at t) solid.Post solid-Inv-loop solid-μ-loop
-solid-head-at-requires t c κs = loop-fits (c .before .before .before .before .before .before .pre .1) (c .before .before .loop .inv) (c .if1 .taken)
-
-solid-shared-slice-read-if2 : (t : ℕ) → solid-lts.Need-shared-slice-read-if2 (
-  head-at-reads.Asked,
-  head-at-reads.Learnt,
-  emit-other-reads.Asked,
-  emit-other-reads.Learnt,
-  node-below t,
-  node.Post,
-) (solid-at t) solid.Post solid-Inv-loop solid-μ-loop
-solid-shared-slice-read-if2 t c = omega (arith, c .before .before .before .before .loop .inv .inside)
-
-solid-emit-other-requires : (t : ℕ) → solid-lts.Need-emit-other-requires (
-  head-at-reads.Asked,
-  head-at-reads.Learnt,
-  emit-other-reads.Asked,
-  emit-other-reads.Learnt,
-  node-below t,
-  node.Post,
-) (solid-at t) solid.Post solid-Inv-loop solid-μ-loop
-solid-emit-other-requires t c κs = token-ready (c .before .before .before .before .before .before .before .before .before .before .pre .1) (c .before .before .before .before .before .before .loop .inv) _ (c .before .if2 .taken) (c .before .before .before .head-at .ensures)
-
-solid-add-i-2 : (t : ℕ) → solid-lts.Need-add-i-2 (
-  head-at-reads.Asked,
-  head-at-reads.Learnt,
-  emit-other-reads.Asked,
-  emit-other-reads.Learnt,
-  node-below t,
-  node.Post,
-) (solid-at t) solid.Post solid-Inv-loop solid-μ-loop
-solid-add-i-2 t c = omega (arith, loop-fits (c .before .before .before .before .before .before .before .before .before .before .before .before .before .pre .1) (c .before .before .before .before .before .before .before .before .before .loop .inv) (c .before .before .before .before .before .before .before .if1 .taken), c .before .before .before .before .before .before .before .before .before .before .before .before .before .pre .1 .sizes .tape-fits)
-
-solid-loop-less : (t : ℕ) → solid-lts.Need-loop-less (
-  head-at-reads.Asked,
-  head-at-reads.Learnt,
-  emit-other-reads.Asked,
-  emit-other-reads.Learnt,
-  node-below t,
-  node.Post,
-) (solid-at t) solid.Post solid-Inv-loop solid-μ-loop
-solid-loop-less t c = omega (arith, c .before .before .before .before .before .before .before .before .before .loop .inv .inside)
-
-solid-loop-again : (t : ℕ) → solid-lts.Need-loop-again (
-  head-at-reads.Asked,
-  head-at-reads.Learnt,
-  emit-other-reads.Asked,
-  emit-other-reads.Learnt,
-  node-below t,
-  node.Post,
-) (solid-at t) solid.Post solid-Inv-loop solid-μ-loop
-unfolding formatInlineNoSpaces
-solid-loop-again t c = token-next (c .before .before .before .before .before .before .before .before .before .before .before .before .before .pre .1) (c .before .before .before .before .before .before .before .before .before .loop .inv) (c .before .before .before .before .if2 .taken) (c .before .before .before .before .before .before .head-at .ensures) (c .before .before .emit-other .ensures) refl (c .before .before .emit-other .kept .1 .1 .0)
-
-solid-sub-node : (t : ℕ) → solid-lts.Need-sub-node (
-  head-at-reads.Asked,
-  head-at-reads.Learnt,
-  emit-other-reads.Asked,
-  emit-other-reads.Learnt,
-  node-below t,
-  node.Post,
-) (solid-at t) solid.Post solid-Inv-loop solid-μ-loop
-solid-sub-node t c = left-pos (c .before .before .before .before .before .before .before .before .before .before .pre .1) (c .before .before .before .before .before .before .loop .inv) (c .before .before .before .before .if1 .taken) (c .before .if2 .left)
-
-solid-node-requires : (t : ℕ) → solid-lts.Need-node-requires (
-  head-at-reads.Asked,
-  head-at-reads.Learnt,
-  emit-other-reads.Asked,
-  emit-other-reads.Learnt,
-  node-below t,
-  node.Post,
-) (solid-at t) solid.Post solid-Inv-loop solid-μ-loop
-solid-node-requires t c κs = (omega (arith, c .before .before .before .before .before .before .before .before .before .before .pre .0, left-pos (c .before .before .before .before .before .before .before .before .before .before .pre .1) (c .before .before .before .before .before .before .loop .inv) (c .before .before .before .before .if1 .taken) (c .before .if2 .left)), node-ready (c .before .before .before .before .before .before .before .before .before .before .pre .1) (c .before .before .before .before .before .before .loop .inv) (c .before .before .before .before .if1 .taken) (c .before .if2 .left) (c .before .before .before .head-at .ensures) (no-spacing {xs = c .before .before .before .before .before .before .loop .out}) (omega arith))
-
-solid-loop-less-2 : (t : ℕ) → solid-lts.Need-loop-less-2 (
-  head-at-reads.Asked,
-  head-at-reads.Learnt,
-  emit-other-reads.Asked,
-  emit-other-reads.Learnt,
-  node-below t,
-  node.Post,
-) (solid-at t) solid.Post solid-Inv-loop solid-μ-loop
-solid-loop-less-2 t c = omega (arith, c .before .before .before .before .before .before .before .before .before .before .loop .inv .inside, c .before .before .before .node .ensures .on)
-
-solid-loop-again-2 : (t : ℕ) → solid-lts.Need-loop-again-2 (
-  head-at-reads.Asked,
-  head-at-reads.Learnt,
-  emit-other-reads.Asked,
-  emit-other-reads.Learnt,
-  node-below t,
-  node.Post,
-) (solid-at t) solid.Post solid-Inv-loop solid-μ-loop
-unfolding formatInlineNoSpaces
-solid-loop-again-2 t c = node-next (c .before .before .before .before .before .before .before .before .before .before .before .before .before .before .pre .1) (c .before .before .before .before .before .before .before .before .before .before .loop .inv) (formatInlineNoSpaces .atNode (flagged false) (c .before .before .before .before .before .before .before .head-at .result .kind) 0) (c .before .before .before .before .before .before .before .before .if1 .taken) (c .before .before .before .before .before .if2 .left) (c .before .before .before .before .before .before .before .head-at .ensures) (λ k z. refl) (no-spacing {xs = c .before .before .before .before .before .before .before .before .before .before .loop .out}) (c .before .before .before .node .ensures) refl no-spacing (omega arith) (omega arith) (c .before .before .before .node .kept .1 .1 .1 .1 .0)
-
-solid-add-t22 : (t : ℕ) → solid-lts.Need-add-t22 (
-  head-at-reads.Asked,
-  head-at-reads.Learnt,
-  emit-other-reads.Asked,
-  emit-other-reads.Learnt,
-  node-below t,
-  node.Post,
-) (solid-at t) solid.Post solid-Inv-loop solid-μ-loop
-solid-add-t22 t c = omega (arith, c .before .before .loop .inv .inside, c .before .before .before .before .before .before .pre .1 .sizes .tape-fits)
-
-solid-same-length : (t : ℕ) → solid-lts.Need-same-length (
-  head-at-reads.Asked,
-  head-at-reads.Learnt,
-  emit-other-reads.Asked,
-  emit-other-reads.Learnt,
-  node-below t,
-  node.Post,
-) (solid-at t) solid.Post solid-Inv-loop solid-μ-loop
-solid-same-length t c = c .before .before .loop .inv .same
-
-solid-returns : (t : ℕ) → solid-lts.Need-returns (
-  head-at-reads.Asked,
-  head-at-reads.Learnt,
-  emit-other-reads.Asked,
-  emit-other-reads.Learnt,
-  node-below t,
-  node.Post,
-) (solid-at t) solid.Post solid-Inv-loop solid-μ-loop
-unfolding formatInlineNoSpaces
-solid-returns t c = loop-last (c .before .before .before .before .before .before .pre .1) (c .before .before .loop .inv) (c .if1 .left) no-spacing (omega arith)
 
 abbrev subquery-Inv-loop : subquery-lts.InvT-loop
 subquery-Inv-loop source tape config errors out₀ left at i₀ ctx₀ out i ctx = Loop source tape config errors left at (always formatSubquery) formatSubquery ctx₀ out₀ out i ctx (flagged false)
@@ -12696,7 +12873,7 @@ subquery-loop-less-2 : (t : ℕ) → subquery-lts.Need-loop-less-2 (
   node-below t,
   node.Post,
 ) (subquery-at t) subquery.Post subquery-Inv-loop subquery-μ-loop
-subquery-loop-less-2 t c = omega (arith, c .before .before .before .before .before .before .before .before .before .before .loop .inv .inside, c .before .before .before .node .ensures .on)
+subquery-loop-less-2 t c = omega (arith, c .before .before .before .before .before .before .before .before .before .before .loop .inv .inside, c .before .before .before .node .ensures .forward)
 
 subquery-loop-again-2 : (t : ℕ) → subquery-lts.Need-loop-again-2 (
   head-at-reads.Asked,
@@ -12740,13 +12917,13 @@ subquery-returns : (t : ℕ) → subquery-lts.Need-returns (
 unfolding formatSubquery
 subquery-returns t c = loop-last (c .before .before .before .before .before .before .pre .1) (c .before .before .loop .inv) (c .if1 .left) no-spacing (omega arith)
 
-abbrev tight-Inv-loop : tight-lts.InvT-loop
-tight-Inv-loop source tape config errors out₀ left at i₀ ctx₀ local₀ out i ctx local = Loop source tape config errors left at (always formatInlineTightParens) formatInlineTightParens ctx₀ out₀ out i ctx local
+abbrev tight-paren-Inv-loop : tight-paren-lts.InvT-loop
+tight-paren-Inv-loop source tape config errors out₀ left at i₀ ctx₀ local₀ out i ctx local = Loop source tape config errors left at (always formatInlineTightParens) formatInlineTightParens ctx₀ out₀ out i ctx local
 
-abbrev tight-μ-loop : tight-lts.MeasureT-loop
-tight-μ-loop source tape config errors out₀ left at i₀ ctx₀ local₀ out i ctx local = length tape - i
+abbrev tight-paren-μ-loop : tight-paren-lts.MeasureT-loop
+tight-paren-μ-loop source tape config errors out₀ left at i₀ ctx₀ local₀ out i ctx local = length tape - i
 
-tight-add-i : (t : ℕ) → tight-lts.Need-add-i (
+tight-paren-add-i : (t : ℕ) → tight-paren-lts.Need-add-i (
   head-at-reads.Asked,
   head-at-reads.Learnt,
   inline-tight-parens-token-reads.Asked,
@@ -12757,10 +12934,10 @@ tight-add-i : (t : ℕ) → tight-lts.Need-add-i (
   space-if-reads.Learnt,
   node-below t,
   node.Post,
-) (tight-at t) tight.Post tight-Inv-loop tight-μ-loop
-tight-add-i t c = omega (arith, c .before .before .before .pre .1 .inside, c .before .before .before .pre .1 .sizes .tape-fits)
+) (tight-paren-at t) tight-paren.Post tight-paren-Inv-loop tight-paren-μ-loop
+tight-paren-add-i t c = omega (arith, c .before .before .before .pre .1 .inside, c .before .before .before .pre .1 .sizes .tape-fits)
 
-tight-loop-holds : (t : ℕ) → tight-lts.Need-loop-holds (
+tight-paren-loop-holds : (t : ℕ) → tight-paren-lts.Need-loop-holds (
   head-at-reads.Asked,
   head-at-reads.Learnt,
   inline-tight-parens-token-reads.Asked,
@@ -12771,11 +12948,11 @@ tight-loop-holds : (t : ℕ) → tight-lts.Need-loop-holds (
   space-if-reads.Learnt,
   node-below t,
   node.Post,
-) (tight-at t) tight.Post tight-Inv-loop tight-μ-loop
+) (tight-paren-at t) tight-paren.Post tight-paren-Inv-loop tight-paren-μ-loop
 unfolding formatInlineTightParens inlineNode
-tight-loop-holds t c = loop-first (always formatInlineTightParens) formatInlineTightParens _ (c .before .before .before .pre .1) (λ all z. refl)
+tight-paren-loop-holds t c = loop-first (always formatInlineTightParens) formatInlineTightParens _ (c .before .before .before .pre .1) (λ all z. refl)
 
-tight-shared-slice-read-if1 : (t : ℕ) → tight-lts.Need-shared-slice-read-if1 (
+tight-paren-shared-slice-read-if1 : (t : ℕ) → tight-paren-lts.Need-shared-slice-read-if1 (
   head-at-reads.Asked,
   head-at-reads.Learnt,
   inline-tight-parens-token-reads.Asked,
@@ -12786,10 +12963,10 @@ tight-shared-slice-read-if1 : (t : ℕ) → tight-lts.Need-shared-slice-read-if1
   space-if-reads.Learnt,
   node-below t,
   node.Post,
-) (tight-at t) tight.Post tight-Inv-loop tight-μ-loop
-tight-shared-slice-read-if1 t c = omega (arith, c .before .loop .inv .inside)
+) (tight-paren-at t) tight-paren.Post tight-paren-Inv-loop tight-paren-μ-loop
+tight-paren-shared-slice-read-if1 t c = omega (arith, c .before .loop .inv .inside)
 
-tight-head-at-requires : (t : ℕ) → tight-lts.Need-head-at-requires (
+tight-paren-head-at-requires : (t : ℕ) → tight-paren-lts.Need-head-at-requires (
   head-at-reads.Asked,
   head-at-reads.Learnt,
   inline-tight-parens-token-reads.Asked,
@@ -12800,10 +12977,10 @@ tight-head-at-requires : (t : ℕ) → tight-lts.Need-head-at-requires (
   space-if-reads.Learnt,
   node-below t,
   node.Post,
-) (tight-at t) tight.Post tight-Inv-loop tight-μ-loop
-tight-head-at-requires t c κs = loop-fits (c .before .before .before .before .before .before .pre .1) (c .before .before .loop .inv) (c .if1 .taken)
+) (tight-paren-at t) tight-paren.Post tight-paren-Inv-loop tight-paren-μ-loop
+tight-paren-head-at-requires t c κs = loop-fits (c .before .before .before .before .before .before .pre .1) (c .before .before .loop .inv) (c .if1 .taken)
 
-tight-shared-slice-read-if2 : (t : ℕ) → tight-lts.Need-shared-slice-read-if2 (
+tight-paren-shared-slice-read-if2 : (t : ℕ) → tight-paren-lts.Need-shared-slice-read-if2 (
   head-at-reads.Asked,
   head-at-reads.Learnt,
   inline-tight-parens-token-reads.Asked,
@@ -12814,11 +12991,11 @@ tight-shared-slice-read-if2 : (t : ℕ) → tight-lts.Need-shared-slice-read-if2
   space-if-reads.Learnt,
   node-below t,
   node.Post,
-) (tight-at t) tight.Post tight-Inv-loop tight-μ-loop
-tight-shared-slice-read-if2 t c = omega (arith, c .before .before .before .before .loop .inv .inside)
+) (tight-paren-at t) tight-paren.Post tight-paren-Inv-loop tight-paren-μ-loop
+tight-paren-shared-slice-read-if2 t c = omega (arith, c .before .before .before .before .loop .inv .inside)
 
-tight-inline-tight-parens-token-requires :
-    (t : ℕ) → tight-lts.Need-inline-tight-parens-token-requires (
+tight-paren-inline-tight-parens-token-requires :
+    (t : ℕ) → tight-paren-lts.Need-inline-tight-parens-token-requires (
       head-at-reads.Asked,
       head-at-reads.Learnt,
       inline-tight-parens-token-reads.Asked,
@@ -12829,10 +13006,10 @@ tight-inline-tight-parens-token-requires :
       space-if-reads.Learnt,
       node-below t,
       node.Post,
-    ) (tight-at t) tight.Post tight-Inv-loop tight-μ-loop
-tight-inline-tight-parens-token-requires t c κs = token-ready (c .before .before .before .before .before .before .before .before .before .before .pre .1) (c .before .before .before .before .before .before .loop .inv) _ (c .before .if2 .taken) (c .before .before .before .head-at .ensures)
+    ) (tight-paren-at t) tight-paren.Post tight-paren-Inv-loop tight-paren-μ-loop
+tight-paren-inline-tight-parens-token-requires t c κs = token-ready (c .before .before .before .before .before .before .before .before .before .before .pre .1) (c .before .before .before .before .before .before .loop .inv) _ (c .before .if2 .taken) (c .before .before .before .head-at .ensures)
 
-tight-add-i-2 : (t : ℕ) → tight-lts.Need-add-i-2 (
+tight-paren-add-i-2 : (t : ℕ) → tight-paren-lts.Need-add-i-2 (
   head-at-reads.Asked,
   head-at-reads.Learnt,
   inline-tight-parens-token-reads.Asked,
@@ -12843,10 +13020,10 @@ tight-add-i-2 : (t : ℕ) → tight-lts.Need-add-i-2 (
   space-if-reads.Learnt,
   node-below t,
   node.Post,
-) (tight-at t) tight.Post tight-Inv-loop tight-μ-loop
-tight-add-i-2 t c = omega (arith, loop-fits (c .before .before .before .before .before .before .before .before .before .before .before .before .before .before .before .pre .1) (c .before .before .before .before .before .before .before .before .before .before .before .loop .inv) (c .before .before .before .before .before .before .before .before .before .if1 .taken), c .before .before .before .before .before .before .before .before .before .before .before .before .before .before .before .pre .1 .sizes .tape-fits)
+) (tight-paren-at t) tight-paren.Post tight-paren-Inv-loop tight-paren-μ-loop
+tight-paren-add-i-2 t c = omega (arith, loop-fits (c .before .before .before .before .before .before .before .before .before .before .before .before .before .before .before .pre .1) (c .before .before .before .before .before .before .before .before .before .before .before .loop .inv) (c .before .before .before .before .before .before .before .before .before .if1 .taken), c .before .before .before .before .before .before .before .before .before .before .before .before .before .before .before .pre .1 .sizes .tape-fits)
 
-tight-loop-less : (t : ℕ) → tight-lts.Need-loop-less (
+tight-paren-loop-less : (t : ℕ) → tight-paren-lts.Need-loop-less (
   head-at-reads.Asked,
   head-at-reads.Learnt,
   inline-tight-parens-token-reads.Asked,
@@ -12857,10 +13034,10 @@ tight-loop-less : (t : ℕ) → tight-lts.Need-loop-less (
   space-if-reads.Learnt,
   node-below t,
   node.Post,
-) (tight-at t) tight.Post tight-Inv-loop tight-μ-loop
-tight-loop-less t c = omega (arith, c .before .before .before .before .before .before .before .before .before .before .before .loop .inv .inside)
+) (tight-paren-at t) tight-paren.Post tight-paren-Inv-loop tight-paren-μ-loop
+tight-paren-loop-less t c = omega (arith, c .before .before .before .before .before .before .before .before .before .before .before .loop .inv .inside)
 
-tight-loop-again : (t : ℕ) → tight-lts.Need-loop-again (
+tight-paren-loop-again : (t : ℕ) → tight-paren-lts.Need-loop-again (
   head-at-reads.Asked,
   head-at-reads.Learnt,
   inline-tight-parens-token-reads.Asked,
@@ -12871,11 +13048,11 @@ tight-loop-again : (t : ℕ) → tight-lts.Need-loop-again (
   space-if-reads.Learnt,
   node-below t,
   node.Post,
-) (tight-at t) tight.Post tight-Inv-loop tight-μ-loop
+) (tight-paren-at t) tight-paren.Post tight-paren-Inv-loop tight-paren-μ-loop
 unfolding formatInlineTightParens inlineNode
-tight-loop-again t c = token-next (c .before .before .before .before .before .before .before .before .before .before .before .before .before .before .before .pre .1) (c .before .before .before .before .before .before .before .before .before .before .before .loop .inv) (c .before .before .before .before .before .before .if2 .taken) (c .before .before .before .before .before .before .before .before .head-at .ensures) (c .before .before .before .before .inline-tight-parens-token .ensures .acted) (c .before .before .before .before .inline-tight-parens-token .ensures .local) (c .before .before .before .before .inline-tight-parens-token .kept .1 .1 .0)
+tight-paren-loop-again t c = token-next (c .before .before .before .before .before .before .before .before .before .before .before .before .before .before .before .pre .1) (c .before .before .before .before .before .before .before .before .before .before .before .loop .inv) (c .before .before .before .before .before .before .if2 .taken) (c .before .before .before .before .before .before .before .before .head-at .ensures) (c .before .before .before .before .inline-tight-parens-token .ensures .acted) (c .before .before .before .before .inline-tight-parens-token .ensures .local) (c .before .before .before .before .inline-tight-parens-token .kept .1 .1 .0)
 
-tight-space-after-requires : (t : ℕ) → tight-lts.Need-space-after-requires (
+tight-paren-space-after-requires : (t : ℕ) → tight-paren-lts.Need-space-after-requires (
   head-at-reads.Asked,
   head-at-reads.Learnt,
   inline-tight-parens-token-reads.Asked,
@@ -12886,10 +13063,10 @@ tight-space-after-requires : (t : ℕ) → tight-lts.Need-space-after-requires (
   space-if-reads.Learnt,
   node-below t,
   node.Post,
-) (tight-at t) tight.Post tight-Inv-loop tight-μ-loop
-tight-space-after-requires t c κs = search needs
+) (tight-paren-at t) tight-paren.Post tight-paren-Inv-loop tight-paren-μ-loop
+tight-paren-space-after-requires t c κs = search needs
 
-tight-space-if-requires : (t : ℕ) → tight-lts.Need-space-if-requires (
+tight-paren-space-if-requires : (t : ℕ) → tight-paren-lts.Need-space-if-requires (
   head-at-reads.Asked,
   head-at-reads.Learnt,
   inline-tight-parens-token-reads.Asked,
@@ -12900,10 +13077,10 @@ tight-space-if-requires : (t : ℕ) → tight-lts.Need-space-if-requires (
   space-if-reads.Learnt,
   node-below t,
   node.Post,
-) (tight-at t) tight.Post tight-Inv-loop tight-μ-loop
-tight-space-if-requires t c κs = search needs
+) (tight-paren-at t) tight-paren.Post tight-paren-Inv-loop tight-paren-μ-loop
+tight-paren-space-if-requires t c κs = search needs
 
-tight-sub-node : (t : ℕ) → tight-lts.Need-sub-node (
+tight-paren-sub-node : (t : ℕ) → tight-paren-lts.Need-sub-node (
   head-at-reads.Asked,
   head-at-reads.Learnt,
   inline-tight-parens-token-reads.Asked,
@@ -12914,10 +13091,10 @@ tight-sub-node : (t : ℕ) → tight-lts.Need-sub-node (
   space-if-reads.Learnt,
   node-below t,
   node.Post,
-) (tight-at t) tight.Post tight-Inv-loop tight-μ-loop
-tight-sub-node t c = left-pos (c .before .before .before .before .before .before .before .before .before .before .before .before .pre .1) (c .before .before .before .before .before .before .before .before .loop .inv) (c .before .before .before .before .before .before .if1 .taken) (c .before .before .before .if2 .left)
+) (tight-paren-at t) tight-paren.Post tight-paren-Inv-loop tight-paren-μ-loop
+tight-paren-sub-node t c = left-pos (c .before .before .before .before .before .before .before .before .before .before .before .before .pre .1) (c .before .before .before .before .before .before .before .before .loop .inv) (c .before .before .before .before .before .before .if1 .taken) (c .before .before .before .if2 .left)
 
-tight-node-requires : (t : ℕ) → tight-lts.Need-node-requires (
+tight-paren-node-requires : (t : ℕ) → tight-paren-lts.Need-node-requires (
   head-at-reads.Asked,
   head-at-reads.Learnt,
   inline-tight-parens-token-reads.Asked,
@@ -12928,10 +13105,10 @@ tight-node-requires : (t : ℕ) → tight-lts.Need-node-requires (
   space-if-reads.Learnt,
   node-below t,
   node.Post,
-) (tight-at t) tight.Post tight-Inv-loop tight-μ-loop
-tight-node-requires t c κs = (omega (arith, c .before .before .before .before .before .before .before .before .before .before .before .before .pre .0, left-pos (c .before .before .before .before .before .before .before .before .before .before .before .before .pre .1) (c .before .before .before .before .before .before .before .before .loop .inv) (c .before .before .before .before .before .before .if1 .taken) (c .before .before .before .if2 .left)), node-ready (c .before .before .before .before .before .before .before .before .before .before .before .before .pre .1) (c .before .before .before .before .before .before .before .before .loop .inv) (c .before .before .before .before .before .before .if1 .taken) (c .before .before .before .if2 .left) (c .before .before .before .before .before .head-at .ensures) (spaced 0 (spaceIf (spaceAfter ((c .before .before .before .before .before .before .before .before .loop .local) .prev))) (omega arith) (ap spaceIf (sym (c .before .before .space-after .ensures))) (as-spaced (c .before .space-if .ensures))) (omega arith))
+) (tight-paren-at t) tight-paren.Post tight-paren-Inv-loop tight-paren-μ-loop
+tight-paren-node-requires t c κs = (omega (arith, c .before .before .before .before .before .before .before .before .before .before .before .before .pre .0, left-pos (c .before .before .before .before .before .before .before .before .before .before .before .before .pre .1) (c .before .before .before .before .before .before .before .before .loop .inv) (c .before .before .before .before .before .before .if1 .taken) (c .before .before .before .if2 .left)), node-ready (c .before .before .before .before .before .before .before .before .before .before .before .before .pre .1) (c .before .before .before .before .before .before .before .before .loop .inv) (c .before .before .before .before .before .before .if1 .taken) (c .before .before .before .if2 .left) (c .before .before .before .before .before .head-at .ensures) (spaced 0 (spaceIf (spaceAfter ((c .before .before .before .before .before .before .before .before .loop .local) .prev))) (omega arith) (ap spaceIf (sym (c .before .before .space-after .ensures))) (as-spaced (c .before .space-if .ensures))) (omega arith))
 
-tight-loop-less-2 : (t : ℕ) → tight-lts.Need-loop-less-2 (
+tight-paren-loop-less-2 : (t : ℕ) → tight-paren-lts.Need-loop-less-2 (
   head-at-reads.Asked,
   head-at-reads.Learnt,
   inline-tight-parens-token-reads.Asked,
@@ -12942,10 +13119,10 @@ tight-loop-less-2 : (t : ℕ) → tight-lts.Need-loop-less-2 (
   space-if-reads.Learnt,
   node-below t,
   node.Post,
-) (tight-at t) tight.Post tight-Inv-loop tight-μ-loop
-tight-loop-less-2 t c = omega (arith, c .before .before .before .before .before .before .before .before .before .before .before .before .loop .inv .inside, c .before .before .before .node .ensures .on)
+) (tight-paren-at t) tight-paren.Post tight-paren-Inv-loop tight-paren-μ-loop
+tight-paren-loop-less-2 t c = omega (arith, c .before .before .before .before .before .before .before .before .before .before .before .before .loop .inv .inside, c .before .before .before .node .ensures .forward)
 
-tight-loop-again-2 : (t : ℕ) → tight-lts.Need-loop-again-2 (
+tight-paren-loop-again-2 : (t : ℕ) → tight-paren-lts.Need-loop-again-2 (
   head-at-reads.Asked,
   head-at-reads.Learnt,
   inline-tight-parens-token-reads.Asked,
@@ -12956,11 +13133,11 @@ tight-loop-again-2 : (t : ℕ) → tight-lts.Need-loop-again-2 (
   space-if-reads.Learnt,
   node-below t,
   node.Post,
-) (tight-at t) tight.Post tight-Inv-loop tight-μ-loop
+) (tight-paren-at t) tight-paren.Post tight-paren-Inv-loop tight-paren-μ-loop
 unfolding formatInlineTightParens inlineNode
-tight-loop-again-2 t c = node-next (c .before .before .before .before .before .before .before .before .before .before .before .before .before .before .before .before .pre .1) (c .before .before .before .before .before .before .before .before .before .before .before .before .loop .inv) (formatInlineTightParens .atNode (c .before .before .before .before .before .before .before .before .before .before .before .before .loop .local) (c .before .before .before .before .before .before .before .before .before .head-at .result .kind) 0) (c .before .before .before .before .before .before .before .before .before .before .if1 .taken) (c .before .before .before .before .before .before .before .if2 .left) (c .before .before .before .before .before .before .before .before .before .head-at .ensures) (λ k z. refl) (spaced 0 (spaceIf (spaceAfter ((c .before .before .before .before .before .before .before .before .before .before .before .before .loop .local) .prev))) (omega arith) (ap spaceIf (sym (c .before .before .before .before .before .before .space-after .ensures))) (as-spaced (c .before .before .before .before .before .space-if .ensures))) (c .before .before .before .node .ensures) refl no-spacing (omega arith) (omega arith) (c .before .before .before .node .kept .1 .1 .1 .1 .0)
+tight-paren-loop-again-2 t c = node-next (c .before .before .before .before .before .before .before .before .before .before .before .before .before .before .before .before .pre .1) (c .before .before .before .before .before .before .before .before .before .before .before .before .loop .inv) (formatInlineTightParens .atNode (c .before .before .before .before .before .before .before .before .before .before .before .before .loop .local) (c .before .before .before .before .before .before .before .before .before .head-at .result .kind) 0) (c .before .before .before .before .before .before .before .before .before .before .if1 .taken) (c .before .before .before .before .before .before .before .if2 .left) (c .before .before .before .before .before .before .before .before .before .head-at .ensures) (λ k z. refl) (spaced 0 (spaceIf (spaceAfter ((c .before .before .before .before .before .before .before .before .before .before .before .before .loop .local) .prev))) (omega arith) (ap spaceIf (sym (c .before .before .before .before .before .before .space-after .ensures))) (as-spaced (c .before .before .before .before .before .space-if .ensures))) (c .before .before .before .node .ensures) refl no-spacing (omega arith) (omega arith) (c .before .before .before .node .kept .1 .1 .1 .1 .0)
 
-tight-add-t29 : (t : ℕ) → tight-lts.Need-add-t29 (
+tight-paren-add-t29 : (t : ℕ) → tight-paren-lts.Need-add-t29 (
   head-at-reads.Asked,
   head-at-reads.Learnt,
   inline-tight-parens-token-reads.Asked,
@@ -12971,10 +13148,10 @@ tight-add-t29 : (t : ℕ) → tight-lts.Need-add-t29 (
   space-if-reads.Learnt,
   node-below t,
   node.Post,
-) (tight-at t) tight.Post tight-Inv-loop tight-μ-loop
-tight-add-t29 t c = omega (arith, c .before .before .loop .inv .inside, c .before .before .before .before .before .before .pre .1 .sizes .tape-fits)
+) (tight-paren-at t) tight-paren.Post tight-paren-Inv-loop tight-paren-μ-loop
+tight-paren-add-t29 t c = omega (arith, c .before .before .loop .inv .inside, c .before .before .before .before .before .before .pre .1 .sizes .tape-fits)
 
-tight-same-length : (t : ℕ) → tight-lts.Need-same-length (
+tight-paren-same-length : (t : ℕ) → tight-paren-lts.Need-same-length (
   head-at-reads.Asked,
   head-at-reads.Learnt,
   inline-tight-parens-token-reads.Asked,
@@ -12985,10 +13162,10 @@ tight-same-length : (t : ℕ) → tight-lts.Need-same-length (
   space-if-reads.Learnt,
   node-below t,
   node.Post,
-) (tight-at t) tight.Post tight-Inv-loop tight-μ-loop
-tight-same-length t c = c .before .before .loop .inv .same
+) (tight-paren-at t) tight-paren.Post tight-paren-Inv-loop tight-paren-μ-loop
+tight-paren-same-length t c = c .before .before .loop .inv .same
 
-tight-returns : (t : ℕ) → tight-lts.Need-returns (
+tight-paren-returns : (t : ℕ) → tight-paren-lts.Need-returns (
   head-at-reads.Asked,
   head-at-reads.Learnt,
   inline-tight-parens-token-reads.Asked,
@@ -12999,179 +13176,9 @@ tight-returns : (t : ℕ) → tight-lts.Need-returns (
   space-if-reads.Learnt,
   node-below t,
   node.Post,
-) (tight-at t) tight.Post tight-Inv-loop tight-μ-loop
+) (tight-paren-at t) tight-paren.Post tight-paren-Inv-loop tight-paren-μ-loop
 unfolding formatInlineTightParens inlineNode
-tight-returns t c = loop-last (c .before .before .before .before .before .before .pre .1) (c .before .before .loop .inv) (c .if1 .left) no-spacing (omega arith)
-
-abbrev types-Inv-loop : types-lts.InvT-loop
-types-Inv-loop source tape config errors out₀ left at i₀ ctx₀ out i ctx = Loop source tape config errors left at (always formatDataType) formatDataType ctx₀ out₀ out i ctx (flagged false)
-
-abbrev types-μ-loop : types-lts.MeasureT-loop
-types-μ-loop source tape config errors out₀ left at i₀ ctx₀ out i ctx = length tape - i
-
-types-add-i : (t : ℕ) → types-lts.Need-add-i (
-  head-at-reads.Asked,
-  head-at-reads.Learnt,
-  data-type-token-reads.Asked,
-  data-type-token-reads.Learnt,
-  node-below t,
-  node.Post,
-) (types-at t) types.Post types-Inv-loop types-μ-loop
-types-add-i t c = omega (arith, c .before .before .before .pre .1 .inside, c .before .before .before .pre .1 .sizes .tape-fits)
-
-types-loop-holds : (t : ℕ) → types-lts.Need-loop-holds (
-  head-at-reads.Asked,
-  head-at-reads.Learnt,
-  data-type-token-reads.Asked,
-  data-type-token-reads.Learnt,
-  node-below t,
-  node.Post,
-) (types-at t) types.Post types-Inv-loop types-μ-loop
-unfolding formatDataType
-types-loop-holds t c = loop-first (always formatDataType) formatDataType _ (c .before .before .before .pre .1) (λ all z. refl)
-
-types-shared-slice-read-if1 : (t : ℕ) → types-lts.Need-shared-slice-read-if1 (
-  head-at-reads.Asked,
-  head-at-reads.Learnt,
-  data-type-token-reads.Asked,
-  data-type-token-reads.Learnt,
-  node-below t,
-  node.Post,
-) (types-at t) types.Post types-Inv-loop types-μ-loop
-types-shared-slice-read-if1 t c = omega (arith, c .before .loop .inv .inside)
-
-types-head-at-requires : (t : ℕ) → types-lts.Need-head-at-requires (
-  head-at-reads.Asked,
-  head-at-reads.Learnt,
-  data-type-token-reads.Asked,
-  data-type-token-reads.Learnt,
-  node-below t,
-  node.Post,
-) (types-at t) types.Post types-Inv-loop types-μ-loop
-types-head-at-requires t c κs = loop-fits (c .before .before .before .before .before .before .pre .1) (c .before .before .loop .inv) (c .if1 .taken)
-
-types-shared-slice-read-if2 : (t : ℕ) → types-lts.Need-shared-slice-read-if2 (
-  head-at-reads.Asked,
-  head-at-reads.Learnt,
-  data-type-token-reads.Asked,
-  data-type-token-reads.Learnt,
-  node-below t,
-  node.Post,
-) (types-at t) types.Post types-Inv-loop types-μ-loop
-types-shared-slice-read-if2 t c = omega (arith, c .before .before .before .before .loop .inv .inside)
-
-types-data-type-token-requires : (t : ℕ) → types-lts.Need-data-type-token-requires (
-  head-at-reads.Asked,
-  head-at-reads.Learnt,
-  data-type-token-reads.Asked,
-  data-type-token-reads.Learnt,
-  node-below t,
-  node.Post,
-) (types-at t) types.Post types-Inv-loop types-μ-loop
-types-data-type-token-requires t c κs = token-ready (c .before .before .before .before .before .before .before .before .before .before .pre .1) (c .before .before .before .before .before .before .loop .inv) _ (c .before .if2 .taken) (c .before .before .before .head-at .ensures)
-
-types-add-i-2 : (t : ℕ) → types-lts.Need-add-i-2 (
-  head-at-reads.Asked,
-  head-at-reads.Learnt,
-  data-type-token-reads.Asked,
-  data-type-token-reads.Learnt,
-  node-below t,
-  node.Post,
-) (types-at t) types.Post types-Inv-loop types-μ-loop
-types-add-i-2 t c = omega (arith, loop-fits (c .before .before .before .before .before .before .before .before .before .before .before .before .before .pre .1) (c .before .before .before .before .before .before .before .before .before .loop .inv) (c .before .before .before .before .before .before .before .if1 .taken), c .before .before .before .before .before .before .before .before .before .before .before .before .before .pre .1 .sizes .tape-fits)
-
-types-loop-less : (t : ℕ) → types-lts.Need-loop-less (
-  head-at-reads.Asked,
-  head-at-reads.Learnt,
-  data-type-token-reads.Asked,
-  data-type-token-reads.Learnt,
-  node-below t,
-  node.Post,
-) (types-at t) types.Post types-Inv-loop types-μ-loop
-types-loop-less t c = omega (arith, c .before .before .before .before .before .before .before .before .before .loop .inv .inside)
-
-types-loop-again : (t : ℕ) → types-lts.Need-loop-again (
-  head-at-reads.Asked,
-  head-at-reads.Learnt,
-  data-type-token-reads.Asked,
-  data-type-token-reads.Learnt,
-  node-below t,
-  node.Post,
-) (types-at t) types.Post types-Inv-loop types-μ-loop
-unfolding formatDataType
-types-loop-again t c = token-next (c .before .before .before .before .before .before .before .before .before .before .before .before .before .pre .1) (c .before .before .before .before .before .before .before .before .before .loop .inv) (c .before .before .before .before .if2 .taken) (c .before .before .before .before .before .before .head-at .ensures) (c .before .before .data-type-token .ensures) refl (c .before .before .data-type-token .kept .1 .1 .0)
-
-types-sub-node : (t : ℕ) → types-lts.Need-sub-node (
-  head-at-reads.Asked,
-  head-at-reads.Learnt,
-  data-type-token-reads.Asked,
-  data-type-token-reads.Learnt,
-  node-below t,
-  node.Post,
-) (types-at t) types.Post types-Inv-loop types-μ-loop
-types-sub-node t c = left-pos (c .before .before .before .before .before .before .before .before .before .before .pre .1) (c .before .before .before .before .before .before .loop .inv) (c .before .before .before .before .if1 .taken) (c .before .if2 .left)
-
-types-node-requires : (t : ℕ) → types-lts.Need-node-requires (
-  head-at-reads.Asked,
-  head-at-reads.Learnt,
-  data-type-token-reads.Asked,
-  data-type-token-reads.Learnt,
-  node-below t,
-  node.Post,
-) (types-at t) types.Post types-Inv-loop types-μ-loop
-types-node-requires t c κs = (omega (arith, c .before .before .before .before .before .before .before .before .before .before .pre .0, left-pos (c .before .before .before .before .before .before .before .before .before .before .pre .1) (c .before .before .before .before .before .before .loop .inv) (c .before .before .before .before .if1 .taken) (c .before .if2 .left)), node-ready (c .before .before .before .before .before .before .before .before .before .before .pre .1) (c .before .before .before .before .before .before .loop .inv) (c .before .before .before .before .if1 .taken) (c .before .if2 .left) (c .before .before .before .head-at .ensures) (no-spacing {xs = c .before .before .before .before .before .before .loop .out}) (omega arith))
-
-types-loop-less-2 : (t : ℕ) → types-lts.Need-loop-less-2 (
-  head-at-reads.Asked,
-  head-at-reads.Learnt,
-  data-type-token-reads.Asked,
-  data-type-token-reads.Learnt,
-  node-below t,
-  node.Post,
-) (types-at t) types.Post types-Inv-loop types-μ-loop
-types-loop-less-2 t c = omega (arith, c .before .before .before .before .before .before .before .before .before .before .loop .inv .inside, c .before .before .before .node .ensures .on)
-
-types-loop-again-2 : (t : ℕ) → types-lts.Need-loop-again-2 (
-  head-at-reads.Asked,
-  head-at-reads.Learnt,
-  data-type-token-reads.Asked,
-  data-type-token-reads.Learnt,
-  node-below t,
-  node.Post,
-) (types-at t) types.Post types-Inv-loop types-μ-loop
-unfolding formatDataType
-types-loop-again-2 t c = node-next (c .before .before .before .before .before .before .before .before .before .before .before .before .before .before .pre .1) (c .before .before .before .before .before .before .before .before .before .before .loop .inv) (formatDataType .atNode (flagged false) (c .before .before .before .before .before .before .before .head-at .result .kind) 0) (c .before .before .before .before .before .before .before .before .if1 .taken) (c .before .before .before .before .before .if2 .left) (c .before .before .before .before .before .before .before .head-at .ensures) (λ k z. refl) (no-spacing {xs = c .before .before .before .before .before .before .before .before .before .before .loop .out}) (c .before .before .before .node .ensures) refl no-spacing (omega arith) (omega arith) (c .before .before .before .node .kept .1 .1 .1 .1 .0)
-
-types-add-t22 : (t : ℕ) → types-lts.Need-add-t22 (
-  head-at-reads.Asked,
-  head-at-reads.Learnt,
-  data-type-token-reads.Asked,
-  data-type-token-reads.Learnt,
-  node-below t,
-  node.Post,
-) (types-at t) types.Post types-Inv-loop types-μ-loop
-types-add-t22 t c = omega (arith, c .before .before .loop .inv .inside, c .before .before .before .before .before .before .pre .1 .sizes .tape-fits)
-
-types-same-length : (t : ℕ) → types-lts.Need-same-length (
-  head-at-reads.Asked,
-  head-at-reads.Learnt,
-  data-type-token-reads.Asked,
-  data-type-token-reads.Learnt,
-  node-below t,
-  node.Post,
-) (types-at t) types.Post types-Inv-loop types-μ-loop
-types-same-length t c = c .before .before .loop .inv .same
-
-types-returns : (t : ℕ) → types-lts.Need-returns (
-  head-at-reads.Asked,
-  head-at-reads.Learnt,
-  data-type-token-reads.Asked,
-  data-type-token-reads.Learnt,
-  node-below t,
-  node.Post,
-) (types-at t) types.Post types-Inv-loop types-μ-loop
-unfolding formatDataType
-types-returns t c = loop-last (c .before .before .before .before .before .before .pre .1) (c .before .before .loop .inv) (c .if1 .left) no-spacing (omega arith)
+tight-paren-returns t c = loop-last (c .before .before .before .before .before .before .pre .1) (c .before .before .loop .inv) (c .if1 .left) no-spacing (omega arith)
 
 abbrev unary-Inv-loop : unary-lts.InvT-loop
 unary-Inv-loop source tape config errors out₀ left at i₀ ctx₀ out i ctx = Loop source tape config errors left at (always formatUnaryExpression) formatUnaryExpression ctx₀ out₀ out i ctx (flagged false)
@@ -13299,7 +13306,7 @@ unary-loop-less-2 : (t : ℕ) → unary-lts.Need-loop-less-2 (
   node-below t,
   node.Post,
 ) (unary-at t) unary.Post unary-Inv-loop unary-μ-loop
-unary-loop-less-2 t c = omega (arith, c .before .before .before .before .before .before .before .before .before .before .loop .inv .inside, c .before .before .before .node .ensures .on)
+unary-loop-less-2 t c = omega (arith, c .before .before .before .before .before .before .before .before .before .before .loop .inv .inside, c .before .before .before .node .ensures .forward)
 
 unary-loop-again-2 : (t : ℕ) → unary-lts.Need-loop-again-2 (
   head-at-reads.Asked,
@@ -13343,13 +13350,13 @@ unary-returns : (t : ℕ) → unary-lts.Need-returns (
 unfolding formatUnaryExpression
 unary-returns t c = loop-last (c .before .before .before .before .before .before .pre .1) (c .before .before .loop .inv) (c .if1 .left) no-spacing (omega arith)
 
-abbrev unions-Inv-loop : unions-lts.InvT-loop
-unions-Inv-loop source tape config errors out₀ left at i₀ ctx₀ local₀ out i ctx local = Loop source tape config errors left at (always formatUnionClause) formatUnionClause ctx₀ out₀ out i ctx local
+abbrev union-Inv-loop : union-lts.InvT-loop
+union-Inv-loop source tape config errors out₀ left at i₀ ctx₀ local₀ out i ctx local = Loop source tape config errors left at (always formatUnionClause) formatUnionClause ctx₀ out₀ out i ctx local
 
-abbrev unions-μ-loop : unions-lts.MeasureT-loop
-unions-μ-loop source tape config errors out₀ left at i₀ ctx₀ local₀ out i ctx local = length tape - i
+abbrev union-μ-loop : union-lts.MeasureT-loop
+union-μ-loop source tape config errors out₀ left at i₀ ctx₀ local₀ out i ctx local = length tape - i
 
-unions-add-i : (t : ℕ) → unions-lts.Need-add-i (
+union-add-i : (t : ℕ) → union-lts.Need-add-i (
   head-at-reads.Asked,
   head-at-reads.Learnt,
   union-clause-token-reads.Asked,
@@ -13360,10 +13367,10 @@ unions-add-i : (t : ℕ) → unions-lts.Need-add-i (
   node.Post,
   union-clause-local-reads.Asked,
   union-clause-local-reads.Learnt,
-) (unions-at t) unions.Post unions-Inv-loop unions-μ-loop
-unions-add-i t c = omega (arith, c .before .before .before .pre .1 .inside, c .before .before .before .pre .1 .sizes .tape-fits)
+) (union-at t) union.Post union-Inv-loop union-μ-loop
+union-add-i t c = omega (arith, c .before .before .before .pre .1 .inside, c .before .before .before .pre .1 .sizes .tape-fits)
 
-unions-loop-holds : (t : ℕ) → unions-lts.Need-loop-holds (
+union-loop-holds : (t : ℕ) → union-lts.Need-loop-holds (
   head-at-reads.Asked,
   head-at-reads.Learnt,
   union-clause-token-reads.Asked,
@@ -13374,11 +13381,11 @@ unions-loop-holds : (t : ℕ) → unions-lts.Need-loop-holds (
   node.Post,
   union-clause-local-reads.Asked,
   union-clause-local-reads.Learnt,
-) (unions-at t) unions.Post unions-Inv-loop unions-μ-loop
+) (union-at t) union.Post union-Inv-loop union-μ-loop
 unfolding formatUnionClause
-unions-loop-holds t c = loop-first (always formatUnionClause) formatUnionClause _ (c .before .before .before .pre .1) (λ all z. refl)
+union-loop-holds t c = loop-first (always formatUnionClause) formatUnionClause _ (c .before .before .before .pre .1) (λ all z. refl)
 
-unions-shared-slice-read-if1 : (t : ℕ) → unions-lts.Need-shared-slice-read-if1 (
+union-shared-slice-read-if1 : (t : ℕ) → union-lts.Need-shared-slice-read-if1 (
   head-at-reads.Asked,
   head-at-reads.Learnt,
   union-clause-token-reads.Asked,
@@ -13389,10 +13396,10 @@ unions-shared-slice-read-if1 : (t : ℕ) → unions-lts.Need-shared-slice-read-i
   node.Post,
   union-clause-local-reads.Asked,
   union-clause-local-reads.Learnt,
-) (unions-at t) unions.Post unions-Inv-loop unions-μ-loop
-unions-shared-slice-read-if1 t c = omega (arith, c .before .loop .inv .inside)
+) (union-at t) union.Post union-Inv-loop union-μ-loop
+union-shared-slice-read-if1 t c = omega (arith, c .before .loop .inv .inside)
 
-unions-head-at-requires : (t : ℕ) → unions-lts.Need-head-at-requires (
+union-head-at-requires : (t : ℕ) → union-lts.Need-head-at-requires (
   head-at-reads.Asked,
   head-at-reads.Learnt,
   union-clause-token-reads.Asked,
@@ -13403,10 +13410,10 @@ unions-head-at-requires : (t : ℕ) → unions-lts.Need-head-at-requires (
   node.Post,
   union-clause-local-reads.Asked,
   union-clause-local-reads.Learnt,
-) (unions-at t) unions.Post unions-Inv-loop unions-μ-loop
-unions-head-at-requires t c κs = loop-fits (c .before .before .before .before .before .before .pre .1) (c .before .before .loop .inv) (c .if1 .taken)
+) (union-at t) union.Post union-Inv-loop union-μ-loop
+union-head-at-requires t c κs = loop-fits (c .before .before .before .before .before .before .pre .1) (c .before .before .loop .inv) (c .if1 .taken)
 
-unions-shared-slice-read-if2 : (t : ℕ) → unions-lts.Need-shared-slice-read-if2 (
+union-shared-slice-read-if2 : (t : ℕ) → union-lts.Need-shared-slice-read-if2 (
   head-at-reads.Asked,
   head-at-reads.Learnt,
   union-clause-token-reads.Asked,
@@ -13417,10 +13424,10 @@ unions-shared-slice-read-if2 : (t : ℕ) → unions-lts.Need-shared-slice-read-i
   node.Post,
   union-clause-local-reads.Asked,
   union-clause-local-reads.Learnt,
-) (unions-at t) unions.Post unions-Inv-loop unions-μ-loop
-unions-shared-slice-read-if2 t c = omega (arith, c .before .before .before .before .loop .inv .inside)
+) (union-at t) union.Post union-Inv-loop union-μ-loop
+union-shared-slice-read-if2 t c = omega (arith, c .before .before .before .before .loop .inv .inside)
 
-unions-union-clause-token-requires : (t : ℕ) → unions-lts.Need-union-clause-token-requires (
+union-union-clause-token-requires : (t : ℕ) → union-lts.Need-union-clause-token-requires (
   head-at-reads.Asked,
   head-at-reads.Learnt,
   union-clause-token-reads.Asked,
@@ -13431,10 +13438,10 @@ unions-union-clause-token-requires : (t : ℕ) → unions-lts.Need-union-clause-
   node.Post,
   union-clause-local-reads.Asked,
   union-clause-local-reads.Learnt,
-) (unions-at t) unions.Post unions-Inv-loop unions-μ-loop
-unions-union-clause-token-requires t c κs = token-ready (c .before .before .before .before .before .before .before .before .before .before .pre .1) (c .before .before .before .before .before .before .loop .inv) _ (c .before .if2 .taken) (c .before .before .before .head-at .ensures)
+) (union-at t) union.Post union-Inv-loop union-μ-loop
+union-union-clause-token-requires t c κs = token-ready (c .before .before .before .before .before .before .before .before .before .before .pre .1) (c .before .before .before .before .before .before .loop .inv) _ (c .before .if2 .taken) (c .before .before .before .head-at .ensures)
 
-unions-add-i-2 : (t : ℕ) → unions-lts.Need-add-i-2 (
+union-add-i-2 : (t : ℕ) → union-lts.Need-add-i-2 (
   head-at-reads.Asked,
   head-at-reads.Learnt,
   union-clause-token-reads.Asked,
@@ -13445,10 +13452,10 @@ unions-add-i-2 : (t : ℕ) → unions-lts.Need-add-i-2 (
   node.Post,
   union-clause-local-reads.Asked,
   union-clause-local-reads.Learnt,
-) (unions-at t) unions.Post unions-Inv-loop unions-μ-loop
-unions-add-i-2 t c = omega (arith, loop-fits (c .before .before .before .before .before .before .before .before .before .before .before .before .before .pre .1) (c .before .before .before .before .before .before .before .before .before .loop .inv) (c .before .before .before .before .before .before .before .if1 .taken), c .before .before .before .before .before .before .before .before .before .before .before .before .before .pre .1 .sizes .tape-fits)
+) (union-at t) union.Post union-Inv-loop union-μ-loop
+union-add-i-2 t c = omega (arith, loop-fits (c .before .before .before .before .before .before .before .before .before .before .before .before .before .pre .1) (c .before .before .before .before .before .before .before .before .before .loop .inv) (c .before .before .before .before .before .before .before .if1 .taken), c .before .before .before .before .before .before .before .before .before .before .before .before .before .pre .1 .sizes .tape-fits)
 
-unions-loop-less : (t : ℕ) → unions-lts.Need-loop-less (
+union-loop-less : (t : ℕ) → union-lts.Need-loop-less (
   head-at-reads.Asked,
   head-at-reads.Learnt,
   union-clause-token-reads.Asked,
@@ -13459,10 +13466,10 @@ unions-loop-less : (t : ℕ) → unions-lts.Need-loop-less (
   node.Post,
   union-clause-local-reads.Asked,
   union-clause-local-reads.Learnt,
-) (unions-at t) unions.Post unions-Inv-loop unions-μ-loop
-unions-loop-less t c = omega (arith, c .before .before .before .before .before .before .before .before .before .loop .inv .inside)
+) (union-at t) union.Post union-Inv-loop union-μ-loop
+union-loop-less t c = omega (arith, c .before .before .before .before .before .before .before .before .before .loop .inv .inside)
 
-unions-loop-again : (t : ℕ) → unions-lts.Need-loop-again (
+union-loop-again : (t : ℕ) → union-lts.Need-loop-again (
   head-at-reads.Asked,
   head-at-reads.Learnt,
   union-clause-token-reads.Asked,
@@ -13473,11 +13480,11 @@ unions-loop-again : (t : ℕ) → unions-lts.Need-loop-again (
   node.Post,
   union-clause-local-reads.Asked,
   union-clause-local-reads.Learnt,
-) (unions-at t) unions.Post unions-Inv-loop unions-μ-loop
+) (union-at t) union.Post union-Inv-loop union-μ-loop
 unfolding formatUnionClause unionToken
-unions-loop-again t c = token-next (c .before .before .before .before .before .before .before .before .before .before .before .before .before .pre .1) (c .before .before .before .before .before .before .before .before .before .loop .inv) (c .before .before .before .before .if2 .taken) (c .before .before .before .before .before .before .head-at .ensures) (c .before .before .union-clause-token .ensures) refl (c .before .before .union-clause-token .kept .1 .1 .0)
+union-loop-again t c = token-next (c .before .before .before .before .before .before .before .before .before .before .before .before .before .pre .1) (c .before .before .before .before .before .before .before .before .before .loop .inv) (c .before .before .before .before .if2 .taken) (c .before .before .before .before .before .before .head-at .ensures) (c .before .before .union-clause-token .ensures) refl (c .before .before .union-clause-token .kept .1 .1 .0)
 
-unions-union-clause-before-requires : (t : ℕ) → unions-lts.Need-union-clause-before-requires (
+union-union-clause-before-requires : (t : ℕ) → union-lts.Need-union-clause-before-requires (
   head-at-reads.Asked,
   head-at-reads.Learnt,
   union-clause-token-reads.Asked,
@@ -13488,10 +13495,10 @@ unions-union-clause-before-requires : (t : ℕ) → unions-lts.Need-union-clause
   node.Post,
   union-clause-local-reads.Asked,
   union-clause-local-reads.Learnt,
-) (unions-at t) unions.Post unions-Inv-loop unions-μ-loop
-unions-union-clause-before-requires t c κs = let r = side-ready (c .before .before .before .before .before .before .before .before .before .before .pre .1) (c .before .before .before .before .before .before .loop .inv) in omega arith
+) (union-at t) union.Post union-Inv-loop union-μ-loop
+union-union-clause-before-requires t c κs = let r = side-ready (c .before .before .before .before .before .before .before .before .before .before .pre .1) (c .before .before .before .before .before .before .loop .inv) in omega arith
 
-unions-sub-node : (t : ℕ) → unions-lts.Need-sub-node (
+union-sub-node : (t : ℕ) → union-lts.Need-sub-node (
   head-at-reads.Asked,
   head-at-reads.Learnt,
   union-clause-token-reads.Asked,
@@ -13502,10 +13509,10 @@ unions-sub-node : (t : ℕ) → unions-lts.Need-sub-node (
   node.Post,
   union-clause-local-reads.Asked,
   union-clause-local-reads.Learnt,
-) (unions-at t) unions.Post unions-Inv-loop unions-μ-loop
-unions-sub-node t c = left-pos (c .before .before .before .before .before .before .before .before .before .before .before .before .before .before .pre .1) (c .before .before .before .before .before .before .before .before .before .before .loop .inv) (c .before .before .before .before .before .before .before .before .if1 .taken) (c .before .before .before .before .before .if2 .left)
+) (union-at t) union.Post union-Inv-loop union-μ-loop
+union-sub-node t c = left-pos (c .before .before .before .before .before .before .before .before .before .before .before .before .before .before .pre .1) (c .before .before .before .before .before .before .before .before .before .before .loop .inv) (c .before .before .before .before .before .before .before .before .if1 .taken) (c .before .before .before .before .before .if2 .left)
 
-unions-node-requires : (t : ℕ) → unions-lts.Need-node-requires (
+union-node-requires : (t : ℕ) → union-lts.Need-node-requires (
   head-at-reads.Asked,
   head-at-reads.Learnt,
   union-clause-token-reads.Asked,
@@ -13516,10 +13523,10 @@ unions-node-requires : (t : ℕ) → unions-lts.Need-node-requires (
   node.Post,
   union-clause-local-reads.Asked,
   union-clause-local-reads.Learnt,
-) (unions-at t) unions.Post unions-Inv-loop unions-μ-loop
-unions-node-requires t c κs = (omega (arith, c .before .before .before .before .before .before .before .before .before .before .before .before .before .before .pre .0, left-pos (c .before .before .before .before .before .before .before .before .before .before .before .before .before .before .pre .1) (c .before .before .before .before .before .before .before .before .before .before .loop .inv) (c .before .before .before .before .before .before .before .before .if1 .taken) (c .before .before .before .before .before .if2 .left)), node-ready (c .before .before .before .before .before .before .before .before .before .before .before .before .before .before .pre .1) (c .before .before .before .before .before .before .before .before .before .before .loop .inv) (c .before .before .before .before .before .before .before .before .if1 .taken) (c .before .before .before .before .before .if2 .left) (c .before .before .before .before .before .before .before .head-at .ensures) (c .before .before .before .union-clause-before .ensures) (omega arith))
+) (union-at t) union.Post union-Inv-loop union-μ-loop
+union-node-requires t c κs = (omega (arith, c .before .before .before .before .before .before .before .before .before .before .before .before .before .before .pre .0, left-pos (c .before .before .before .before .before .before .before .before .before .before .before .before .before .before .pre .1) (c .before .before .before .before .before .before .before .before .before .before .loop .inv) (c .before .before .before .before .before .before .before .before .if1 .taken) (c .before .before .before .before .before .if2 .left)), node-ready (c .before .before .before .before .before .before .before .before .before .before .before .before .before .before .pre .1) (c .before .before .before .before .before .before .before .before .before .before .loop .inv) (c .before .before .before .before .before .before .before .before .if1 .taken) (c .before .before .before .before .before .if2 .left) (c .before .before .before .before .before .before .before .head-at .ensures) (c .before .before .before .union-clause-before .ensures) (omega arith))
 
-unions-union-clause-local-requires : (t : ℕ) → unions-lts.Need-union-clause-local-requires (
+union-union-clause-local-requires : (t : ℕ) → union-lts.Need-union-clause-local-requires (
   head-at-reads.Asked,
   head-at-reads.Learnt,
   union-clause-token-reads.Asked,
@@ -13530,10 +13537,10 @@ unions-union-clause-local-requires : (t : ℕ) → unions-lts.Need-union-clause-
   node.Post,
   union-clause-local-reads.Asked,
   union-clause-local-reads.Learnt,
-) (unions-at t) unions.Post unions-Inv-loop unions-μ-loop
-unions-union-clause-local-requires t c κs = search needs
+) (union-at t) union.Post union-Inv-loop union-μ-loop
+union-union-clause-local-requires t c κs = search needs
 
-unions-loop-less-2 : (t : ℕ) → unions-lts.Need-loop-less-2 (
+union-loop-less-2 : (t : ℕ) → union-lts.Need-loop-less-2 (
   head-at-reads.Asked,
   head-at-reads.Learnt,
   union-clause-token-reads.Asked,
@@ -13544,10 +13551,10 @@ unions-loop-less-2 : (t : ℕ) → unions-lts.Need-loop-less-2 (
   node.Post,
   union-clause-local-reads.Asked,
   union-clause-local-reads.Learnt,
-) (unions-at t) unions.Post unions-Inv-loop unions-μ-loop
-unions-loop-less-2 t c = omega (arith, c .before .before .before .before .before .before .before .before .before .before .before .before .before .before .before .loop .inv .inside, c .before .before .before .before .node .ensures .on)
+) (union-at t) union.Post union-Inv-loop union-μ-loop
+union-loop-less-2 t c = omega (arith, c .before .before .before .before .before .before .before .before .before .before .before .before .before .before .before .loop .inv .inside, c .before .before .before .before .node .ensures .forward)
 
-unions-loop-again-2 : (t : ℕ) → unions-lts.Need-loop-again-2 (
+union-loop-again-2 : (t : ℕ) → union-lts.Need-loop-again-2 (
   head-at-reads.Asked,
   head-at-reads.Learnt,
   union-clause-token-reads.Asked,
@@ -13558,11 +13565,11 @@ unions-loop-again-2 : (t : ℕ) → unions-lts.Need-loop-again-2 (
   node.Post,
   union-clause-local-reads.Asked,
   union-clause-local-reads.Learnt,
-) (unions-at t) unions.Post unions-Inv-loop unions-μ-loop
+) (union-at t) union.Post union-Inv-loop union-μ-loop
 unfolding formatUnionClause
-unions-loop-again-2 t c = node-next (c .before .before .before .before .before .before .before .before .before .before .before .before .before .before .before .before .before .before .before .pre .1) (c .before .before .before .before .before .before .before .before .before .before .before .before .before .before .before .loop .inv) (formatUnionClause .atNode (c .before .before .before .before .before .before .before .before .before .before .before .before .before .before .before .loop .local) (c .before .before .before .before .before .before .before .before .before .before .before .before .head-at .result .kind) 0) (c .before .before .before .before .before .before .before .before .before .before .before .before .before .if1 .taken) (c .before .before .before .before .before .before .before .before .before .before .if2 .left) (c .before .before .before .before .before .before .before .before .before .before .before .before .head-at .ensures) (λ k z. refl) (c .before .before .before .before .before .before .before .before .union-clause-before .ensures) (c .before .before .before .before .node .ensures) (c .union-clause-local .ensures) (spaced 0 _ (omega arith) (sym (union-after (c .before .before .before .before .before .before .before .before .before .before .before .before .before .before .before .loop .local) (c .before .before .before .before .before .before .before .before .before .before .before .before .head-at .result .kind))) no-spacing) (omega arith) (omega arith) (c .before .before .before .before .node .kept .1 .1 .1 .1 .0 ∙ c .before .before .before .before .before .before .before .before .union-clause-before .kept .0)
+union-loop-again-2 t c = node-next (c .before .before .before .before .before .before .before .before .before .before .before .before .before .before .before .before .before .before .before .pre .1) (c .before .before .before .before .before .before .before .before .before .before .before .before .before .before .before .loop .inv) (formatUnionClause .atNode (c .before .before .before .before .before .before .before .before .before .before .before .before .before .before .before .loop .local) (c .before .before .before .before .before .before .before .before .before .before .before .before .head-at .result .kind) 0) (c .before .before .before .before .before .before .before .before .before .before .before .before .before .if1 .taken) (c .before .before .before .before .before .before .before .before .before .before .if2 .left) (c .before .before .before .before .before .before .before .before .before .before .before .before .head-at .ensures) (λ k z. refl) (c .before .before .before .before .before .before .before .before .union-clause-before .ensures) (c .before .before .before .before .node .ensures) (c .union-clause-local .ensures) (spaced 0 _ (omega arith) (sym (union-after (c .before .before .before .before .before .before .before .before .before .before .before .before .before .before .before .loop .local) (c .before .before .before .before .before .before .before .before .before .before .before .before .head-at .result .kind))) no-spacing) (omega arith) (omega arith) (c .before .before .before .before .node .kept .1 .1 .1 .1 .0 ∙ c .before .before .before .before .before .before .before .before .union-clause-before .kept .0)
 
-unions-add-t27 : (t : ℕ) → unions-lts.Need-add-t27 (
+union-add-t27 : (t : ℕ) → union-lts.Need-add-t27 (
   head-at-reads.Asked,
   head-at-reads.Learnt,
   union-clause-token-reads.Asked,
@@ -13573,10 +13580,10 @@ unions-add-t27 : (t : ℕ) → unions-lts.Need-add-t27 (
   node.Post,
   union-clause-local-reads.Asked,
   union-clause-local-reads.Learnt,
-) (unions-at t) unions.Post unions-Inv-loop unions-μ-loop
-unions-add-t27 t c = omega (arith, c .before .before .loop .inv .inside, c .before .before .before .before .before .before .pre .1 .sizes .tape-fits)
+) (union-at t) union.Post union-Inv-loop union-μ-loop
+union-add-t27 t c = omega (arith, c .before .before .loop .inv .inside, c .before .before .before .before .before .before .pre .1 .sizes .tape-fits)
 
-unions-same-length : (t : ℕ) → unions-lts.Need-same-length (
+union-same-length : (t : ℕ) → union-lts.Need-same-length (
   head-at-reads.Asked,
   head-at-reads.Learnt,
   union-clause-token-reads.Asked,
@@ -13587,10 +13594,10 @@ unions-same-length : (t : ℕ) → unions-lts.Need-same-length (
   node.Post,
   union-clause-local-reads.Asked,
   union-clause-local-reads.Learnt,
-) (unions-at t) unions.Post unions-Inv-loop unions-μ-loop
-unions-same-length t c = c .before .before .loop .inv .same
+) (union-at t) union.Post union-Inv-loop union-μ-loop
+union-same-length t c = c .before .before .loop .inv .same
 
-unions-returns : (t : ℕ) → unions-lts.Need-returns (
+union-returns : (t : ℕ) → union-lts.Need-returns (
   head-at-reads.Asked,
   head-at-reads.Learnt,
   union-clause-token-reads.Asked,
@@ -13601,187 +13608,187 @@ unions-returns : (t : ℕ) → unions-lts.Need-returns (
   node.Post,
   union-clause-local-reads.Asked,
   union-clause-local-reads.Learnt,
-) (unions-at t) unions.Post unions-Inv-loop unions-μ-loop
+) (union-at t) union.Post union-Inv-loop union-μ-loop
 unfolding formatUnionClause
-unions-returns t c = loop-last (c .before .before .before .before .before .before .pre .1) (c .before .before .loop .inv) (c .if1 .left) no-spacing (omega arith)
+union-returns t c = loop-last (c .before .before .before .before .before .before .pre .1) (c .before .before .loop .inv) (c .if1 .left) no-spacing (omega arith)
 
-abbrev when-of-Inv-loop : when-of-lts.InvT-loop
-when-of-Inv-loop source tape config errors out₀ left at i₀ ctx₀ out i ctx = Loop source tape config errors left at (always formatWhenClause) formatWhenClause ctx₀ out₀ out i ctx (flagged false)
+abbrev when-Inv-loop : when-lts.InvT-loop
+when-Inv-loop source tape config errors out₀ left at i₀ ctx₀ out i ctx = Loop source tape config errors left at (always formatWhenClause) formatWhenClause ctx₀ out₀ out i ctx (flagged false)
 
-abbrev when-of-μ-loop : when-of-lts.MeasureT-loop
-when-of-μ-loop source tape config errors out₀ left at i₀ ctx₀ out i ctx = length tape - i
+abbrev when-μ-loop : when-lts.MeasureT-loop
+when-μ-loop source tape config errors out₀ left at i₀ ctx₀ out i ctx = length tape - i
 
-when-of-add-i : (t : ℕ) → when-of-lts.Need-add-i (
+when-add-i : (t : ℕ) → when-lts.Need-add-i (
   head-at-reads.Asked,
   head-at-reads.Learnt,
   when-clause-token-reads.Asked,
   when-clause-token-reads.Learnt,
   node-below t,
   node.Post,
-) (when-of-at t) when-of.Post when-of-Inv-loop when-of-μ-loop
-when-of-add-i t c = omega (arith, c .before .before .before .pre .1 .inside, c .before .before .before .pre .1 .sizes .tape-fits)
+) (when-at t) when.Post when-Inv-loop when-μ-loop
+when-add-i t c = omega (arith, c .before .before .before .pre .1 .inside, c .before .before .before .pre .1 .sizes .tape-fits)
 
-when-of-loop-holds : (t : ℕ) → when-of-lts.Need-loop-holds (
+when-loop-holds : (t : ℕ) → when-lts.Need-loop-holds (
   head-at-reads.Asked,
   head-at-reads.Learnt,
   when-clause-token-reads.Asked,
   when-clause-token-reads.Learnt,
   node-below t,
   node.Post,
-) (when-of-at t) when-of.Post when-of-Inv-loop when-of-μ-loop
+) (when-at t) when.Post when-Inv-loop when-μ-loop
 unfolding formatWhenClause
-when-of-loop-holds t c = loop-first (always formatWhenClause) formatWhenClause _ (c .before .before .before .pre .1) (λ all z. refl)
+when-loop-holds t c = loop-first (always formatWhenClause) formatWhenClause _ (c .before .before .before .pre .1) (λ all z. refl)
 
-when-of-shared-slice-read-if1 : (t : ℕ) → when-of-lts.Need-shared-slice-read-if1 (
+when-shared-slice-read-if1 : (t : ℕ) → when-lts.Need-shared-slice-read-if1 (
   head-at-reads.Asked,
   head-at-reads.Learnt,
   when-clause-token-reads.Asked,
   when-clause-token-reads.Learnt,
   node-below t,
   node.Post,
-) (when-of-at t) when-of.Post when-of-Inv-loop when-of-μ-loop
-when-of-shared-slice-read-if1 t c = omega (arith, c .before .loop .inv .inside)
+) (when-at t) when.Post when-Inv-loop when-μ-loop
+when-shared-slice-read-if1 t c = omega (arith, c .before .loop .inv .inside)
 
-when-of-head-at-requires : (t : ℕ) → when-of-lts.Need-head-at-requires (
+when-head-at-requires : (t : ℕ) → when-lts.Need-head-at-requires (
   head-at-reads.Asked,
   head-at-reads.Learnt,
   when-clause-token-reads.Asked,
   when-clause-token-reads.Learnt,
   node-below t,
   node.Post,
-) (when-of-at t) when-of.Post when-of-Inv-loop when-of-μ-loop
-when-of-head-at-requires t c κs = loop-fits (c .before .before .before .before .before .before .pre .1) (c .before .before .loop .inv) (c .if1 .taken)
+) (when-at t) when.Post when-Inv-loop when-μ-loop
+when-head-at-requires t c κs = loop-fits (c .before .before .before .before .before .before .pre .1) (c .before .before .loop .inv) (c .if1 .taken)
 
-when-of-shared-slice-read-if2 : (t : ℕ) → when-of-lts.Need-shared-slice-read-if2 (
+when-shared-slice-read-if2 : (t : ℕ) → when-lts.Need-shared-slice-read-if2 (
   head-at-reads.Asked,
   head-at-reads.Learnt,
   when-clause-token-reads.Asked,
   when-clause-token-reads.Learnt,
   node-below t,
   node.Post,
-) (when-of-at t) when-of.Post when-of-Inv-loop when-of-μ-loop
-when-of-shared-slice-read-if2 t c = omega (arith, c .before .before .before .before .loop .inv .inside)
+) (when-at t) when.Post when-Inv-loop when-μ-loop
+when-shared-slice-read-if2 t c = omega (arith, c .before .before .before .before .loop .inv .inside)
 
-when-of-when-clause-token-requires : (t : ℕ) → when-of-lts.Need-when-clause-token-requires (
+when-when-clause-token-requires : (t : ℕ) → when-lts.Need-when-clause-token-requires (
   head-at-reads.Asked,
   head-at-reads.Learnt,
   when-clause-token-reads.Asked,
   when-clause-token-reads.Learnt,
   node-below t,
   node.Post,
-) (when-of-at t) when-of.Post when-of-Inv-loop when-of-μ-loop
-when-of-when-clause-token-requires t c κs = token-ready (c .before .before .before .before .before .before .before .before .before .before .pre .1) (c .before .before .before .before .before .before .loop .inv) _ (c .before .if2 .taken) (c .before .before .before .head-at .ensures)
+) (when-at t) when.Post when-Inv-loop when-μ-loop
+when-when-clause-token-requires t c κs = token-ready (c .before .before .before .before .before .before .before .before .before .before .pre .1) (c .before .before .before .before .before .before .loop .inv) _ (c .before .if2 .taken) (c .before .before .before .head-at .ensures)
 
-when-of-add-i-2 : (t : ℕ) → when-of-lts.Need-add-i-2 (
+when-add-i-2 : (t : ℕ) → when-lts.Need-add-i-2 (
   head-at-reads.Asked,
   head-at-reads.Learnt,
   when-clause-token-reads.Asked,
   when-clause-token-reads.Learnt,
   node-below t,
   node.Post,
-) (when-of-at t) when-of.Post when-of-Inv-loop when-of-μ-loop
-when-of-add-i-2 t c = omega (arith, loop-fits (c .before .before .before .before .before .before .before .before .before .before .before .before .before .pre .1) (c .before .before .before .before .before .before .before .before .before .loop .inv) (c .before .before .before .before .before .before .before .if1 .taken), c .before .before .before .before .before .before .before .before .before .before .before .before .before .pre .1 .sizes .tape-fits)
+) (when-at t) when.Post when-Inv-loop when-μ-loop
+when-add-i-2 t c = omega (arith, loop-fits (c .before .before .before .before .before .before .before .before .before .before .before .before .before .pre .1) (c .before .before .before .before .before .before .before .before .before .loop .inv) (c .before .before .before .before .before .before .before .if1 .taken), c .before .before .before .before .before .before .before .before .before .before .before .before .before .pre .1 .sizes .tape-fits)
 
-when-of-loop-less : (t : ℕ) → when-of-lts.Need-loop-less (
+when-loop-less : (t : ℕ) → when-lts.Need-loop-less (
   head-at-reads.Asked,
   head-at-reads.Learnt,
   when-clause-token-reads.Asked,
   when-clause-token-reads.Learnt,
   node-below t,
   node.Post,
-) (when-of-at t) when-of.Post when-of-Inv-loop when-of-μ-loop
-when-of-loop-less t c = omega (arith, c .before .before .before .before .before .before .before .before .before .loop .inv .inside)
+) (when-at t) when.Post when-Inv-loop when-μ-loop
+when-loop-less t c = omega (arith, c .before .before .before .before .before .before .before .before .before .loop .inv .inside)
 
-when-of-loop-again : (t : ℕ) → when-of-lts.Need-loop-again (
+when-loop-again : (t : ℕ) → when-lts.Need-loop-again (
   head-at-reads.Asked,
   head-at-reads.Learnt,
   when-clause-token-reads.Asked,
   when-clause-token-reads.Learnt,
   node-below t,
   node.Post,
-) (when-of-at t) when-of.Post when-of-Inv-loop when-of-μ-loop
+) (when-at t) when.Post when-Inv-loop when-μ-loop
 unfolding formatWhenClause
-when-of-loop-again t c = token-next (c .before .before .before .before .before .before .before .before .before .before .before .before .before .pre .1) (c .before .before .before .before .before .before .before .before .before .loop .inv) (c .before .before .before .before .if2 .taken) (c .before .before .before .before .before .before .head-at .ensures) (c .before .before .when-clause-token .ensures) refl (c .before .before .when-clause-token .kept .1 .1 .0)
+when-loop-again t c = token-next (c .before .before .before .before .before .before .before .before .before .before .before .before .before .pre .1) (c .before .before .before .before .before .before .before .before .before .loop .inv) (c .before .before .before .before .if2 .taken) (c .before .before .before .before .before .before .head-at .ensures) (c .before .before .when-clause-token .ensures) refl (c .before .before .when-clause-token .kept .1 .1 .0)
 
-when-of-sub-node : (t : ℕ) → when-of-lts.Need-sub-node (
+when-sub-node : (t : ℕ) → when-lts.Need-sub-node (
   head-at-reads.Asked,
   head-at-reads.Learnt,
   when-clause-token-reads.Asked,
   when-clause-token-reads.Learnt,
   node-below t,
   node.Post,
-) (when-of-at t) when-of.Post when-of-Inv-loop when-of-μ-loop
-when-of-sub-node t c = left-pos (c .before .before .before .before .before .before .before .before .before .before .pre .1) (c .before .before .before .before .before .before .loop .inv) (c .before .before .before .before .if1 .taken) (c .before .if2 .left)
+) (when-at t) when.Post when-Inv-loop when-μ-loop
+when-sub-node t c = left-pos (c .before .before .before .before .before .before .before .before .before .before .pre .1) (c .before .before .before .before .before .before .loop .inv) (c .before .before .before .before .if1 .taken) (c .before .if2 .left)
 
-when-of-node-requires : (t : ℕ) → when-of-lts.Need-node-requires (
+when-node-requires : (t : ℕ) → when-lts.Need-node-requires (
   head-at-reads.Asked,
   head-at-reads.Learnt,
   when-clause-token-reads.Asked,
   when-clause-token-reads.Learnt,
   node-below t,
   node.Post,
-) (when-of-at t) when-of.Post when-of-Inv-loop when-of-μ-loop
-when-of-node-requires t c κs = (omega (arith, c .before .before .before .before .before .before .before .before .before .before .pre .0, left-pos (c .before .before .before .before .before .before .before .before .before .before .pre .1) (c .before .before .before .before .before .before .loop .inv) (c .before .before .before .before .if1 .taken) (c .before .if2 .left)), node-ready (c .before .before .before .before .before .before .before .before .before .before .pre .1) (c .before .before .before .before .before .before .loop .inv) (c .before .before .before .before .if1 .taken) (c .before .if2 .left) (c .before .before .before .head-at .ensures) (no-spacing {xs = c .before .before .before .before .before .before .loop .out}) (omega arith))
+) (when-at t) when.Post when-Inv-loop when-μ-loop
+when-node-requires t c κs = (omega (arith, c .before .before .before .before .before .before .before .before .before .before .pre .0, left-pos (c .before .before .before .before .before .before .before .before .before .before .pre .1) (c .before .before .before .before .before .before .loop .inv) (c .before .before .before .before .if1 .taken) (c .before .if2 .left)), node-ready (c .before .before .before .before .before .before .before .before .before .before .pre .1) (c .before .before .before .before .before .before .loop .inv) (c .before .before .before .before .if1 .taken) (c .before .if2 .left) (c .before .before .before .head-at .ensures) (no-spacing {xs = c .before .before .before .before .before .before .loop .out}) (omega arith))
 
-when-of-loop-less-2 : (t : ℕ) → when-of-lts.Need-loop-less-2 (
+when-loop-less-2 : (t : ℕ) → when-lts.Need-loop-less-2 (
   head-at-reads.Asked,
   head-at-reads.Learnt,
   when-clause-token-reads.Asked,
   when-clause-token-reads.Learnt,
   node-below t,
   node.Post,
-) (when-of-at t) when-of.Post when-of-Inv-loop when-of-μ-loop
-when-of-loop-less-2 t c = omega (arith, c .before .before .before .before .before .before .before .before .before .before .loop .inv .inside, c .before .before .before .node .ensures .on)
+) (when-at t) when.Post when-Inv-loop when-μ-loop
+when-loop-less-2 t c = omega (arith, c .before .before .before .before .before .before .before .before .before .before .loop .inv .inside, c .before .before .before .node .ensures .forward)
 
-when-of-loop-again-2 : (t : ℕ) → when-of-lts.Need-loop-again-2 (
+when-loop-again-2 : (t : ℕ) → when-lts.Need-loop-again-2 (
   head-at-reads.Asked,
   head-at-reads.Learnt,
   when-clause-token-reads.Asked,
   when-clause-token-reads.Learnt,
   node-below t,
   node.Post,
-) (when-of-at t) when-of.Post when-of-Inv-loop when-of-μ-loop
+) (when-at t) when.Post when-Inv-loop when-μ-loop
 unfolding formatWhenClause
-when-of-loop-again-2 t c = node-next (c .before .before .before .before .before .before .before .before .before .before .before .before .before .before .pre .1) (c .before .before .before .before .before .before .before .before .before .before .loop .inv) (formatWhenClause .atNode (flagged false) (c .before .before .before .before .before .before .before .head-at .result .kind) 0) (c .before .before .before .before .before .before .before .before .if1 .taken) (c .before .before .before .before .before .if2 .left) (c .before .before .before .before .before .before .before .head-at .ensures) (λ k z. refl) (no-spacing {xs = c .before .before .before .before .before .before .before .before .before .before .loop .out}) (c .before .before .before .node .ensures) refl no-spacing (omega arith) (omega arith) (c .before .before .before .node .kept .1 .1 .1 .1 .0)
+when-loop-again-2 t c = node-next (c .before .before .before .before .before .before .before .before .before .before .before .before .before .before .pre .1) (c .before .before .before .before .before .before .before .before .before .before .loop .inv) (formatWhenClause .atNode (flagged false) (c .before .before .before .before .before .before .before .head-at .result .kind) 0) (c .before .before .before .before .before .before .before .before .if1 .taken) (c .before .before .before .before .before .if2 .left) (c .before .before .before .before .before .before .before .head-at .ensures) (λ k z. refl) (no-spacing {xs = c .before .before .before .before .before .before .before .before .before .before .loop .out}) (c .before .before .before .node .ensures) refl no-spacing (omega arith) (omega arith) (c .before .before .before .node .kept .1 .1 .1 .1 .0)
 
-when-of-add-t22 : (t : ℕ) → when-of-lts.Need-add-t22 (
+when-add-t22 : (t : ℕ) → when-lts.Need-add-t22 (
   head-at-reads.Asked,
   head-at-reads.Learnt,
   when-clause-token-reads.Asked,
   when-clause-token-reads.Learnt,
   node-below t,
   node.Post,
-) (when-of-at t) when-of.Post when-of-Inv-loop when-of-μ-loop
-when-of-add-t22 t c = omega (arith, c .before .before .loop .inv .inside, c .before .before .before .before .before .before .pre .1 .sizes .tape-fits)
+) (when-at t) when.Post when-Inv-loop when-μ-loop
+when-add-t22 t c = omega (arith, c .before .before .loop .inv .inside, c .before .before .before .before .before .before .pre .1 .sizes .tape-fits)
 
-when-of-same-length : (t : ℕ) → when-of-lts.Need-same-length (
+when-same-length : (t : ℕ) → when-lts.Need-same-length (
   head-at-reads.Asked,
   head-at-reads.Learnt,
   when-clause-token-reads.Asked,
   when-clause-token-reads.Learnt,
   node-below t,
   node.Post,
-) (when-of-at t) when-of.Post when-of-Inv-loop when-of-μ-loop
-when-of-same-length t c = c .before .before .loop .inv .same
+) (when-at t) when.Post when-Inv-loop when-μ-loop
+when-same-length t c = c .before .before .loop .inv .same
 
-when-of-returns : (t : ℕ) → when-of-lts.Need-returns (
+when-returns : (t : ℕ) → when-lts.Need-returns (
   head-at-reads.Asked,
   head-at-reads.Learnt,
   when-clause-token-reads.Asked,
   when-clause-token-reads.Learnt,
   node-below t,
   node.Post,
-) (when-of-at t) when-of.Post when-of-Inv-loop when-of-μ-loop
+) (when-at t) when.Post when-Inv-loop when-μ-loop
 unfolding formatWhenClause
-when-of-returns t c = loop-last (c .before .before .before .before .before .before .pre .1) (c .before .before .loop .inv) (c .if1 .left) no-spacing (omega arith)
+when-returns t c = loop-last (c .before .before .before .before .before .before .pre .1) (c .before .before .loop .inv) (c .if1 .left) no-spacing (omega arith)
 
-abbrev with-of-Inv-loop : with-of-lts.InvT-loop
-with-of-Inv-loop source tape config errors out₀ left at i₀ ctx₀ out i ctx = Loop source tape config errors left at (always formatWithClause) formatWithClause ctx₀ out₀ out i ctx (flagged false)
+abbrev with-Inv-loop : with-lts.InvT-loop
+with-Inv-loop source tape config errors out₀ left at i₀ ctx₀ out i ctx = Loop source tape config errors left at (always formatWithClause) formatWithClause ctx₀ out₀ out i ctx (flagged false)
 
-abbrev with-of-μ-loop : with-of-lts.MeasureT-loop
-with-of-μ-loop source tape config errors out₀ left at i₀ ctx₀ out i ctx = length tape - i
+abbrev with-μ-loop : with-lts.MeasureT-loop
+with-μ-loop source tape config errors out₀ left at i₀ ctx₀ out i ctx = length tape - i
 
-with-of-add-i : (t : ℕ) → with-of-lts.Need-add-i (
+with-add-i : (t : ℕ) → with-lts.Need-add-i (
   head-at-reads.Asked,
   head-at-reads.Learnt,
   select-clause-token-reads.Asked,
@@ -13792,10 +13799,10 @@ with-of-add-i : (t : ℕ) → with-of-lts.Need-add-i (
   node.Post,
   with-clause-after-reads.Asked,
   with-clause-after-reads.Learnt,
-) (with-of-at t) with-of.Post with-of-Inv-loop with-of-μ-loop
-with-of-add-i t c = omega (arith, c .before .before .before .pre .1 .inside, c .before .before .before .pre .1 .sizes .tape-fits)
+) (with-at t) with.Post with-Inv-loop with-μ-loop
+with-add-i t c = omega (arith, c .before .before .before .pre .1 .inside, c .before .before .before .pre .1 .sizes .tape-fits)
 
-with-of-loop-holds : (t : ℕ) → with-of-lts.Need-loop-holds (
+with-loop-holds : (t : ℕ) → with-lts.Need-loop-holds (
   head-at-reads.Asked,
   head-at-reads.Learnt,
   select-clause-token-reads.Asked,
@@ -13806,11 +13813,11 @@ with-of-loop-holds : (t : ℕ) → with-of-lts.Need-loop-holds (
   node.Post,
   with-clause-after-reads.Asked,
   with-clause-after-reads.Learnt,
-) (with-of-at t) with-of.Post with-of-Inv-loop with-of-μ-loop
+) (with-at t) with.Post with-Inv-loop with-μ-loop
 unfolding formatWithClause
-with-of-loop-holds t c = loop-first (always formatWithClause) formatWithClause _ (c .before .before .before .pre .1) (λ all z. refl)
+with-loop-holds t c = loop-first (always formatWithClause) formatWithClause _ (c .before .before .before .pre .1) (λ all z. refl)
 
-with-of-shared-slice-read-if1 : (t : ℕ) → with-of-lts.Need-shared-slice-read-if1 (
+with-shared-slice-read-if1 : (t : ℕ) → with-lts.Need-shared-slice-read-if1 (
   head-at-reads.Asked,
   head-at-reads.Learnt,
   select-clause-token-reads.Asked,
@@ -13821,10 +13828,10 @@ with-of-shared-slice-read-if1 : (t : ℕ) → with-of-lts.Need-shared-slice-read
   node.Post,
   with-clause-after-reads.Asked,
   with-clause-after-reads.Learnt,
-) (with-of-at t) with-of.Post with-of-Inv-loop with-of-μ-loop
-with-of-shared-slice-read-if1 t c = omega (arith, c .before .loop .inv .inside)
+) (with-at t) with.Post with-Inv-loop with-μ-loop
+with-shared-slice-read-if1 t c = omega (arith, c .before .loop .inv .inside)
 
-with-of-head-at-requires : (t : ℕ) → with-of-lts.Need-head-at-requires (
+with-head-at-requires : (t : ℕ) → with-lts.Need-head-at-requires (
   head-at-reads.Asked,
   head-at-reads.Learnt,
   select-clause-token-reads.Asked,
@@ -13835,10 +13842,10 @@ with-of-head-at-requires : (t : ℕ) → with-of-lts.Need-head-at-requires (
   node.Post,
   with-clause-after-reads.Asked,
   with-clause-after-reads.Learnt,
-) (with-of-at t) with-of.Post with-of-Inv-loop with-of-μ-loop
-with-of-head-at-requires t c κs = loop-fits (c .before .before .before .before .before .before .pre .1) (c .before .before .loop .inv) (c .if1 .taken)
+) (with-at t) with.Post with-Inv-loop with-μ-loop
+with-head-at-requires t c κs = loop-fits (c .before .before .before .before .before .before .pre .1) (c .before .before .loop .inv) (c .if1 .taken)
 
-with-of-shared-slice-read-if2 : (t : ℕ) → with-of-lts.Need-shared-slice-read-if2 (
+with-shared-slice-read-if2 : (t : ℕ) → with-lts.Need-shared-slice-read-if2 (
   head-at-reads.Asked,
   head-at-reads.Learnt,
   select-clause-token-reads.Asked,
@@ -13849,10 +13856,10 @@ with-of-shared-slice-read-if2 : (t : ℕ) → with-of-lts.Need-shared-slice-read
   node.Post,
   with-clause-after-reads.Asked,
   with-clause-after-reads.Learnt,
-) (with-of-at t) with-of.Post with-of-Inv-loop with-of-μ-loop
-with-of-shared-slice-read-if2 t c = omega (arith, c .before .before .before .before .loop .inv .inside)
+) (with-at t) with.Post with-Inv-loop with-μ-loop
+with-shared-slice-read-if2 t c = omega (arith, c .before .before .before .before .loop .inv .inside)
 
-with-of-select-clause-token-requires : (t : ℕ) → with-of-lts.Need-select-clause-token-requires (
+with-select-clause-token-requires : (t : ℕ) → with-lts.Need-select-clause-token-requires (
   head-at-reads.Asked,
   head-at-reads.Learnt,
   select-clause-token-reads.Asked,
@@ -13863,10 +13870,10 @@ with-of-select-clause-token-requires : (t : ℕ) → with-of-lts.Need-select-cla
   node.Post,
   with-clause-after-reads.Asked,
   with-clause-after-reads.Learnt,
-) (with-of-at t) with-of.Post with-of-Inv-loop with-of-μ-loop
-with-of-select-clause-token-requires t c κs = token-ready (c .before .before .before .before .before .before .before .before .before .before .pre .1) (c .before .before .before .before .before .before .loop .inv) _ (c .before .if2 .taken) (c .before .before .before .head-at .ensures)
+) (with-at t) with.Post with-Inv-loop with-μ-loop
+with-select-clause-token-requires t c κs = token-ready (c .before .before .before .before .before .before .before .before .before .before .pre .1) (c .before .before .before .before .before .before .loop .inv) _ (c .before .if2 .taken) (c .before .before .before .head-at .ensures)
 
-with-of-add-i-2 : (t : ℕ) → with-of-lts.Need-add-i-2 (
+with-add-i-2 : (t : ℕ) → with-lts.Need-add-i-2 (
   head-at-reads.Asked,
   head-at-reads.Learnt,
   select-clause-token-reads.Asked,
@@ -13877,10 +13884,10 @@ with-of-add-i-2 : (t : ℕ) → with-of-lts.Need-add-i-2 (
   node.Post,
   with-clause-after-reads.Asked,
   with-clause-after-reads.Learnt,
-) (with-of-at t) with-of.Post with-of-Inv-loop with-of-μ-loop
-with-of-add-i-2 t c = omega (arith, loop-fits (c .before .before .before .before .before .before .before .before .before .before .before .before .before .pre .1) (c .before .before .before .before .before .before .before .before .before .loop .inv) (c .before .before .before .before .before .before .before .if1 .taken), c .before .before .before .before .before .before .before .before .before .before .before .before .before .pre .1 .sizes .tape-fits)
+) (with-at t) with.Post with-Inv-loop with-μ-loop
+with-add-i-2 t c = omega (arith, loop-fits (c .before .before .before .before .before .before .before .before .before .before .before .before .before .pre .1) (c .before .before .before .before .before .before .before .before .before .loop .inv) (c .before .before .before .before .before .before .before .if1 .taken), c .before .before .before .before .before .before .before .before .before .before .before .before .before .pre .1 .sizes .tape-fits)
 
-with-of-loop-less : (t : ℕ) → with-of-lts.Need-loop-less (
+with-loop-less : (t : ℕ) → with-lts.Need-loop-less (
   head-at-reads.Asked,
   head-at-reads.Learnt,
   select-clause-token-reads.Asked,
@@ -13891,10 +13898,10 @@ with-of-loop-less : (t : ℕ) → with-of-lts.Need-loop-less (
   node.Post,
   with-clause-after-reads.Asked,
   with-clause-after-reads.Learnt,
-) (with-of-at t) with-of.Post with-of-Inv-loop with-of-μ-loop
-with-of-loop-less t c = omega (arith, c .before .before .before .before .before .before .before .before .before .loop .inv .inside)
+) (with-at t) with.Post with-Inv-loop with-μ-loop
+with-loop-less t c = omega (arith, c .before .before .before .before .before .before .before .before .before .loop .inv .inside)
 
-with-of-loop-again : (t : ℕ) → with-of-lts.Need-loop-again (
+with-loop-again : (t : ℕ) → with-lts.Need-loop-again (
   head-at-reads.Asked,
   head-at-reads.Learnt,
   select-clause-token-reads.Asked,
@@ -13905,11 +13912,11 @@ with-of-loop-again : (t : ℕ) → with-of-lts.Need-loop-again (
   node.Post,
   with-clause-after-reads.Asked,
   with-clause-after-reads.Learnt,
-) (with-of-at t) with-of.Post with-of-Inv-loop with-of-μ-loop
+) (with-at t) with.Post with-Inv-loop with-μ-loop
 unfolding formatWithClause
-with-of-loop-again t c = token-next (c .before .before .before .before .before .before .before .before .before .before .before .before .before .pre .1) (c .before .before .before .before .before .before .before .before .before .loop .inv) (c .before .before .before .before .if2 .taken) (c .before .before .before .before .before .before .head-at .ensures) (c .before .before .select-clause-token .ensures) refl (c .before .before .select-clause-token .kept .1 .1 .0)
+with-loop-again t c = token-next (c .before .before .before .before .before .before .before .before .before .before .before .before .before .pre .1) (c .before .before .before .before .before .before .before .before .before .loop .inv) (c .before .before .before .before .if2 .taken) (c .before .before .before .before .before .before .head-at .ensures) (c .before .before .select-clause-token .ensures) refl (c .before .before .select-clause-token .kept .1 .1 .0)
 
-with-of-with-clause-before-requires : (t : ℕ) → with-of-lts.Need-with-clause-before-requires (
+with-with-clause-before-requires : (t : ℕ) → with-lts.Need-with-clause-before-requires (
   head-at-reads.Asked,
   head-at-reads.Learnt,
   select-clause-token-reads.Asked,
@@ -13920,10 +13927,10 @@ with-of-with-clause-before-requires : (t : ℕ) → with-of-lts.Need-with-clause
   node.Post,
   with-clause-after-reads.Asked,
   with-clause-after-reads.Learnt,
-) (with-of-at t) with-of.Post with-of-Inv-loop with-of-μ-loop
-with-of-with-clause-before-requires t c κs = let r = side-ready (c .before .before .before .before .before .before .before .before .before .before .pre .1) (c .before .before .before .before .before .before .loop .inv) in omega arith
+) (with-at t) with.Post with-Inv-loop with-μ-loop
+with-with-clause-before-requires t c κs = let r = side-ready (c .before .before .before .before .before .before .before .before .before .before .pre .1) (c .before .before .before .before .before .before .loop .inv) in omega arith
 
-with-of-sub-node : (t : ℕ) → with-of-lts.Need-sub-node (
+with-sub-node : (t : ℕ) → with-lts.Need-sub-node (
   head-at-reads.Asked,
   head-at-reads.Learnt,
   select-clause-token-reads.Asked,
@@ -13934,10 +13941,10 @@ with-of-sub-node : (t : ℕ) → with-of-lts.Need-sub-node (
   node.Post,
   with-clause-after-reads.Asked,
   with-clause-after-reads.Learnt,
-) (with-of-at t) with-of.Post with-of-Inv-loop with-of-μ-loop
-with-of-sub-node t c = left-pos (c .before .before .before .before .before .before .before .before .before .before .before .before .before .before .pre .1) (c .before .before .before .before .before .before .before .before .before .before .loop .inv) (c .before .before .before .before .before .before .before .before .if1 .taken) (c .before .before .before .before .before .if2 .left)
+) (with-at t) with.Post with-Inv-loop with-μ-loop
+with-sub-node t c = left-pos (c .before .before .before .before .before .before .before .before .before .before .before .before .before .before .pre .1) (c .before .before .before .before .before .before .before .before .before .before .loop .inv) (c .before .before .before .before .before .before .before .before .if1 .taken) (c .before .before .before .before .before .if2 .left)
 
-with-of-node-requires : (t : ℕ) → with-of-lts.Need-node-requires (
+with-node-requires : (t : ℕ) → with-lts.Need-node-requires (
   head-at-reads.Asked,
   head-at-reads.Learnt,
   select-clause-token-reads.Asked,
@@ -13948,10 +13955,10 @@ with-of-node-requires : (t : ℕ) → with-of-lts.Need-node-requires (
   node.Post,
   with-clause-after-reads.Asked,
   with-clause-after-reads.Learnt,
-) (with-of-at t) with-of.Post with-of-Inv-loop with-of-μ-loop
-with-of-node-requires t c κs = (omega (arith, c .before .before .before .before .before .before .before .before .before .before .before .before .before .before .pre .0, left-pos (c .before .before .before .before .before .before .before .before .before .before .before .before .before .before .pre .1) (c .before .before .before .before .before .before .before .before .before .before .loop .inv) (c .before .before .before .before .before .before .before .before .if1 .taken) (c .before .before .before .before .before .if2 .left)), node-ready (c .before .before .before .before .before .before .before .before .before .before .before .before .before .before .pre .1) (c .before .before .before .before .before .before .before .before .before .before .loop .inv) (c .before .before .before .before .before .before .before .before .if1 .taken) (c .before .before .before .before .before .if2 .left) (c .before .before .before .before .before .before .before .head-at .ensures) (c .before .before .before .with-clause-before .ensures) (omega arith))
+) (with-at t) with.Post with-Inv-loop with-μ-loop
+with-node-requires t c κs = (omega (arith, c .before .before .before .before .before .before .before .before .before .before .before .before .before .before .pre .0, left-pos (c .before .before .before .before .before .before .before .before .before .before .before .before .before .before .pre .1) (c .before .before .before .before .before .before .before .before .before .before .loop .inv) (c .before .before .before .before .before .before .before .before .if1 .taken) (c .before .before .before .before .before .if2 .left)), node-ready (c .before .before .before .before .before .before .before .before .before .before .before .before .before .before .pre .1) (c .before .before .before .before .before .before .before .before .before .before .loop .inv) (c .before .before .before .before .before .before .before .before .if1 .taken) (c .before .before .before .before .before .if2 .left) (c .before .before .before .before .before .before .before .head-at .ensures) (c .before .before .before .with-clause-before .ensures) (omega arith))
 
-with-of-with-clause-after-requires : (t : ℕ) → with-of-lts.Need-with-clause-after-requires (
+with-with-clause-after-requires : (t : ℕ) → with-lts.Need-with-clause-after-requires (
   head-at-reads.Asked,
   head-at-reads.Learnt,
   select-clause-token-reads.Asked,
@@ -13962,10 +13969,10 @@ with-of-with-clause-after-requires : (t : ℕ) → with-of-lts.Need-with-clause-
   node.Post,
   with-clause-after-reads.Asked,
   with-clause-after-reads.Learnt,
-) (with-of-at t) with-of.Post with-of-Inv-loop with-of-μ-loop
-with-of-with-clause-after-requires t c κs = search needs
+) (with-at t) with.Post with-Inv-loop with-μ-loop
+with-with-clause-after-requires t c κs = search needs
 
-with-of-loop-less-2 : (t : ℕ) → with-of-lts.Need-loop-less-2 (
+with-loop-less-2 : (t : ℕ) → with-lts.Need-loop-less-2 (
   head-at-reads.Asked,
   head-at-reads.Learnt,
   select-clause-token-reads.Asked,
@@ -13976,10 +13983,10 @@ with-of-loop-less-2 : (t : ℕ) → with-of-lts.Need-loop-less-2 (
   node.Post,
   with-clause-after-reads.Asked,
   with-clause-after-reads.Learnt,
-) (with-of-at t) with-of.Post with-of-Inv-loop with-of-μ-loop
-with-of-loop-less-2 t c = omega (arith, c .before .before .before .before .before .before .before .before .before .before .before .before .before .before .before .loop .inv .inside, c .before .before .before .before .node .ensures .on)
+) (with-at t) with.Post with-Inv-loop with-μ-loop
+with-loop-less-2 t c = omega (arith, c .before .before .before .before .before .before .before .before .before .before .before .before .before .before .before .loop .inv .inside, c .before .before .before .before .node .ensures .forward)
 
-with-of-loop-again-2 : (t : ℕ) → with-of-lts.Need-loop-again-2 (
+with-loop-again-2 : (t : ℕ) → with-lts.Need-loop-again-2 (
   head-at-reads.Asked,
   head-at-reads.Learnt,
   select-clause-token-reads.Asked,
@@ -13990,11 +13997,11 @@ with-of-loop-again-2 : (t : ℕ) → with-of-lts.Need-loop-again-2 (
   node.Post,
   with-clause-after-reads.Asked,
   with-clause-after-reads.Learnt,
-) (with-of-at t) with-of.Post with-of-Inv-loop with-of-μ-loop
+) (with-at t) with.Post with-Inv-loop with-μ-loop
 unfolding formatWithClause
-with-of-loop-again-2 t c = node-next (c .before .before .before .before .before .before .before .before .before .before .before .before .before .before .before .before .before .before .before .pre .1) (c .before .before .before .before .before .before .before .before .before .before .before .before .before .before .before .loop .inv) (formatWithClause .atNode (flagged false) (c .before .before .before .before .before .before .before .before .before .before .before .before .head-at .result .kind) 0) (c .before .before .before .before .before .before .before .before .before .before .before .before .before .if1 .taken) (c .before .before .before .before .before .before .before .before .before .before .if2 .left) (c .before .before .before .before .before .before .before .before .before .before .before .before .head-at .ensures) (λ k z. refl) (c .before .before .before .before .before .before .before .before .with-clause-before .ensures) (c .before .before .before .before .node .ensures) refl (as-spaced (c .with-clause-after .ensures)) (omega arith) (omega arith) (c .before .before .before .before .node .kept .1 .1 .1 .1 .0 ∙ c .before .before .before .before .before .before .before .before .with-clause-before .kept .0)
+with-loop-again-2 t c = node-next (c .before .before .before .before .before .before .before .before .before .before .before .before .before .before .before .before .before .before .before .pre .1) (c .before .before .before .before .before .before .before .before .before .before .before .before .before .before .before .loop .inv) (formatWithClause .atNode (flagged false) (c .before .before .before .before .before .before .before .before .before .before .before .before .head-at .result .kind) 0) (c .before .before .before .before .before .before .before .before .before .before .before .before .before .if1 .taken) (c .before .before .before .before .before .before .before .before .before .before .if2 .left) (c .before .before .before .before .before .before .before .before .before .before .before .before .head-at .ensures) (λ k z. refl) (c .before .before .before .before .before .before .before .before .with-clause-before .ensures) (c .before .before .before .before .node .ensures) refl (as-spaced (c .with-clause-after .ensures)) (omega arith) (omega arith) (c .before .before .before .before .node .kept .1 .1 .1 .1 .0 ∙ c .before .before .before .before .before .before .before .before .with-clause-before .kept .0)
 
-with-of-add-t26 : (t : ℕ) → with-of-lts.Need-add-t26 (
+with-add-t26 : (t : ℕ) → with-lts.Need-add-t26 (
   head-at-reads.Asked,
   head-at-reads.Learnt,
   select-clause-token-reads.Asked,
@@ -14005,10 +14012,10 @@ with-of-add-t26 : (t : ℕ) → with-of-lts.Need-add-t26 (
   node.Post,
   with-clause-after-reads.Asked,
   with-clause-after-reads.Learnt,
-) (with-of-at t) with-of.Post with-of-Inv-loop with-of-μ-loop
-with-of-add-t26 t c = omega (arith, c .before .before .loop .inv .inside, c .before .before .before .before .before .before .pre .1 .sizes .tape-fits)
+) (with-at t) with.Post with-Inv-loop with-μ-loop
+with-add-t26 t c = omega (arith, c .before .before .loop .inv .inside, c .before .before .before .before .before .before .pre .1 .sizes .tape-fits)
 
-with-of-same-length : (t : ℕ) → with-of-lts.Need-same-length (
+with-same-length : (t : ℕ) → with-lts.Need-same-length (
   head-at-reads.Asked,
   head-at-reads.Learnt,
   select-clause-token-reads.Asked,
@@ -14019,10 +14026,10 @@ with-of-same-length : (t : ℕ) → with-of-lts.Need-same-length (
   node.Post,
   with-clause-after-reads.Asked,
   with-clause-after-reads.Learnt,
-) (with-of-at t) with-of.Post with-of-Inv-loop with-of-μ-loop
-with-of-same-length t c = c .before .before .loop .inv .same
+) (with-at t) with.Post with-Inv-loop with-μ-loop
+with-same-length t c = c .before .before .loop .inv .same
 
-with-of-returns : (t : ℕ) → with-of-lts.Need-returns (
+with-returns : (t : ℕ) → with-lts.Need-returns (
   head-at-reads.Asked,
   head-at-reads.Learnt,
   select-clause-token-reads.Asked,
@@ -14033,42 +14040,42 @@ with-of-returns : (t : ℕ) → with-of-lts.Need-returns (
   node.Post,
   with-clause-after-reads.Asked,
   with-clause-after-reads.Learnt,
-) (with-of-at t) with-of.Post with-of-Inv-loop with-of-μ-loop
+) (with-at t) with.Post with-Inv-loop with-μ-loop
 unfolding formatWithClause
-with-of-returns t c = loop-last (c .before .before .before .before .before .before .pre .1) (c .before .before .loop .inv) (c .if1 .left) no-spacing (omega arith)
+with-returns t c = loop-last (c .before .before .before .before .before .before .pre .1) (c .before .before .loop .inv) (c .if1 .left) no-spacing (omega arith)
 
-pub +alter+binary+braces+brackets+call+cases+commas+file+inline+join+list-by+node+parens+pass+queries+query+row+select+settings+simple+solid+subquery+tight+types+unary+unions+when-of+with-of-spec :
+pub +alter+binary+brace+bracket+call+case+comma+dtype+file+inl-list+inline+join+list-by+no-spaces+node+paren+pass+queries+sel-stmt+select+settings+simple+subquery+tight-paren+unary+union+when+with-spec :
     {M : Type 1} → statement M
-+alter+binary+braces+brackets+call+cases+commas+file+inline+join+list-by+node+parens+pass+queries+query+row+select+settings+simple+solid+subquery+tight+types+unary+unions+when-of+with-of-spec =
++alter+binary+brace+bracket+call+case+comma+dtype+file+inl-list+inline+join+list-by+no-spaces+node+paren+pass+queries+sel-stmt+select+settings+simple+subquery+tight-paren+unary+union+when+with-spec =
     close
     μ-alter
     μ-binary
-    μ-braces
-    μ-brackets
+    μ-brace
+    μ-bracket
     μ-call
-    μ-cases
-    μ-commas
+    μ-case
+    μ-comma
+    μ-dtype
     μ-file
+    μ-inl-list
     μ-inline
     μ-join
     μ-list-by
+    μ-no-spaces
     μ-node
-    μ-parens
+    μ-paren
     μ-pass
     μ-queries
-    μ-query
-    μ-row
+    μ-sel-stmt
     μ-select
     μ-settings
     μ-simple
-    μ-solid
     μ-subquery
-    μ-tight
-    μ-types
+    μ-tight-paren
     μ-unary
-    μ-unions
-    μ-when-of
-    μ-with-of
+    μ-union
+    μ-when
+    μ-with
     (λ t. alter-lts.spec (
       head-at-reads.Asked,
       head-at-reads.Learnt,
@@ -14125,7 +14132,7 @@ pub +alter+binary+braces+brackets+call+cases+commas+file+inline+join+list-by+nod
     (binary-add-t22 t)
     (binary-same-length t)
     (binary-returns t))
-    (λ t. braces-lts.spec (
+    (λ t. brace-lts.spec (
       head-at-reads.Asked,
       head-at-reads.Learnt,
       brace-list-token-reads.Asked,
@@ -14133,27 +14140,27 @@ pub +alter+binary+braces+brackets+call+cases+commas+file+inline+join+list-by+nod
       node-below t,
       node.Post,
     )
-    (braces-at t)
-    braces.Post
-    braces-Inv-loop
-    braces-μ-loop
-    (braces-add-i t)
-    (braces-loop-holds t)
-    (braces-shared-slice-read-if1 t)
-    (braces-head-at-requires t)
-    (braces-shared-slice-read-if2 t)
-    (braces-brace-list-token-requires t)
-    (braces-add-i-2 t)
-    (braces-loop-less t)
-    (braces-loop-again t)
-    (braces-sub-node t)
-    (braces-node-requires t)
-    (braces-loop-less-2 t)
-    (braces-loop-again-2 t)
-    (braces-add-t22 t)
-    (braces-same-length t)
-    (braces-returns t))
-    (λ t. brackets-lts.spec (
+    (brace-at t)
+    brace.Post
+    brace-Inv-loop
+    brace-μ-loop
+    (brace-add-i t)
+    (brace-loop-holds t)
+    (brace-shared-slice-read-if1 t)
+    (brace-head-at-requires t)
+    (brace-shared-slice-read-if2 t)
+    (brace-brace-list-token-requires t)
+    (brace-add-i-2 t)
+    (brace-loop-less t)
+    (brace-loop-again t)
+    (brace-sub-node t)
+    (brace-node-requires t)
+    (brace-loop-less-2 t)
+    (brace-loop-again-2 t)
+    (brace-add-t22 t)
+    (brace-same-length t)
+    (brace-returns t))
+    (λ t. bracket-lts.spec (
       head-at-reads.Asked,
       head-at-reads.Learnt,
       bracket-list-token-reads.Asked,
@@ -14161,26 +14168,26 @@ pub +alter+binary+braces+brackets+call+cases+commas+file+inline+join+list-by+nod
       node-below t,
       node.Post,
     )
-    (brackets-at t)
-    brackets.Post
-    brackets-Inv-loop
-    brackets-μ-loop
-    (brackets-add-i t)
-    (brackets-loop-holds t)
-    (brackets-shared-slice-read-if1 t)
-    (brackets-head-at-requires t)
-    (brackets-shared-slice-read-if2 t)
-    (brackets-bracket-list-token-requires t)
-    (brackets-add-i-2 t)
-    (brackets-loop-less t)
-    (brackets-loop-again t)
-    (brackets-sub-node t)
-    (brackets-node-requires t)
-    (brackets-loop-less-2 t)
-    (brackets-loop-again-2 t)
-    (brackets-add-t22 t)
-    (brackets-same-length t)
-    (brackets-returns t))
+    (bracket-at t)
+    bracket.Post
+    bracket-Inv-loop
+    bracket-μ-loop
+    (bracket-add-i t)
+    (bracket-loop-holds t)
+    (bracket-shared-slice-read-if1 t)
+    (bracket-head-at-requires t)
+    (bracket-shared-slice-read-if2 t)
+    (bracket-bracket-list-token-requires t)
+    (bracket-add-i-2 t)
+    (bracket-loop-less t)
+    (bracket-loop-again t)
+    (bracket-sub-node t)
+    (bracket-node-requires t)
+    (bracket-loop-less-2 t)
+    (bracket-loop-again-2 t)
+    (bracket-add-t22 t)
+    (bracket-same-length t)
+    (bracket-returns t))
     (λ t. call-lts.spec (
       head-at-reads.Asked,
       head-at-reads.Learnt,
@@ -14209,7 +14216,7 @@ pub +alter+binary+braces+brackets+call+cases+commas+file+inline+join+list-by+nod
     (call-add-t22 t)
     (call-same-length t)
     (call-returns t))
-    (λ t. cases-lts.spec (
+    (λ t. case-lts.spec (
       head-at-reads.Asked,
       head-at-reads.Learnt,
       case-expression-token-reads.Asked,
@@ -14219,28 +14226,28 @@ pub +alter+binary+braces+brackets+call+cases+commas+file+inline+join+list-by+nod
       node-below t,
       node.Post,
     )
-    (cases-at t)
-    cases.Post
-    cases-Inv-loop
-    cases-μ-loop
-    (cases-add-i t)
-    (cases-loop-holds t)
-    (cases-shared-slice-read-if1 t)
-    (cases-head-at-requires t)
-    (cases-shared-slice-read-if2 t)
-    (cases-case-expression-token-requires t)
-    (cases-add-i-2 t)
-    (cases-loop-less t)
-    (cases-loop-again t)
-    (cases-case-expression-before-requires t)
-    (cases-sub-node t)
-    (cases-node-requires t)
-    (cases-loop-less-2 t)
-    (cases-loop-again-2 t)
-    (cases-add-t27 t)
-    (cases-same-length t)
-    (cases-returns t))
-    (λ t. commas-lts.spec (
+    (case-at t)
+    case.Post
+    case-Inv-loop
+    case-μ-loop
+    (case-add-i t)
+    (case-loop-holds t)
+    (case-shared-slice-read-if1 t)
+    (case-head-at-requires t)
+    (case-shared-slice-read-if2 t)
+    (case-case-expression-token-requires t)
+    (case-add-i-2 t)
+    (case-loop-less t)
+    (case-loop-again t)
+    (case-case-expression-before-requires t)
+    (case-sub-node t)
+    (case-node-requires t)
+    (case-loop-less-2 t)
+    (case-loop-again-2 t)
+    (case-add-t27 t)
+    (case-same-length t)
+    (case-returns t))
+    (λ t. comma-lts.spec (
       head-at-reads.Asked,
       head-at-reads.Learnt,
       comma-list-token-reads.Asked,
@@ -14250,27 +14257,55 @@ pub +alter+binary+braces+brackets+call+cases+commas+file+inline+join+list-by+nod
       node-below t,
       node.Post,
     )
-    (commas-at t)
-    commas.Post
-    commas-Inv-loop
-    commas-μ-loop
-    (commas-add-i t)
-    (commas-loop-holds t)
-    (commas-shared-slice-read-if1 t)
-    (commas-head-at-requires t)
-    (commas-shared-slice-read-if2 t)
-    (commas-comma-list-token-requires t)
-    (commas-add-i-2 t)
-    (commas-loop-less t)
-    (commas-loop-again t)
-    (commas-space-if-requires t)
-    (commas-sub-node t)
-    (commas-node-requires t)
-    (commas-loop-less-2 t)
-    (commas-loop-again-2 t)
-    (commas-add-t28 t)
-    (commas-same-length t)
-    (commas-returns t))
+    (comma-at t)
+    comma.Post
+    comma-Inv-loop
+    comma-μ-loop
+    (comma-add-i t)
+    (comma-loop-holds t)
+    (comma-shared-slice-read-if1 t)
+    (comma-head-at-requires t)
+    (comma-shared-slice-read-if2 t)
+    (comma-comma-list-token-requires t)
+    (comma-add-i-2 t)
+    (comma-loop-less t)
+    (comma-loop-again t)
+    (comma-space-if-requires t)
+    (comma-sub-node t)
+    (comma-node-requires t)
+    (comma-loop-less-2 t)
+    (comma-loop-again-2 t)
+    (comma-add-t28 t)
+    (comma-same-length t)
+    (comma-returns t))
+    (λ t. dtype-lts.spec (
+      head-at-reads.Asked,
+      head-at-reads.Learnt,
+      data-type-token-reads.Asked,
+      data-type-token-reads.Learnt,
+      node-below t,
+      node.Post,
+    )
+    (dtype-at t)
+    dtype.Post
+    dtype-Inv-loop
+    dtype-μ-loop
+    (dtype-add-i t)
+    (dtype-loop-holds t)
+    (dtype-shared-slice-read-if1 t)
+    (dtype-head-at-requires t)
+    (dtype-shared-slice-read-if2 t)
+    (dtype-data-type-token-requires t)
+    (dtype-add-i-2 t)
+    (dtype-loop-less t)
+    (dtype-loop-again t)
+    (dtype-sub-node t)
+    (dtype-node-requires t)
+    (dtype-loop-less-2 t)
+    (dtype-loop-again-2 t)
+    (dtype-add-t22 t)
+    (dtype-same-length t)
+    (dtype-returns t))
     (λ t. file-lts.spec (
       head-at-reads.Asked,
       head-at-reads.Learnt,
@@ -14302,6 +14337,34 @@ pub +alter+binary+braces+brackets+call+cases+commas+file+inline+join+list-by+nod
     (file-add-t28 t)
     (file-same-length t)
     (file-returns t))
+    (λ t. inl-list-lts.spec (
+      head-at-reads.Asked,
+      head-at-reads.Learnt,
+      inline-comma-list-token-reads.Asked,
+      inline-comma-list-token-reads.Learnt,
+      node-below t,
+      node.Post,
+    )
+    (inl-list-at t)
+    inl-list.Post
+    inl-list-Inv-loop
+    inl-list-μ-loop
+    (inl-list-add-i t)
+    (inl-list-loop-holds t)
+    (inl-list-shared-slice-read-if1 t)
+    (inl-list-head-at-requires t)
+    (inl-list-shared-slice-read-if2 t)
+    (inl-list-inline-comma-list-token-requires t)
+    (inl-list-add-i-2 t)
+    (inl-list-loop-less t)
+    (inl-list-loop-again t)
+    (inl-list-sub-node t)
+    (inl-list-node-requires t)
+    (inl-list-loop-less-2 t)
+    (inl-list-loop-again-2 t)
+    (inl-list-add-t22 t)
+    (inl-list-same-length t)
+    (inl-list-returns t))
     (λ t. inline-lts.spec (
       head-at-reads.Asked,
       head-at-reads.Learnt,
@@ -14413,6 +14476,34 @@ pub +alter+binary+braces+brackets+call+cases+commas+file+inline+join+list-by+nod
     (list-by-add-t32 t)
     (list-by-same-length t)
     (list-by-returns t))
+    (λ t. no-spaces-lts.spec (
+      head-at-reads.Asked,
+      head-at-reads.Learnt,
+      emit-other-reads.Asked,
+      emit-other-reads.Learnt,
+      node-below t,
+      node.Post,
+    )
+    (no-spaces-at t)
+    no-spaces.Post
+    no-spaces-Inv-loop
+    no-spaces-μ-loop
+    (no-spaces-add-i t)
+    (no-spaces-loop-holds t)
+    (no-spaces-shared-slice-read-if1 t)
+    (no-spaces-head-at-requires t)
+    (no-spaces-shared-slice-read-if2 t)
+    (no-spaces-emit-other-requires t)
+    (no-spaces-add-i-2 t)
+    (no-spaces-loop-less t)
+    (no-spaces-loop-again t)
+    (no-spaces-sub-node t)
+    (no-spaces-node-requires t)
+    (no-spaces-loop-less-2 t)
+    (no-spaces-loop-again-2 t)
+    (no-spaces-add-t22 t)
+    (no-spaces-same-length t)
+    (no-spaces-returns t))
     (λ t. node-lts.spec (
       is-copied-reads.Asked,
       is-copied-reads.Learnt,
@@ -14428,8 +14519,8 @@ pub +alter+binary+braces+brackets+call+cases+commas+file+inline+join+list-by+nod
       file.Post,
       queries-below t,
       queries.Post,
-      query-below t,
-      query.Post,
+      sel-stmt-below t,
+      sel-stmt.Post,
       select-below t,
       select.Post,
       simple-below t,
@@ -14438,44 +14529,44 @@ pub +alter+binary+braces+brackets+call+cases+commas+file+inline+join+list-by+nod
       list-by.Post,
       settings-below t,
       settings.Post,
-      with-of-below t,
-      with-of.Post,
+      with-below t,
+      with.Post,
       join-below t,
       join.Post,
       inline-below t,
       inline.Post,
-      commas-below t,
-      commas.Post,
-      row-below t,
-      row.Post,
+      comma-below t,
+      comma.Post,
+      inl-list-below t,
+      inl-list.Post,
       binary-below t,
       binary.Post,
       unary-below t,
       unary.Post,
       call-below t,
       call.Post,
-      cases-below t,
-      cases.Post,
-      when-of-below t,
-      when-of.Post,
+      case-below t,
+      case.Post,
+      when-below t,
+      when.Post,
       subquery-below t,
       subquery.Post,
-      parens-below t,
-      parens.Post,
-      brackets-below t,
-      brackets.Post,
-      solid-below t,
-      solid.Post,
-      braces-below t,
-      braces.Post,
-      types-below t,
-      types.Post,
-      tight-below t,
-      tight.Post,
+      paren-below t,
+      paren.Post,
+      bracket-below t,
+      bracket.Post,
+      no-spaces-below t,
+      no-spaces.Post,
+      brace-below t,
+      brace.Post,
+      dtype-below t,
+      dtype.Post,
+      tight-paren-below t,
+      tight-paren.Post,
       alter-below t,
       alter.Post,
-      unions-below t,
-      unions.Post,
+      union-below t,
+      union.Post,
       pass-below t,
       pass.Post,
     )
@@ -14493,7 +14584,7 @@ pub +alter+binary+braces+brackets+call+cases+commas+file+inline+join+list-by+nod
     (node-enum-told-2 t)
     (node-queries-requires t)
     (node-enum-told-3 t)
-    (node-query-requires t)
+    (node-sel-stmt-requires t)
     (node-enum-told-4 t)
     (node-select-requires t)
     (node-enum-told-5 t)
@@ -14503,15 +14594,15 @@ pub +alter+binary+braces+brackets+call+cases+commas+file+inline+join+list-by+nod
     (node-enum-told-6 t)
     (node-settings-requires t)
     (node-enum-told-7 t)
-    (node-with-of-requires t)
+    (node-with-requires t)
     (node-enum-told-8 t)
     (node-join-requires t)
     (node-enum-told-9 t)
     (node-inline-requires t)
     (node-enum-told-10 t)
-    (node-commas-requires t)
+    (node-comma-requires t)
     (node-enum-told-11 t)
-    (node-row-requires t)
+    (node-inl-list-requires t)
     (node-enum-told-12 t)
     (node-binary-requires t)
     (node-enum-told-13 t)
@@ -14519,27 +14610,27 @@ pub +alter+binary+braces+brackets+call+cases+commas+file+inline+join+list-by+nod
     (node-enum-told-14 t)
     (node-call-requires t)
     (node-enum-told-15 t)
-    (node-cases-requires t)
+    (node-case-requires t)
     (node-enum-told-16 t)
-    (node-when-of-requires t)
+    (node-when-requires t)
     (node-enum-told-17 t)
     (node-subquery-requires t)
     (node-enum-told-18 t)
-    (node-parens-requires t)
+    (node-paren-requires t)
     (node-enum-told-19 t)
-    (node-brackets-requires t)
+    (node-bracket-requires t)
     (node-enum-told-20 t)
-    (node-solid-requires t)
+    (node-no-spaces-requires t)
     (node-enum-told-21 t)
-    (node-braces-requires t)
+    (node-brace-requires t)
     (node-enum-told-22 t)
-    (node-types-requires t)
+    (node-dtype-requires t)
     (node-enum-told-23 t)
-    (node-tight-requires t)
+    (node-tight-paren-requires t)
     (node-enum-told-24 t)
     (node-alter-requires t)
     (node-enum-told-25 t)
-    (node-unions-requires t)
+    (node-union-requires t)
     (node-enum-told-26 t)
     (node-pass-requires t)
     (node-same-length-2 t)
@@ -14596,7 +14687,7 @@ pub +alter+binary+braces+brackets+call+cases+commas+file+inline+join+list-by+nod
     (node-returns-27 t)
     (node-same-length-28 t)
     (node-returns-28 t))
-    (λ t. parens-lts.spec (
+    (λ t. paren-lts.spec (
       head-at-reads.Asked,
       head-at-reads.Learnt,
       paren-list-token-reads.Asked,
@@ -14604,26 +14695,26 @@ pub +alter+binary+braces+brackets+call+cases+commas+file+inline+join+list-by+nod
       node-below t,
       node.Post,
     )
-    (parens-at t)
-    parens.Post
-    parens-Inv-loop
-    parens-μ-loop
-    (parens-add-i t)
-    (parens-loop-holds t)
-    (parens-shared-slice-read-if1 t)
-    (parens-head-at-requires t)
-    (parens-shared-slice-read-if2 t)
-    (parens-paren-list-token-requires t)
-    (parens-add-i-2 t)
-    (parens-loop-less t)
-    (parens-loop-again t)
-    (parens-sub-node t)
-    (parens-node-requires t)
-    (parens-loop-less-2 t)
-    (parens-loop-again-2 t)
-    (parens-add-t22 t)
-    (parens-same-length t)
-    (parens-returns t))
+    (paren-at t)
+    paren.Post
+    paren-Inv-loop
+    paren-μ-loop
+    (paren-add-i t)
+    (paren-loop-holds t)
+    (paren-shared-slice-read-if1 t)
+    (paren-head-at-requires t)
+    (paren-shared-slice-read-if2 t)
+    (paren-paren-list-token-requires t)
+    (paren-add-i-2 t)
+    (paren-loop-less t)
+    (paren-loop-again t)
+    (paren-sub-node t)
+    (paren-node-requires t)
+    (paren-loop-less-2 t)
+    (paren-loop-again-2 t)
+    (paren-add-t22 t)
+    (paren-same-length t)
+    (paren-returns t))
     (λ t. pass-lts.spec (
       head-at-reads.Asked,
       head-at-reads.Learnt,
@@ -14683,7 +14774,7 @@ pub +alter+binary+braces+brackets+call+cases+commas+file+inline+join+list-by+nod
     (queries-add-t28 t)
     (queries-same-length t)
     (queries-returns t))
-    (λ t. query-lts.spec (
+    (λ t. sel-stmt-lts.spec (
       head-at-reads.Asked,
       head-at-reads.Learnt,
       select-statement-token-reads.Asked,
@@ -14693,55 +14784,27 @@ pub +alter+binary+braces+brackets+call+cases+commas+file+inline+join+list-by+nod
       node-below t,
       node.Post,
     )
-    (query-at t)
-    query.Post
-    query-Inv-loop
-    query-μ-loop
-    (query-add-i t)
-    (query-loop-holds t)
-    (query-shared-slice-read-if1 t)
-    (query-head-at-requires t)
-    (query-shared-slice-read-if2 t)
-    (query-select-statement-token-requires t)
-    (query-add-i-2 t)
-    (query-loop-less t)
-    (query-loop-again t)
-    (query-select-statement-before-requires t)
-    (query-sub-node t)
-    (query-node-requires t)
-    (query-loop-less-2 t)
-    (query-loop-again-2 t)
-    (query-add-t28 t)
-    (query-same-length t)
-    (query-returns t))
-    (λ t. row-lts.spec (
-      head-at-reads.Asked,
-      head-at-reads.Learnt,
-      inline-comma-list-token-reads.Asked,
-      inline-comma-list-token-reads.Learnt,
-      node-below t,
-      node.Post,
-    )
-    (row-at t)
-    row.Post
-    row-Inv-loop
-    row-μ-loop
-    (row-add-i t)
-    (row-loop-holds t)
-    (row-shared-slice-read-if1 t)
-    (row-head-at-requires t)
-    (row-shared-slice-read-if2 t)
-    (row-inline-comma-list-token-requires t)
-    (row-add-i-2 t)
-    (row-loop-less t)
-    (row-loop-again t)
-    (row-sub-node t)
-    (row-node-requires t)
-    (row-loop-less-2 t)
-    (row-loop-again-2 t)
-    (row-add-t22 t)
-    (row-same-length t)
-    (row-returns t))
+    (sel-stmt-at t)
+    sel-stmt.Post
+    sel-stmt-Inv-loop
+    sel-stmt-μ-loop
+    (sel-stmt-add-i t)
+    (sel-stmt-loop-holds t)
+    (sel-stmt-shared-slice-read-if1 t)
+    (sel-stmt-head-at-requires t)
+    (sel-stmt-shared-slice-read-if2 t)
+    (sel-stmt-select-statement-token-requires t)
+    (sel-stmt-add-i-2 t)
+    (sel-stmt-loop-less t)
+    (sel-stmt-loop-again t)
+    (sel-stmt-select-statement-before-requires t)
+    (sel-stmt-sub-node t)
+    (sel-stmt-node-requires t)
+    (sel-stmt-loop-less-2 t)
+    (sel-stmt-loop-again-2 t)
+    (sel-stmt-add-t28 t)
+    (sel-stmt-same-length t)
+    (sel-stmt-returns t))
     (λ t. select-lts.spec (
       head-at-reads.Asked,
       head-at-reads.Learnt,
@@ -14841,34 +14904,6 @@ pub +alter+binary+braces+brackets+call+cases+commas+file+inline+join+list-by+nod
     (simple-add-t27 t)
     (simple-same-length t)
     (simple-returns t))
-    (λ t. solid-lts.spec (
-      head-at-reads.Asked,
-      head-at-reads.Learnt,
-      emit-other-reads.Asked,
-      emit-other-reads.Learnt,
-      node-below t,
-      node.Post,
-    )
-    (solid-at t)
-    solid.Post
-    solid-Inv-loop
-    solid-μ-loop
-    (solid-add-i t)
-    (solid-loop-holds t)
-    (solid-shared-slice-read-if1 t)
-    (solid-head-at-requires t)
-    (solid-shared-slice-read-if2 t)
-    (solid-emit-other-requires t)
-    (solid-add-i-2 t)
-    (solid-loop-less t)
-    (solid-loop-again t)
-    (solid-sub-node t)
-    (solid-node-requires t)
-    (solid-loop-less-2 t)
-    (solid-loop-again-2 t)
-    (solid-add-t22 t)
-    (solid-same-length t)
-    (solid-returns t))
     (λ t. subquery-lts.spec (
       head-at-reads.Asked,
       head-at-reads.Learnt,
@@ -14897,7 +14932,7 @@ pub +alter+binary+braces+brackets+call+cases+commas+file+inline+join+list-by+nod
     (subquery-add-t22 t)
     (subquery-same-length t)
     (subquery-returns t))
-    (λ t. tight-lts.spec (
+    (λ t. tight-paren-lts.spec (
       head-at-reads.Asked,
       head-at-reads.Learnt,
       inline-tight-parens-token-reads.Asked,
@@ -14909,56 +14944,28 @@ pub +alter+binary+braces+brackets+call+cases+commas+file+inline+join+list-by+nod
       node-below t,
       node.Post,
     )
-    (tight-at t)
-    tight.Post
-    tight-Inv-loop
-    tight-μ-loop
-    (tight-add-i t)
-    (tight-loop-holds t)
-    (tight-shared-slice-read-if1 t)
-    (tight-head-at-requires t)
-    (tight-shared-slice-read-if2 t)
-    (tight-inline-tight-parens-token-requires t)
-    (tight-add-i-2 t)
-    (tight-loop-less t)
-    (tight-loop-again t)
-    (tight-space-after-requires t)
-    (tight-space-if-requires t)
-    (tight-sub-node t)
-    (tight-node-requires t)
-    (tight-loop-less-2 t)
-    (tight-loop-again-2 t)
-    (tight-add-t29 t)
-    (tight-same-length t)
-    (tight-returns t))
-    (λ t. types-lts.spec (
-      head-at-reads.Asked,
-      head-at-reads.Learnt,
-      data-type-token-reads.Asked,
-      data-type-token-reads.Learnt,
-      node-below t,
-      node.Post,
-    )
-    (types-at t)
-    types.Post
-    types-Inv-loop
-    types-μ-loop
-    (types-add-i t)
-    (types-loop-holds t)
-    (types-shared-slice-read-if1 t)
-    (types-head-at-requires t)
-    (types-shared-slice-read-if2 t)
-    (types-data-type-token-requires t)
-    (types-add-i-2 t)
-    (types-loop-less t)
-    (types-loop-again t)
-    (types-sub-node t)
-    (types-node-requires t)
-    (types-loop-less-2 t)
-    (types-loop-again-2 t)
-    (types-add-t22 t)
-    (types-same-length t)
-    (types-returns t))
+    (tight-paren-at t)
+    tight-paren.Post
+    tight-paren-Inv-loop
+    tight-paren-μ-loop
+    (tight-paren-add-i t)
+    (tight-paren-loop-holds t)
+    (tight-paren-shared-slice-read-if1 t)
+    (tight-paren-head-at-requires t)
+    (tight-paren-shared-slice-read-if2 t)
+    (tight-paren-inline-tight-parens-token-requires t)
+    (tight-paren-add-i-2 t)
+    (tight-paren-loop-less t)
+    (tight-paren-loop-again t)
+    (tight-paren-space-after-requires t)
+    (tight-paren-space-if-requires t)
+    (tight-paren-sub-node t)
+    (tight-paren-node-requires t)
+    (tight-paren-loop-less-2 t)
+    (tight-paren-loop-again-2 t)
+    (tight-paren-add-t29 t)
+    (tight-paren-same-length t)
+    (tight-paren-returns t))
     (λ t. unary-lts.spec (
       head-at-reads.Asked,
       head-at-reads.Learnt,
@@ -14987,7 +14994,7 @@ pub +alter+binary+braces+brackets+call+cases+commas+file+inline+join+list-by+nod
     (unary-add-t22 t)
     (unary-same-length t)
     (unary-returns t))
-    (λ t. unions-lts.spec (
+    (λ t. union-lts.spec (
       head-at-reads.Asked,
       head-at-reads.Learnt,
       union-clause-token-reads.Asked,
@@ -14999,29 +15006,29 @@ pub +alter+binary+braces+brackets+call+cases+commas+file+inline+join+list-by+nod
       union-clause-local-reads.Asked,
       union-clause-local-reads.Learnt,
     )
-    (unions-at t)
-    unions.Post
-    unions-Inv-loop
-    unions-μ-loop
-    (unions-add-i t)
-    (unions-loop-holds t)
-    (unions-shared-slice-read-if1 t)
-    (unions-head-at-requires t)
-    (unions-shared-slice-read-if2 t)
-    (unions-union-clause-token-requires t)
-    (unions-add-i-2 t)
-    (unions-loop-less t)
-    (unions-loop-again t)
-    (unions-union-clause-before-requires t)
-    (unions-sub-node t)
-    (unions-node-requires t)
-    (unions-union-clause-local-requires t)
-    (unions-loop-less-2 t)
-    (unions-loop-again-2 t)
-    (unions-add-t27 t)
-    (unions-same-length t)
-    (unions-returns t))
-    (λ t. when-of-lts.spec (
+    (union-at t)
+    union.Post
+    union-Inv-loop
+    union-μ-loop
+    (union-add-i t)
+    (union-loop-holds t)
+    (union-shared-slice-read-if1 t)
+    (union-head-at-requires t)
+    (union-shared-slice-read-if2 t)
+    (union-union-clause-token-requires t)
+    (union-add-i-2 t)
+    (union-loop-less t)
+    (union-loop-again t)
+    (union-union-clause-before-requires t)
+    (union-sub-node t)
+    (union-node-requires t)
+    (union-union-clause-local-requires t)
+    (union-loop-less-2 t)
+    (union-loop-again-2 t)
+    (union-add-t27 t)
+    (union-same-length t)
+    (union-returns t))
+    (λ t. when-lts.spec (
       head-at-reads.Asked,
       head-at-reads.Learnt,
       when-clause-token-reads.Asked,
@@ -15029,27 +15036,27 @@ pub +alter+binary+braces+brackets+call+cases+commas+file+inline+join+list-by+nod
       node-below t,
       node.Post,
     )
-    (when-of-at t)
-    when-of.Post
-    when-of-Inv-loop
-    when-of-μ-loop
-    (when-of-add-i t)
-    (when-of-loop-holds t)
-    (when-of-shared-slice-read-if1 t)
-    (when-of-head-at-requires t)
-    (when-of-shared-slice-read-if2 t)
-    (when-of-when-clause-token-requires t)
-    (when-of-add-i-2 t)
-    (when-of-loop-less t)
-    (when-of-loop-again t)
-    (when-of-sub-node t)
-    (when-of-node-requires t)
-    (when-of-loop-less-2 t)
-    (when-of-loop-again-2 t)
-    (when-of-add-t22 t)
-    (when-of-same-length t)
-    (when-of-returns t))
-    λ t. with-of-lts.spec (
+    (when-at t)
+    when.Post
+    when-Inv-loop
+    when-μ-loop
+    (when-add-i t)
+    (when-loop-holds t)
+    (when-shared-slice-read-if1 t)
+    (when-head-at-requires t)
+    (when-shared-slice-read-if2 t)
+    (when-when-clause-token-requires t)
+    (when-add-i-2 t)
+    (when-loop-less t)
+    (when-loop-again t)
+    (when-sub-node t)
+    (when-node-requires t)
+    (when-loop-less-2 t)
+    (when-loop-again-2 t)
+    (when-add-t22 t)
+    (when-same-length t)
+    (when-returns t))
+    λ t. with-lts.spec (
       head-at-reads.Asked,
       head-at-reads.Learnt,
       select-clause-token-reads.Asked,
@@ -15061,25 +15068,25 @@ pub +alter+binary+braces+brackets+call+cases+commas+file+inline+join+list-by+nod
       with-clause-after-reads.Asked,
       with-clause-after-reads.Learnt,
     )
-    (with-of-at t)
-    with-of.Post
-    with-of-Inv-loop
-    with-of-μ-loop
-    (with-of-add-i t)
-    (with-of-loop-holds t)
-    (with-of-shared-slice-read-if1 t)
-    (with-of-head-at-requires t)
-    (with-of-shared-slice-read-if2 t)
-    (with-of-select-clause-token-requires t)
-    (with-of-add-i-2 t)
-    (with-of-loop-less t)
-    (with-of-loop-again t)
-    (with-of-with-clause-before-requires t)
-    (with-of-sub-node t)
-    (with-of-node-requires t)
-    (with-of-with-clause-after-requires t)
-    (with-of-loop-less-2 t)
-    (with-of-loop-again-2 t)
-    (with-of-add-t26 t)
-    (with-of-same-length t)
-    (with-of-returns t)
+    (with-at t)
+    with.Post
+    with-Inv-loop
+    with-μ-loop
+    (with-add-i t)
+    (with-loop-holds t)
+    (with-shared-slice-read-if1 t)
+    (with-head-at-requires t)
+    (with-shared-slice-read-if2 t)
+    (with-select-clause-token-requires t)
+    (with-add-i-2 t)
+    (with-loop-less t)
+    (with-loop-again t)
+    (with-with-clause-before-requires t)
+    (with-sub-node t)
+    (with-node-requires t)
+    (with-with-clause-after-requires t)
+    (with-loop-less-2 t)
+    (with-loop-again-2 t)
+    (with-add-t26 t)
+    (with-same-length t)
+    (with-returns t)
