@@ -41,8 +41,8 @@ same-length-3 c = c .before .before .print-bad .kept .1 .0 ∙ c .before .before
 returns : tie.Need-returns Inv-loop μ-loop
 returns c = within _ _ _ (c .before .before .print-bad .ensures)
 
-enum-known-step : tie.Need-enum-known-step Inv-loop μ-loop
-enum-known-step c = search needs
+enum-known-turn : tie.Need-enum-known-turn Inv-loop μ-loop
+enum-known-turn c = search needs
 
 enum-known-turn-2 : tie.Need-enum-known-turn-2 Inv-loop μ-loop
 enum-known-turn-2 c = search needs
@@ -114,7 +114,7 @@ replay-spec =
     same-length-2
     same-length-3
     returns
-    enum-known-step
+    enum-known-turn
     enum-known-turn-2
     add-differ
     add-at
