@@ -26,6 +26,7 @@ PRINTED = COPY + "/printed"
 RECORDS = COPY + "/target/goals/formatter"
 
 HEAD = """\
+-- Written by scripts/cycle_proof.py; do not edit.
 -- The routines and the dispatch meet their contracts: one proof for the cycle of calls. The answers are alike for each routine; the laws
 -- are those of Walks. The measure is twice the levels left, one more for the dispatch.
 use borrow.Author.Needs.{needs}

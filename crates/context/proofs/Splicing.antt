@@ -53,7 +53,7 @@ module _ {A : Type 0} where
   splice-min [] (x ∷ xs) = rw zero-min
   splice-min (p ∷ ps) (x ∷ xs) = rw suc-min-suc (ap {B = List A} (λ r. p ∷ r) (splice-min ps xs))
 
-  -- one turn
+  -- one pass
   pub loop-step : (ps xs out : List A) (i : ℕ) (v d : A) → out ≡ splice 0 (take i ps) xs → i < length ps → getD ps i d ≡ v
       → set out i v ≡ splice 0 (take (i + 1) ps) xs
   loop-step ps xs out i v d e h g = rw (add-one, e, ← g) (splice-step i ps xs d h)

@@ -1,4 +1,4 @@
--- Laws of writes: what code did is what a step stores, writes in a row, room as credit.
+-- Laws of writes: what code did is what a step stores, writes in a row, and what writes use up of the room.
 use mathlib.Core.Path.{_≡_, refl, sym, ap, ap₂, _∙_}
 use mathlib.Core.Bool.{Bool, false}
 use mathlib.Core.List.{List, [], _++_, map}
@@ -19,7 +19,7 @@ use Rattle.context.proofs.Splicing.{splice-nil, splice-splice}
 use Rattle.context.proofs.Trimming.{trimmed-append, trimmed-lead, after-after}
 use Rattle.context.proofs.Bytes.{bytes-append, bytes-fixed, bytes-in-case, trimmed-in-case}
 
--- ── room as credit
+-- ── what writes use up of the room
 
 pub spent-none : {c : FormatterContext} → Spent 0 c c
 spent-none = record { level = omega arith; length = omega arith }

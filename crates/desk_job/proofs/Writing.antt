@@ -75,7 +75,7 @@ wrote-then {r} {s} {out} {end} at ps bs xs h k =
     ∙ sym (splice-past (at + length ps) bs (splice at ps xs) (omega (arith, ls, q)))
     ∙ splice-splice at ps bs xs))
 
--- a loop that writes a text byte by byte: one turn, and the end
+-- a loop that writes a text byte by byte: one pass, and the end
 pub wrote-step : {r s : ℕ} {out end : List ℕ} (at : ℕ) (xs text : List ℕ) (i : ℕ) → i < length text → Wrote r out at (take i text) xs → Wrote s end r (getD text i 0 ∷ []) out
     → Wrote s end at (take (i + 1) text) xs
 wrote-step at xs text i l h k = rw (add-one, take-suc text i 0 l) (wrote-then at (take i text) (getD text i 0 ∷ []) xs h k)

@@ -33,7 +33,7 @@ pub record Grew (n i : ℕ) (c : FormatterContext) (j : ℕ) (r : FormatterConte
   pub level : r .state .«indent_level» + i + n ≤ c .state .«indent_level» + j
   pub length : r .position .length + 2 ^ 32 * (i + n) ≤ c .position .length + 2 ^ 32 * j
 
--- a node opens at i, its children lie after it, at most so many levels deep; where `errors` is not set it has no Error node
+-- a node opens at i, the tape spells its children after it, at most so many levels deep; where `errors` is not set it has no Error node
 pub record NodeReady (source tape : List ℕ) (config : FormatConfig) (errors : Bool) (left i : ℕ) (c : FormatterContext) : Type 0 where
   pub sizes : Sizes source tape config
   pub inside : i + 11 ≤ length tape
@@ -44,7 +44,7 @@ pub record NodeReady (source tape : List ℕ) (config : FormatConfig) (errors : 
   pub low : height kids ≤ left
   pub clean : errors ≡ false → hasError (record { head = headAt tape i; kids = kids }) ≡ false
 
--- for these children, w and ys come of the calls
+-- for these children: the walk w ends after them, and with ys it is what the calls make of c and xs
 pub record WalkDone (source : Text) (config : FormatConfig) (i : ℕ) (cs : List Call) (c : FormatterContext) (xs : List ℕ) (w : Walk) (ys : List ℕ) (kids : Children) : Type 0 where
   pub at : w .at ≡ i + 11 + size kids
   pub did : _≡_ {A = Store} (w .context, ys) (run config source cs (c, xs))

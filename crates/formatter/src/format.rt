@@ -1,6 +1,35 @@
 // format_node.rs: each routine's loop over the children of its node, and the dispatch. They form one cycle of calls over the tape: with
-// each call of `node` a level less is left, and each turn of a loop moves on along the tape. Their names are short, since the proof of a
-// cycle is named after all of its members.
+// each call of `node` a level less is left, and each pass of a loop moves on along the tape. The proof of a cycle is named after all of its
+// members, and a file's name has at most 255 bytes, so the source's names are shortened:
+//
+//     format_node                                     node
+//     format_file                                     file
+//     format_query_list                               queries
+//     format_select_statement                         sel_stmt
+//     format_select_clause                            select
+//     format_simple_clause                            simple
+//     format_group_by_clause, format_order_by_clause  list_by
+//     format_limit_by_clause, format_join_clause      join
+//     format_settings_clause                          settings
+//     format_with_clause                              with
+//     format_comma_list                               comma
+//     format_inline_comma_list                        inl_list
+//     format_binary_expression                        binary
+//     format_unary_expression                         unary
+//     format_function_call                            call
+//     format_case_expression                          case
+//     format_when_clause                              when
+//     format_subquery                                 subquery
+//     format_paren_list                               paren
+//     format_bracket_list                             bracket
+//     format_brace_list                               brace
+//     format_data_type                                dtype
+//     format_inline_tight_parens                      tight_paren
+//     format_inline                                   inline
+//     format_inline_no_spaces                         no_spaces
+//     format_passthrough                              pass
+//     format_alter_command_list                       alter
+//     format_union_clause                             union
 use crate::Walk;
 use clauses::file_before;
 use clauses::file_token;

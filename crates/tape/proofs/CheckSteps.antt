@@ -179,7 +179,7 @@ module _ (len : ℕ) (tape : List ℕ) where
         → verdict (readTree len tape) ≡ Refused f p
     faulty-open z e i w = within depth p errors c z (checked-of len tape depth p e ∙ rw (← i, w))
 
-    -- the next turn
+    -- the next command
     pub next-close : (depth ≡ 0 → ⊥) → commandAt tape p ≡ closes → Checking (depth - 1) (p + 1) errors
     next-close z e =
         record { low = omega (arith, c .low); first = λ k. absurd (omega arith); later = λ _. inside depth p errors c z ∙ ap (seen errors) (go depth refl) }

@@ -9,7 +9,7 @@ use Rattle.tape.specs.Tree.{Tree}
 use Rattle.tape.specs.Tape.{Read, refused, got}
 use Rattle.tape.specs.Call.{readCall}
 
--- a call and what it is told: 0 where it is accepted, else the refusal's number and its place
+-- a call and what it is answered: 0 where it is accepted, else the refusal's number and its place
 pub record Sample : Type 0 where
   pub width : ℕ
   pub case : ℕ

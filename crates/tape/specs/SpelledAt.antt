@@ -1,4 +1,4 @@
--- Where a tree lies on a tape, and what an accepted tape gives to those that walk it.
+-- Which tree a tape spells at a place, and what an accepted tape gives to those that walk it.
 use Prim.Native.Nat.{ℕ, suc, _+_, _≤_, _<_}
 use mathlib.Core.Path.{_≡_}
 use mathlib.Core.Bool.{Bool, false}
@@ -34,7 +34,7 @@ module _ (len : ℕ) (tape : List ℕ) where
     pub byte : getD tape p 0 ≡ 3
     pub inside : p + 1 ≤ length tape
 
-  -- the children lie on the tape from p on, the close of their node with them
+  -- the tape spells the children from p on, and then the close of their node
   unfoldable pub SpelledAt : ℕ → Children → Type 0
   SpelledAt p done = CloseAt p
   SpelledAt p (token h rest) = TokenAt p h × SpelledAt (p + 11) rest
@@ -60,7 +60,7 @@ pub record AcceptedCall (width case : ℕ) (text tape : List ℕ) (errors : Bool
   pub read : readCall width case text tape ≡ got (accepted .tree) (length tape)
   pub has-error : hasError (accepted .tree) ≡ errors
 
--- a node opens at p, and its children lie after it
+-- a node opens at p, and the tape spells its children after it
 pub record NodeAt (tape : List ℕ) (p : ℕ) : Type 0 where
   pub len : ℕ
   pub kids : Children

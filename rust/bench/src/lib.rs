@@ -1,4 +1,4 @@
-//! The proved functions behind one door: those of the static libraries that `rt staticlib formatter` and `rt staticlib keywords` write.
+//! Calls of the proved functions: those of the static libraries that `rt staticlib formatter` and `rt staticlib keywords` write.
 
 pub mod compare;
 

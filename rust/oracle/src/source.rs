@@ -1,4 +1,4 @@
-//! The compiled source behind one door: its layout of a tree, its word tests and its keyword table.
+//! Calls of the compiled source: its layout of a tree, its word tests and its keyword table.
 
 use crate::tape::Node;
 

@@ -1,4 +1,4 @@
-//! Lays out a ClickHouse query, one clause to a line, from its text and its syntax tree: the safe Rust door to the proved library
+//! Lays out a ClickHouse query, one clause to a line, from its text and its syntax tree: safe Rust calls of the proved library
 //! libformatter.a.
 //!
 //! The tree comes as a *tape*, a row of commands; [`TapeBuilder`] spells one. [`measure`] says how long the layout is, [`layout`] writes

@@ -1,4 +1,4 @@
--- `check` meets its contract. The loop's invariant is `Checking`, the measure what is left of the tape; each exit and each turn is one law of `Turns`.
+-- `check` meets its contract. The loop's invariant is `Checking`, the measure what is left of the tape; each exit and each pass is one law of `CheckSteps`.
 use Prim.Native.Nat.{_-_}
 use native.Mathlib.Omega.{arith}
 use mathlib.Core.Path.{sym, _∙_}
