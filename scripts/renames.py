@@ -8,7 +8,7 @@ nothing of the project rests on it. To carry over a branch that was begun with t
 scripts/renames.py writes":
 
     git merge -s ours --no-commit RENAMED
-    git checkout RENAMED -- scripts/renames.py
+    git checkout main -- scripts/renames.py
     python3 scripts/renames.py
     rt fmt
     git add -A
