@@ -7,13 +7,9 @@ use lib.Dec.{eqb}
 use Rattle.keywords.specs.Words.{bytes, same}
 use Rattle.tape.specs.Kinds
 use Rattle.tape.specs.ReadingInputs.{Sample, command, close}
-use Rattle.layout.specs.declared.Answer.{Answer}
 use Rattle.layout.specs.Layout.{original}
-use Rattle.layout.specs.Outcome.{Outcome, outcome, measured, laidOut}
+use Rattle.layout.specs.Outcome.{Outcome, answers, outcome, measured, laidOut}
 use Rattle.layout.specs.CourseSheet.{tapeOf, treeB}
-
-abbrev pub answers : Answer → ℕ → ℕ → Bool
-answers a number value = eqb (a .number) number && eqb (a .value) value
 
 -- ── tape's rows
 

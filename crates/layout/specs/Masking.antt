@@ -51,7 +51,7 @@ quoted h = eqb (h .kind) StringToken || eqb (h .kind) QuotedIdentifier
 abbrev pub Holds : ℕ → Head → Type 0
 Holds p h = (h .start ≤ p) × (p < h .end)
 
--- strictly inside: neither the first nor the last place that it holds
+-- strictly inside: neither the first nor the last place that it holds. This layout needs only that it is not the last
 abbrev pub StrictlyInside : ℕ → Head → Type 0
 StrictlyInside p h = (h .start < p) × (suc p < h .end)
 

@@ -12,7 +12,7 @@ use Rattle.tape.specs.declared.Place.the-variants.{Nowhere, At}
 use Rattle.tape.specs.Tree.{Children, done, token, node, Tree, copied, EachToken}
 use Rattle.tape.specs.Call.{firstNonAscii}
 use Rattle.layout.specs.declared.Answer.{Answer}
-use Rattle.layout.specs.Outcome.{Outcome, measured, laidOut}
+use Rattle.layout.specs.Outcome.{Outcome, answers, measured, laidOut}
 use Rattle.layout.specs.Masking.{SomeToken, EachCopied, quoted, Holds, StrictlyInside, Differ, EndsInWhiteSpace, cellsAfter}
 
 -- ── the conditions of demand 3
@@ -96,7 +96,7 @@ holdsForLayout a b t =
 -- ── the claim's test
 
 abbrev pub sameAnswer : Answer → Answer → Bool
-sameAnswer x y = eqb (x .number) (y .number) && eqb (x .value) (y .value)
+sameAnswer x y = answers x (y .number) (y .value)
 
 abbrev pub cellLike : Text → Text → Cell → Cell → Origin → Origin → Bool
 cellLike a b x y made made = eqb (x .byte) (y .byte)

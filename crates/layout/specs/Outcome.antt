@@ -1,6 +1,6 @@
 -- The two calls: what they answer, and what the output space holds afterwards.
 use Prim.Native.Nat.{ℕ}
-use mathlib.Core.Bool.{Bool, true, false}
+use mathlib.Core.Bool.{Bool, true, false, _&&_}
 use mathlib.Core.List.{List, _++_}
 use lib.ListN.{length, drop}
 use lib.Dec.{leb, eqb}
@@ -32,6 +32,10 @@ outcome v width case text tape = ofRead (readCall width case text tape) (format 
 
 abbrev pub answer : ℕ → ℕ → Answer
 answer n v = record { number = n; value = v }
+
+-- the answer is these two numbers
+abbrev pub answers : Answer → ℕ → ℕ → Bool
+answers a n v = eqb (a .number) n && eqb (a .value) v
 
 -- measuring: the needed length
 unfoldable pub measured : Outcome → Answer

@@ -8,8 +8,8 @@ ghost use mathlib.Core.List.{_++_};
 ghost use lib.ListN.{length, getD, replicate};
 ghost use Rattle.keywords.specs.Words.{same};
 ghost use Rattle.layout.specs.Layout.{original};
-ghost use Rattle.layout.specs.Outcome.{outcome};
-ghost use Rattle.replay_list.specs.Agreement.{callsAgree, sameAnswer, measuredNumber};
+ghost use Rattle.layout.specs.Outcome.{answers, outcome};
+ghost use Rattle.replay_list.specs.Agreement.{callsAgree, measuredNumber};
 
 // The space before a call.
 fn blank(out: &mut [u8])
@@ -23,7 +23,7 @@ fn blank(out: &mut [u8])
 }
 
 fn same_answer(a: Answer, number: u64, value: u64) -> bool
-    ensures { λ r. ⌜ r ≡ sameAnswer a number value ⌝ }
+    ensures { λ r. ⌜ r ≡ answers a number value ⌝ }
 {
     if a.number == number {
         return a.value == value;
