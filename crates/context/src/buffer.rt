@@ -60,7 +60,7 @@ pub(crate) fn fill(out: &mut [u8], n: usize, b: u8)
 }
 
 // The text, from the part's start.
-pub(crate) fn copy(out: &mut [u8], text: &[u8])
+pub fn copy(out: &mut [u8], text: &[u8])
     ensures { λ _. ⌜ now (out .exit) ≡ splice 0 (now (text .entry)) (now (out .entry)) ⌝ }
 {
     let end = least(text.len(), out.len());

@@ -2,6 +2,7 @@
 // position of the lent `out`, as far as `out` goes, so that measuring is the same code over an `out` of no bytes.
 mod buffer;
 
+pub use buffer::copy;
 ghost use mathlib.Core.Path.{_≡_};
 ghost use mathlib.Core.List.{[], _∷_, _++_};
 ghost use Prim.Native.Nat.{_+_, _^_, _≤_, _<_};

@@ -1,10 +1,11 @@
 -- From the walk to the two calls.
-use mathlib.Core.Path.{_≡_, sym, ap, subst, _∙_}
+use mathlib.Core.Path.{_≡_, refl, sym, ap, subst, _∙_}
 use mathlib.Core.Bool.{Bool}
-use mathlib.Core.List.{List, _++_}
-use Prim.Native.Nat.{ℕ, _+_, _^_, _≤_, _<_}
+use mathlib.Core.List.{List, [], _∷_, _++_}
+use Prim.Native.Nat.{ℕ, zero, suc, _+_, _^_, _≤_, _<_}
 use native.Mathlib.Omega.{arith}
 use lib.ListN.{length, take, drop, set}
+use lib.Seq.{length-take-le, take-take}
 use borrow.Author.Tests.{le-leb, lt-leb}
 use Rattle.context.specs.Cells.{Cell, bytesOf, isWhiteSpace}
 use Rattle.context.specs.Trim.{trimmedLength}
@@ -13,6 +14,7 @@ use Rattle.context.specs.Context.{newState, finish}
 use Rattle.context.specs.Store.{new, advanced, Store, appended}
 use Rattle.context.specs.declared.FormatConfig.{FormatConfig}
 use Rattle.context.specs.declared.FormatterContext.{FormatterContext}
+use Rattle.context.proofs.Splicing.{splice-covers}
 use Rattle.context.proofs.Trimming.{after-none, trimmed-le}
 use Rattle.tape.specs.declared.Head.{Head}
 use Rattle.tape.specs.declared.Fault.{Fault}
@@ -32,7 +34,16 @@ use Rattle.layout.specs.Outcome.{Outcome, refusal, laid, ofRead, configOf, outc
 use Rattle.layout.proofs.Running.{after, run-appends, kept, finish-none, finish-length, finish-stored}
 use Rattle.formatter.specs.declared.Walk.{Walk}
 use Rattle.formatter.specs.RoutinePromises.{NodeReady, NodeDone}
-use Rattle.formatter.specs.Entry.{Ready, allCells, Trims, Fills, Measures, LaysOut}
+use Rattle.formatter.specs.Entry.{Ready, allCells, Trims, WalkedInto, Fills, Measures, LaysOut}
+
+-- ── lists
+
+take-splice : (k : ℕ) (bs xs : List ℕ) → k ≤ length bs → k ≤ length xs → take k (splice 0 bs xs) ≡ take k bs
+unfolding splice
+take-splice zero bs xs h l = refl
+take-splice (suc k) [] xs h l = absurd (omega arith)
+take-splice (suc k) (b ∷ bs) [] h l = absurd (omega arith)
+take-splice (suc k) (b ∷ bs) (x ∷ xs) h l = ap {B = List ℕ} (λ r. b ∷ r) (take-splice k bs xs (omega arith) (omega arith))
 
 -- ── the walk from the start
 
@@ -86,14 +97,42 @@ walked {text} {tape} {config} {errors} {c} {xs} {ys} {w} r e d t p q =
     }
 
 module _ {text tape : List ℕ} {config : FormatConfig} {errors : Bool} {c : FormatterContext} {w : Walk} (r : Ready text tape config errors) (e : c ≡ new) where
-  pub trims : {xs ys : List ℕ} → NodeDone text tape config 0 c xs w ys → Trims text tape config (w .context .position .trimmed)
-  trims d = record { short = walked r e d (r .accepted .tree) _ (r .accepted .read) .short; all = λ t p q. walked r e d t p q .trimmed }
+  pub walked-into : {xs ys : List ℕ} → NodeDone text tape config 0 c xs w ys → WalkedInto text tape config xs (w .context .position .trimmed) ys
+  walked-into d =
+      record {
+        trims = record { short = walked r e d (r .accepted .tree) _ (r .accepted .read) .short; all = λ t p q. walked r e d t p q .trimmed };
+        all = λ t p q. walked r e d t p q .bytes;
+      }
 
-  pub fills : {xs ys : List ℕ} (k : ℕ) → Trims text tape config k → 0 < k → k < length xs → NodeDone text tape config 0 c (take k xs) w ys
-      → Fills text tape config xs (set (ys ++ drop k xs) k 10)
+-- ── the layout in front of the space
+
+module _ {text tape : List ℕ} {config : FormatConfig} (k : ℕ) (n : Trims text tape config k) (z : 0 < k) {xs : List ℕ} (h : k < length xs) where
+  pub fills : {m : ℕ} {ys : List ℕ} → WalkedInto text tape config (take k xs) m ys → Fills text tape config xs (set (ys ++ drop k xs) k 10)
   unfolding format
-  fills {xs} {ys} k n z h d =
-      record { all = λ t p q. finish-stored (allCells config text t) k xs ys (n .all t p q) (λ x. omega arith) (omega arith) (walked r e d t p q .bytes) }
+  fills {m} {ys} d =
+      record { all = λ t p q. finish-stored (allCells config text t) k xs ys (n .all t p q) (λ x. omega arith) (omega arith) (d .all t p q) }
+
+  -- the first k bytes of any space of at least k bytes are the layout's
+  pub copied : {m : ℕ} {us vs ys : List ℕ} → WalkedInto text tape config us m vs → k ≤ length us → ys ≡ set (splice 0 (take k vs) (take k xs) ++ drop k xs) k 10
+      → Fills text tape config xs ys
+  unfolding format
+  copied {m} {us} {vs} {ys} d l e =
+      record {
+        all =
+            λ t p q.
+            let X = allCells config text t in
+            let bs = bytesOf X in
+            let fits : k ≤ length bs = omega (arith, n .all t p q, trimmed-le isWhiteSpace bs) in
+            let first : take k vs ≡ take k bs = ap (take k) (d .all t p q) ∙ take-splice k bs us fits l in
+            let lx = length-take-le k xs (omega arith) in
+            let lb = length-take-le k bs fits in
+            let same : splice 0 (take k vs) (take k xs) ≡ splice 0 bs (take k xs) =
+            ap (λ (s : List ℕ). splice 0 s (take k xs)) first
+            ∙ splice-covers (take k bs) (take k xs) (omega arith)
+            ∙ take-take (length (take k xs)) k bs (omega arith)
+            ∙ sym (splice-covers bs (take k xs) (omega arith)) in
+            e ∙ finish-stored X k xs (splice 0 (take k vs) (take k xs)) (n .all t p q) (λ x. omega arith) (omega arith) same;
+      }
 
 -- ── the answers where the tape is accepted
 

@@ -6,6 +6,7 @@ use Prim.Native.Nat.{ℕ, _^_, _≤_}
 use lib.ListN.{length, drop}
 use Rattle.context.specs.Cells.{Text, Cell, bytesOf, isWhiteSpace}
 use Rattle.context.specs.Trim.{trimmedLength}
+use Rattle.context.specs.Splice.{splice}
 use Rattle.context.specs.declared.FormatConfig.{FormatConfig}
 use Rattle.tape.specs.Tree.{Tree, hasError}
 use Rattle.tape.specs.Tape.{got, readTree}
@@ -29,6 +30,11 @@ allCells config text t = written (piecesOf original config text t)
 pub record Trims (text tape : List ℕ) (config : FormatConfig) (k : ℕ) : Type 0 where
   pub short : k ≤ 2 ^ 60
   pub all : (t : Tree) (p : ℕ) → readTree (length text) tape ≡ got t p → k ≡ trimmedLength isWhiteSpace (bytesOf (allCells config text t))
+
+-- a walk has trimmed length k, and took the space from xs to ys: all that is written, as far as the space goes
+pub record WalkedInto (text tape : List ℕ) (config : FormatConfig) (xs : List ℕ) (k : ℕ) (ys : List ℕ) : Type 0 where
+  pub trims : Trims text tape config k
+  pub all : (t : Tree) (p : ℕ) → readTree (length text) tape ≡ got t p → ys ≡ splice 0 (bytesOf (allCells config text t)) xs
 
 -- the layout stands in front of the space
 pub record Fills (text tape : List ℕ) (config : FormatConfig) (xs ys : List ℕ) : Type 0 where

@@ -3,6 +3,7 @@ mod format;
 
 use context::FormatConfig;
 use context::FormatterContext;
+use context::copy;
 use format::node;
 use layout::Answer;
 use tape::Checked;
@@ -10,11 +11,13 @@ use tape::check::check_call;
 use tape::check::number;
 use tape::commands::head_at;
 ghost use mathlib.Core.Path.{_≡_};
-ghost use Prim.Native.Nat.{_<_};
-ghost use lib.ListN.{length};
+ghost use mathlib.Core.List.{_++_};
+ghost use Prim.Native.Nat.{_≤_, _<_};
+ghost use lib.ListN.{drop, length, set, take};
+ghost use Rattle.context.specs.Splice.{splice};
 ghost use Rattle.layout.specs.Layout.{original};
 ghost use Rattle.layout.specs.Outcome.{Result, configOf, laidOut, measured, outcome};
-ghost use Rattle.formatter.specs.Entry.{Fills, LaysOut, Measures, Ready, Trims};
+ghost use Rattle.formatter.specs.Entry.{Fills, LaysOut, Measures, Ready, Trims, WalkedInto};
 
 // Where a walk stands after a node: the place on the tape, and the context.
 pub(crate) struct Walk {
@@ -22,19 +25,24 @@ pub(crate) struct Walk {
     pub context: FormatterContext,
 }
 
-// The trimmed length of the layout: a walk that writes nothing.
-fn trimmed_length(text: &[u8], tape: &[u8], config: FormatConfig, errors: bool) -> usize
+// The trimmed length of the layout. What is written for it goes into `space`, as far as that goes.
+fn walk_tree(
+    text: &[u8],
+    tape: &[u8],
+    config: FormatConfig,
+    errors: bool,
+    space: &mut [u8],
+) -> usize
     requires { ⌜ Ready (now text) (now tape) config errors ⌝ }
-    ensures { λ r. ⌜ Trims (now (text .entry)) (now (tape .entry)) config r ⌝ }
+    ensures { λ r. ⌜ WalkedInto (now (text .entry)) (now (tape .entry)) config (now (space .entry)) r (now (space .exit)) ⌝ }
 {
-    let mut none = [0u8; 1];
     let root = head_at(tape, 0);
     let w = node(
         text,
         tape,
         config,
         errors,
-        &mut none[..0],
+        space,
         63,
         0,
         root.kind,
@@ -45,7 +53,7 @@ fn trimmed_length(text: &[u8], tape: &[u8], config: FormatConfig, errors: bool) 
     p.trimmed
 }
 
-// Writes the k bytes that trimming leaves, and the newline after them.
+// The k bytes that trimming leaves, and the newline after them, by one more walk.
 fn write_layout(
     text: &[u8],
     tape: &[u8],
@@ -58,18 +66,16 @@ fn write_layout(
     requires { ⌜ Trims (now text) (now tape) config k × (0 < k) × (k < length (now out)) ⌝ }
     ensures { λ _. ⌜ Fills (now (text .entry)) (now (tape .entry)) config (now (out .entry)) (now (out .exit)) ⌝ }
 {
-    let root = head_at(tape, 0);
-    let w = node(
-        text,
-        tape,
-        config,
-        errors,
-        &mut out[..k],
-        63,
-        0,
-        root.kind,
-        FormatterContext::new(),
-    );
+    walk_tree(text, tape, config, errors, &mut out[..k]);
+    out[k] = 10;
+}
+
+// The same from a space that a walk has written to.
+fn copy_layout(written: &[u8], out: &mut [u8], k: usize)
+    requires { ⌜ (k ≤ length (now written)) × (k < length (now out)) ⌝ }
+    ensures { λ _. ⌜ now (out .exit) ≡ set (splice 0 (take k (now (written .entry))) (take k (now (out .entry))) ++ drop k (now (out .entry))) k 10 ⌝ }
+{
+    copy(&mut out[..k], &written[..k]);
     out[k] = 10;
 }
 
@@ -77,7 +83,8 @@ fn measure_accepted(text: &[u8], tape: &[u8], config: FormatConfig, errors: bool
     requires { ⌜ Ready (now text) (now tape) config errors ⌝ }
     ensures { λ r. ⌜ Measures (now (text .entry)) (now (tape .entry)) config r ⌝ }
 {
-    let k = trimmed_length(text, tape, config, errors);
+    let mut none = [0u8; 1];
+    let k = walk_tree(text, tape, config, errors, &mut none[..0]);
     if k == 0 {
         return Answer {
             number: 0,
@@ -90,6 +97,7 @@ fn measure_accepted(text: &[u8], tape: &[u8], config: FormatConfig, errors: bool
     }
 }
 
+// Most layouts fit into a space on the stack: one walk, and a copy once 13 is decided.
 fn layout_accepted(
     text: &[u8],
     tape: &[u8],
@@ -100,7 +108,8 @@ fn layout_accepted(
     requires { ⌜ Ready (now text) (now tape) config errors ⌝ }
     ensures { λ r. ⌜ LaysOut (now (text .entry)) (now (tape .entry)) config (now (out .entry)) r (now (out .exit)) ⌝ }
 {
-    let k = trimmed_length(text, tape, config, errors);
+    let mut space = [0u8; 4096];
+    let k = walk_tree(text, tape, config, errors, &mut space);
     if k == 0 {
         return Answer {
             number: 0,
@@ -110,6 +119,13 @@ fn layout_accepted(
     if out.len() <= k {
         return Answer {
             number: 13,
+            value: k as u64 + 1,
+        };
+    }
+    if k <= 4096 {
+        copy_layout(&space, out, k);
+        return Answer {
+            number: 0,
             value: k as u64 + 1,
         };
     }

@@ -1,48 +1,68 @@
 -- `layout_accepted` meets its contract.
 use borrow.Author.Needs.{needs}
 use native.Mathlib.Omega.{arith}
-use Rattle.formatter.proofs.Entries.{laid-done, laid-none, laid-short}
+use Rattle.formatter.proofs.Entries.{copied, laid-done, laid-none, laid-short}
 use Rattle.formatter.specs.Entry.{allCells}
 use Rattle.layout.specs.Layout.{format}
 use Rattle.formatter.proofs.layout_accepted.Statement.{statement}
 use Rattle.formatter.proofs.layout_accepted.Tie as tie
 
-trimmed-length-requires : tie.Need-trimmed-length-requires
-trimmed-length-requires c κs = search needs
+slice-aggregate-walk-tree : tie.Need-slice-aggregate-walk-tree
+slice-aggregate-walk-tree c = search needs
+
+walk-tree-requires : tie.Need-walk-tree-requires
+walk-tree-requires c κs = search needs
 
 returns : tie.Need-returns
 unfolding format
-returns c = let a = c .before .before .before .before .before .args in record { all = λ t p q. laid-none (allCells (a .config) (a .text .now) t) (c .before .trimmed-length .result) (c .before .trimmed-length .ensures .all t p q) (a .out .now) (c .if1 .taken) }
+returns c = let a = c .before .before .before .before .before .before .before .args in record { all = λ t p q. laid-none (allCells (a .config) (a .text .now) t) (c .before .before .walk-tree .result) (c .before .before .walk-tree .ensures .trims .all t p q) (a .out .now) (c .if1 .taken) }
 
-add-t10 : tie.Need-add-t10
-add-t10 c = search needs
+add-t13 : tie.Need-add-t13
+add-t13 c = search needs
 
 returns-2 : tie.Need-returns-2
 unfolding format
-returns-2 c = let a = c .before .before .before .before .before .before .args in record { all = λ t p q. laid-short (allCells (a .config) (a .text .now) t) (c .before .before .trimmed-length .result) (c .before .before .trimmed-length .ensures .all t p q) (a .out .now) (c .before .if1 .left) (c .if2 .taken) }
+returns-2 c = let a = c .before .before .before .before .before .before .before .before .args in record { all = λ t p q. laid-short (allCells (a .config) (a .text .now) t) (c .before .before .before .walk-tree .result) (c .before .before .before .walk-tree .ensures .trims .all t p q) (a .out .now) (c .before .if1 .left) (c .if2 .taken) }
 
-write-layout-requires : tie.Need-write-layout-requires
-write-layout-requires c κs = (c .before .before .before .before .before .before .before .pre, (c .before .before .before .trimmed-length .ensures, omega (arith, c .before .before .if1 .left), omega (arith, c .before .if2 .left)))
+slice-aggregate-copy-layout : tie.Need-slice-aggregate-copy-layout
+slice-aggregate-copy-layout c = search needs
 
-add-t15 : tie.Need-add-t15
-add-t15 c = search needs
+copy-layout-requires : tie.Need-copy-layout-requires
+copy-layout-requires c κs = search needs
+
+add-t20 : tie.Need-add-t20
+add-t20 c = search needs
 
 same-length : tie.Need-same-length
 same-length c = search needs
 
 returns-3 : tie.Need-returns-3
 unfolding format
-returns-3 c = let a = c .before .before .before .before .before .before .before .before .before .before .args in record { all = λ t p q. laid-done (allCells (a .config) (a .text .now) t) (c .before .before .before .before .before .before .trimmed-length .result) (c .before .before .before .before .before .before .trimmed-length .ensures .all t p q) (a .out .now) _ (c .before .before .before .before .before .if1 .left) (omega (arith, c .before .before .before .before .if2 .left)) (c .before .before .write-layout .ensures .all t p q) }
+returns-3 c =
+    let a = c .before .before .before .before .before .before .before .before .before .before .before .before .before .before .args in
+    let w = c .before .before .before .before .before .before .before .before .before .walk-tree in
+    let k = w .result in
+    let some = c .before .before .before .before .before .before .before .if1 .left in
+    let fits = c .before .before .before .before .before .before .if2 .left in
+    record { all = λ t p q. laid-done (allCells (a .config) (a .text .now) t) k (w .ensures .trims .all t p q) (a .out .now) _ some (omega arith) (copied k (w .ensures .trims) (omega arith) (omega arith) (w .ensures) (omega (arith, c .before .before .before .before .before .if3 .taken)) (c .before .before .copy-layout .ensures) .all t p q) }
+
+write-layout-requires : tie.Need-write-layout-requires
+write-layout-requires c κs = (c .before .before .before .before .before .before .before .before .before .before .pre, (c .before .before .before .before .before .walk-tree .ensures .trims, omega (arith, c .before .before .before .if1 .left), omega (arith, c .before .before .if2 .left)))
+
+add-t25 : tie.Need-add-t25
+add-t25 c = search needs
+
+same-length-2 : tie.Need-same-length-2
+same-length-2 c = search needs
+
+returns-4 : tie.Need-returns-4
+unfolding format
+returns-4 c =
+    let a = c .before .before .before .before .before .before .before .before .before .before .before .before .before .args in
+    let w = c .before .before .before .before .before .before .before .before .walk-tree in
+    record { all = λ t p q. laid-done (allCells (a .config) (a .text .now) t) (w .result) (w .ensures .trims .all t p q) (a .out .now) _ (c .before .before .before .before .before .before .if1 .left) (omega (arith, c .before .before .before .before .before .if2 .left)) (c .before .before .write-layout .ensures .all t p q) }
 
 pub layout-accepted-spec : {M : Type 1} → statement M
 layout-accepted-spec =
     tie.close
-    (tie.spec
-    trimmed-length-requires
-    returns
-    add-t10
-    returns-2
-    write-layout-requires
-    add-t15
-    same-length
-    returns-3)
+    (tie.spec slice-aggregate-walk-tree walk-tree-requires returns add-t13 returns-2 slice-aggregate-copy-layout copy-layout-requires add-t20 same-length returns-3 write-layout-requires add-t25 same-length-2 returns-4)
