@@ -36,7 +36,7 @@ positive SpanOutside = omega arith
 positive TooDeep = omega arith
 positive NotOneRoot = omega arith
 
-splice-front : (bs xs : List ℕ) → length bs ≤ length xs → bs ++ drop (length bs) xs ≡ splice 0 bs xs
+pub splice-front : (bs xs : List ℕ) → length bs ≤ length xs → bs ++ drop (length bs) xs ≡ splice 0 bs xs
 unfolding splice
 splice-front [] [] h = refl
 splice-front [] (x ∷ xs) h = refl

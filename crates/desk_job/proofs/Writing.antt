@@ -32,7 +32,7 @@ module _ {r : ℕ} {out : List ℕ} (at : ℕ) (bs xs : List ℕ) (h : Wrote r o
   unfolding written
   end-of = ap (λ (w : Written). w .end) h
 
-  space-of : out ≡ splice at bs xs
+  pub space-of : out ≡ splice at bs xs
   unfolding written
   space-of = ap (λ (w : Written). w .space) h
 

@@ -1,4 +1,4 @@
--- The space that a record expects, and from what the calls promise to the comparison. Assumes nothing.
+-- The space that a record expects, and from what the calls promise to the comparison.
 use mathlib.Core.Path.{_≡_, refl, ap, subst, _∙_}
 use mathlib.Core.Bool.{Bool, true, false, not, _&&_}
 use mathlib.Core.List.{List, [], _∷_, _++_, append-nil}
@@ -10,7 +10,7 @@ use lib.ListN.{length, getD, drop, replicate, length-append, length-replicate, g
 use Rattle.keywords.specs.Words.{same}
 use Rattle.layout.specs.declared.Answer.{Answer}
 use Rattle.layout.specs.Outcome.{Outcome, Result, measured, laidOut}
-use Rattle.replay_list.specs.Agreement.{Compared, compared, sameAnswer, sameResult, measuredNumber}
+use Rattle.replay_list.specs.Agreement.{agreed, sameAnswer, sameResult, measuredNumber}
 
 -- the layout, and 255 up to so many bytes
 abbrev pub expected : List ℕ → ℕ → List ℕ
@@ -50,35 +50,32 @@ filled-all i xs out h k e =
 -- the three ways through the comparison: m, a and `after` are what the calls answered and left, n is the number that measuring is to answer
 module _ (o : Outcome) (number value : ℕ) (layout : List ℕ) (room : ℕ) (m a : Answer) (start after : List ℕ) (n : ℕ)
     (hb : start ≡ replicate room 255) (hm : m ≡ measured o) (hl : _≡_ {A = Result} (record { answer = a; space = after }) (laidOut o start)) (hn : n ≡ measuredNumber number) where
-  abbrev Told : Bool → Type 0
-  Told r = _≡_ {A = Compared} (record { agreed = r; space = after }) (compared o number value layout room)
-
   laid-in-blank : _≡_ {A = Result} (record { answer = a; space = after }) (laidOut o (replicate room 255))
   laid-in-blank = subst (λ (s : List ℕ). _≡_ {A = Result} (record { answer = a; space = after }) (laidOut o s)) hb hl
 
-  comparison : (r : Bool) → r ≡ (sameAnswer m n value && sameResult (record { answer = a; space = after }) number value layout) → Told r
-  unfolding compared
+  comparison : (r : Bool) → r ≡ (sameAnswer m n value && sameResult (record { answer = a; space = after }) number value layout) → r ≡ agreed o number value layout room
+  unfolding agreed
   comparison r h =
-      subst (λ (x : Result). _≡_ {A = Compared} (record { agreed = r; space = after }) (record { agreed = sameAnswer (measured o) (measuredNumber number) value && sameResult x number value layout; space = x .space })) laid-in-blank
-      (subst (λ (x : Answer). _≡_ {A = Compared} (record { agreed = r; space = after }) (record { agreed = sameAnswer x (measuredNumber number) value && sameResult (record { answer = a; space = after }) number value layout; space = after })) hm
-      (subst (λ (k : ℕ). _≡_ {A = Compared} (record { agreed = r; space = after }) (record { agreed = sameAnswer m k value && sameResult (record { answer = a; space = after }) number value layout; space = after })) hn
-      (ap (λ (b : Bool). record { agreed = b; space = after }) h)))
+      h
+      ∙ ap (λ (k : ℕ). sameAnswer m k value && sameResult (record { answer = a; space = after }) number value layout) hn
+      ∙ ap (λ (x : Answer). sameAnswer x (measuredNumber number) value && sameResult (record { answer = a; space = after }) number value layout) hm
+      ∙ ap (λ (x : Result). sameAnswer (measured o) (measuredNumber number) value && sameResult x number value layout) laid-in-blank
 
-  by-parts : (r p q s : Bool) → p ≡ sameAnswer m n value → q ≡ sameAnswer a number value → s ≡ same after (expected layout (length after)) → r ≡ (p && (q && s)) → Told r
+  by-parts : (r p q s : Bool) → p ≡ sameAnswer m n value → q ≡ sameAnswer a number value → s ≡ same after (expected layout (length after)) → r ≡ (p && (q && s)) → r ≡ agreed o number value layout room
   by-parts r p q s hp hq hs h =
       comparison r (h ∙ ap (λ (x : Bool). x && (q && s)) hp ∙ ap (λ (x : Bool). sameAnswer m n value && (x && s)) hq ∙ ap (λ (x : Bool). sameAnswer m n value && (sameAnswer a number value && x)) hs)
 
   module _ (p : Bool) (hp : p ≡ sameAnswer m n value) where
-    pub differs-measured : not p ≡ true → Told false
+    pub differs-measured : not p ≡ true → false ≡ agreed o number value layout room
     differs-measured t =
         by-parts false p (sameAnswer a number value) (same after (expected layout (length after))) hp refl refl
         (rw (not-true p t))
 
     module _ (tp : not p ≡ false) (q : Bool) (hq : q ≡ sameAnswer a number value) where
-      pub differs-laid : not q ≡ true → Told false
+      pub differs-laid : not q ≡ true → false ≡ agreed o number value layout room
       differs-laid t =
           by-parts false p q (same after (expected layout (length after))) hp hq refl
           (rw (not-false p tp, not-true q t))
 
-      pub compares-space : not q ≡ false → (s : Bool) → s ≡ same after (expected layout (length after)) → Told s
+      pub compares-space : not q ≡ false → (s : Bool) → s ≡ same after (expected layout (length after)) → s ≡ agreed o number value layout room
       compares-space t s hs = by-parts s p q s hp hq hs (rw (not-false p tp, not-false q t))

@@ -1,3 +1,4 @@
 -- The laws that the functions' proofs cite.
 pub mod Limits
 pub mod Agreeing
+pub mod Replaying

@@ -1,4 +1,4 @@
--- When the two calls agree with a record. Assumes nothing.
+-- When the two calls agree with a record.
 use Prim.Native.Nat.{ℕ, _-_}
 use mathlib.Core.Bool.{Bool, cond, _&&_}
 use mathlib.Core.List.{List, _++_}
@@ -20,15 +20,7 @@ abbrev pub sameResult : Result → ℕ → ℕ → List ℕ → Bool
 sameResult r number value layout =
     sameAnswer (r .answer) number value && same (r .space) (layout ++ replicate (length (r .space) - length layout) 255)
 
--- whether both calls agree with the record, and the space afterwards
-pub record Compared : Type 0 where
-  pub agreed : Bool
-  pub space : List ℕ
-
-unfoldable pub compared : Outcome → ℕ → ℕ → List ℕ → ℕ → Compared
-compared o number value layout room =
-    let r : Result = laidOut o (replicate room 255) in
-    record {
-      agreed = sameAnswer (measured o) (measuredNumber number) value && sameResult r number value layout;
-      space = r .space;
-    }
+-- both calls agree, laying out in a space of so many bytes
+unfoldable pub agreed : Outcome → ℕ → ℕ → List ℕ → ℕ → Bool
+agreed o number value layout room =
+    sameAnswer (measured o) (measuredNumber number) value && sameResult (laidOut o (replicate room 255)) number value layout

@@ -1,16 +1,16 @@
-// A stored list of calls: what a record's head says, whether the two calls agree with the record, and the line that is printed.
+// A stored list of calls, replayed: both calls of each record are made and compared with the record, and the line is put that says how it went.
 mod agree;
 mod line;
 mod record;
+mod replay;
 
-pub use agree::agrees;
-pub use line::print_bad;
-pub use line::print_end;
-pub use record::fits;
-pub use record::layout_length;
-pub use record::longest_after;
-pub use record::number;
-pub use record::read_head;
+use line::print_bad;
+use line::print_end;
+use replay::replay_list;
+ghost use mathlib.Core.Path.{_≡_};
+ghost use Rattle.desk_job.specs.Written.{Written, written};
+ghost use Rattle.replay_list.specs.Replay.{replayed};
+ghost use Rattle.replay_list.specs.Line.{replayedLine};
 
 // A text or a tape: how many of its bytes are stored, and how many zeros stand after them.
 pub struct Run {
@@ -19,7 +19,7 @@ pub struct Run {
 }
 
 // The nine numbers of a record: the call, the length of its output space, and its answer.
-pub struct Head {
+pub struct RecordHead {
     pub width: u64,
     pub case: u64,
     pub text: Run,
@@ -29,8 +29,33 @@ pub struct Head {
     pub value: u64,
 }
 
-// The greatest stored lengths so far: from there on the reader's buffers still hold zeros.
-pub struct Longest {
-    pub text: u64,
-    pub tape: u64,
+// What a record comes to: it is cut or breaks a limit; or whether both calls agree with it, and where it ends.
+pub enum Verdict {
+    Broken,
+    Compared(bool, usize),
+}
+
+// So many records, so many of which differ, and the number of the first of these, or 0.
+pub struct Tally {
+    pub records: u64,
+    pub differ: u64,
+    pub first: u64,
+}
+
+// What a list comes to: bad at a record, or all of its records compared.
+pub enum Replayed {
+    Bad(u64),
+    Whole(Tally),
+}
+
+// Puts the line that is printed for the list into `out`, as far as that goes, and answers how many bytes it has put.
+// `more`: whether the input goes on after the list's bytes.
+pub fn print_replayed(list: &[u8], more: bool, out: &mut [u8]) -> usize
+    ensures { λ r. ⌜ _≡_ {A = Written} (record { end = r; space = now (out .exit) }) (written 0 (replayedLine (replayed more (now (list .entry)))) (now (out .entry))) ⌝ }
+{
+    let result = replay_list(list, more);
+    match result {
+        Replayed::Bad(at) => print_bad(at, out),
+        Replayed::Whole(tally) => print_end(tally.records, tally.differ, tally.first, out),
+    }
 }

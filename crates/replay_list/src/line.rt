@@ -5,8 +5,8 @@ ghost use mathlib.Core.Path.{_≡_};
 ghost use Rattle.desk_job.specs.Written.{Written, written};
 ghost use Rattle.replay_list.specs.Line.{badLine, endLine};
 
-// The list is cut or breaks a promise at a record.
-pub fn print_bad(at: u64, out: &mut [u8]) -> usize
+// The list is bad at a record.
+pub(crate) fn print_bad(at: u64, out: &mut [u8]) -> usize
     ensures { λ r. ⌜ _≡_ {A = Written} (record { end = r; space = now (out .exit) }) (written 0 (badLine at) (now (out .entry))) ⌝ }
 {
     let a = put_all(out, 0, b"bad list at record ");
@@ -15,7 +15,7 @@ pub fn print_bad(at: u64, out: &mut [u8]) -> usize
 }
 
 // The first record that differs is named where there is one.
-pub fn print_end(count: u64, differ: u64, first: u64, out: &mut [u8]) -> usize
+pub(crate) fn print_end(count: u64, differ: u64, first: u64, out: &mut [u8]) -> usize
     ensures { λ r. ⌜ _≡_ {A = Written} (record { end = r; space = now (out .exit) }) (written 0 (endLine count differ first) (now (out .entry))) ⌝ }
 {
     let a = put_decimal(out, 0, 20, count);

@@ -1,39 +1,18 @@
 // A record's nine numbers, and whether they keep to the limits that the list promises.
-use crate::Head;
-use crate::Longest;
+use crate::RecordHead;
 use crate::Run;
+use tape::commands::u32_at;
 ghost use mathlib.Core.Path.{_≡_};
-ghost use Prim.Native.Nat.{_+_, _≤_, max};
+ghost use mathlib.Core.Bool.{true};
+ghost use Prim.Native.Nat.{_+_, _≤_};
 ghost use lib.ListN.{length};
-ghost use Rattle.tape.specs.Tape.{u16At, u32At};
-ghost use Rattle.replay_list.specs.Record.{numberAt, runAt, headOf, runFits, fitting, layoutLength, longestAfter};
+ghost use Rattle.replay_list.specs.Record.{numberAt, runAt, headOf, runFits, fitting, layoutLength, tapeStart, layoutStart, recordEnd};
 
-fn u16_at(bytes: &[u8], at: usize) -> u16
-    requires { ⌜ at + 2 ≤ length (now bytes) ⌝ }
-    ensures { λ r. ⌜ r ≡ u16At (now (bytes .entry)) at ⌝ }
-{
-    bytes[at] as u16 + 256 * (bytes[at + 1] as u16)
-}
-
-fn u32_at(bytes: &[u8], at: usize) -> u32
-    requires { ⌜ at + 4 ≤ length (now bytes) ⌝ }
-    ensures { λ r. ⌜ r ≡ u32At (now (bytes .entry)) at ⌝ }
-{
-    u16_at(bytes, at) as u32 + 65536 * (u16_at(bytes, at + 2) as u32)
-}
-
-fn u64_at(bytes: &[u8], at: usize) -> u64
+pub(crate) fn u64_at(bytes: &[u8], at: usize) -> u64
     requires { ⌜ at + 8 ≤ length (now bytes) ⌝ }
     ensures { λ r. ⌜ r ≡ numberAt (now (bytes .entry)) at ⌝ }
 {
     u32_at(bytes, at) as u64 + 4294967296 * (u32_at(bytes, at + 4) as u64)
-}
-
-// A number of the list.
-pub fn number(bytes: &[u8; 8]) -> u64
-    ensures { λ r. ⌜ r ≡ numberAt (now (bytes .entry)) 0 ⌝ }
-{
-    u64_at(bytes, 0)
 }
 
 fn run_at(bytes: &[u8], at: usize) -> Run
@@ -46,10 +25,11 @@ fn run_at(bytes: &[u8], at: usize) -> Run
     }
 }
 
-pub fn read_head(bytes: &[u8; 72]) -> Head
+pub(crate) fn read_head(bytes: &[u8]) -> RecordHead
+    requires { ⌜ 72 ≤ length (now bytes) ⌝ }
     ensures { λ r. ⌜ r ≡ headOf (now (bytes .entry)) ⌝ }
 {
-    Head {
+    RecordHead {
         width: u64_at(bytes, 0),
         case: u64_at(bytes, 8),
         text: run_at(bytes, 16),
@@ -60,8 +40,8 @@ pub fn read_head(bytes: &[u8; 72]) -> Head
     }
 }
 
-fn run_fits(run: Run, longest: u64) -> bool
-    ensures { λ r. ⌜ r ≡ runFits run longest ⌝ }
+fn run_fits(run: Run) -> bool
+    ensures { λ r. ⌜ r ≡ runFits run ⌝ }
 {
     if 4096 < run.stored {
         return false;
@@ -69,14 +49,19 @@ fn run_fits(run: Run, longest: u64) -> bool
     if 262145 - run.stored < run.zeros {
         return false;
     }
-    if run.zeros == 0 {
-        return true;
-    }
-    longest <= run.stored
+    true
+}
+
+// The length of a run that fits, with its zeros.
+pub(crate) fn run_length(run: Run) -> usize
+    requires { ⌜ runFits run ≡ true ⌝ }
+    ensures { λ r. ⌜ r ≡ run .stored + run .zeros ⌝ }
+{
+    (run.stored + run.zeros) as usize
 }
 
 // How many bytes of layout are stored.
-pub fn layout_length(head: Head) -> u64
+fn layout_length(head: RecordHead) -> u64
     ensures { λ r. ⌜ r ≡ layoutLength head ⌝ }
 {
     if head.number == 0 {
@@ -85,14 +70,14 @@ pub fn layout_length(head: Head) -> u64
     0
 }
 
-// Whether a reader's buffers can take the record.
-pub fn fits(head: Head, longest: Longest) -> bool
-    ensures { λ r. ⌜ r ≡ fitting head longest ⌝ }
+// Whether the record keeps to the limits.
+pub(crate) fn fits(head: RecordHead) -> bool
+    ensures { λ r. ⌜ r ≡ fitting head ⌝ }
 {
-    if !run_fits(head.text, longest.text) {
+    if !run_fits(head.text) {
         return false;
     }
-    if !run_fits(head.tape, longest.tape) {
+    if !run_fits(head.tape) {
         return false;
     }
     if 4096 < head.space {
@@ -101,22 +86,26 @@ pub fn fits(head: Head, longest: Longest) -> bool
     layout_length(head) <= head.space
 }
 
-fn greater(a: u64, b: u64) -> u64
-    ensures { λ r. ⌜ r ≡ max a b ⌝ }
-{
-    if a < b {
-        return b;
-    }
-    a
-}
-
-pub fn longest_after(longest: Longest, head: Head) -> Longest
-    ensures { λ r. ⌜ r ≡ longestAfter longest head ⌝ }
+// Where the runs of a record within the limits begin, and where it ends.
+pub(crate) fn tape_start(head: RecordHead) -> usize
+    requires { ⌜ fitting head ≡ true ⌝ }
+    ensures { λ r. ⌜ r ≡ tapeStart head ⌝ }
 {
     let text = head.text;
+    72 + text.stored as usize
+}
+
+pub(crate) fn layout_start(head: RecordHead) -> usize
+    requires { ⌜ fitting head ≡ true ⌝ }
+    ensures { λ r. ⌜ r ≡ layoutStart head ⌝ }
+{
     let tape = head.tape;
-    Longest {
-        text: greater(longest.text, text.stored),
-        tape: greater(longest.tape, tape.stored),
-    }
+    tape_start(head) + tape.stored as usize
+}
+
+pub(crate) fn record_end(head: RecordHead) -> usize
+    requires { ⌜ fitting head ≡ true ⌝ }
+    ensures { λ r. ⌜ r ≡ recordEnd head ⌝ }
+{
+    layout_start(head) + layout_length(head) as usize
 }

@@ -1,82 +1,62 @@
--- `main` meets its contract: the buffers have the lengths that `replay` asks for, and the line lies within its space. Assumes nothing.
+-- `main` meets its contract: what `print_replayed` answers lies within the line's buffer.
+use borrow.Author.Needs.{needs}
 use mathlib.Core.Path.{sym}
 use Prim.Native.Nat.{ℕ}
 use lib.ListN.{length-replicate}
 use lib.Seq.{length-take-le}
 use Rattle.desk_job.proofs.Writing.{within}
-use borrow.Author.Needs.{needs}
 use Rattle.replay.proofs.main.Statement.{statement}
 use Rattle.replay.proofs.main.Tie as tie
 
-slice-aggregate-read : tie.Need-slice-aggregate-read
-slice-aggregate-read c = search needs
+slice-aggregate-read-full : tie.Need-slice-aggregate-read-full
+slice-aggregate-read-full c = sym (length-replicate {A = ℕ} 1048576 0)
 
-read-requires : tie.Need-read-requires
-read-requires c κs = search needs
+read-full-requires : tie.Need-read-full-requires
+read-full-requires c κs = tt
 
-slice-aggregate-replay : tie.Need-slice-aggregate-replay
-slice-aggregate-replay c = search needs
+slice-aggregate-read-full-2 : tie.Need-slice-aggregate-read-full-2
+slice-aggregate-read-full-2 c = search needs
 
-slice-aggregate-replay-2 : tie.Need-slice-aggregate-replay-2
-slice-aggregate-replay-2 c = search needs
+read-full-requires-2 : tie.Need-read-full-requires-2
+read-full-requires-2 c κs = tt
 
-number-requires : tie.Need-number-requires
-number-requires c κs = tt
+array-share-prefix-list : tie.Need-array-share-prefix-list
+array-share-prefix-list c = c .before .before .before .before .read-full .ensures .0
 
-slice-aggregate-replay-3 : tie.Need-slice-aggregate-replay-3
-slice-aggregate-replay-3 c = search needs
+slice-aggregate-print-replayed : tie.Need-slice-aggregate-print-replayed
+slice-aggregate-print-replayed c = c .before .before .before .before .before .read-full .ensures .1
 
-replay-requires : tie.Need-replay-requires
-replay-requires c κs = (length-replicate {A = ℕ} 262145 0, length-replicate {A = ℕ} 262145 0)
+slice-aggregate-print-replayed-2 : tie.Need-slice-aggregate-print-replayed-2
+slice-aggregate-print-replayed-2 c = search needs
+
+print-replayed-requires : tie.Need-print-replayed-requires
+print-replayed-requires c κs = tt
 
 array-share-prefix-line : tie.Need-array-share-prefix-line
-array-share-prefix-line c = c .before .before .before .replay .ensures
+array-share-prefix-line c = within _ _ _ (c .before .print-replayed .ensures)
 
 slice-aggregate-write-all : tie.Need-slice-aggregate-write-all
-slice-aggregate-write-all c = sym (length-take-le (c .before .before .before .before .replay .result) (c .before .before .before .before .replay .last .1 .1 .1 .0) (c .before .before .before .before .replay .ensures))
+slice-aggregate-write-all c = sym (length-take-le _ _ (within _ _ _ (c .before .before .print-replayed .ensures)))
 
 write-all-requires : tie.Need-write-all-requires
 write-all-requires c κs = tt
 
-slice-aggregate-print-bad : tie.Need-slice-aggregate-print-bad
-slice-aggregate-print-bad c = search needs
-
-print-bad-requires : tie.Need-print-bad-requires
-print-bad-requires c κs = tt
-
-array-share-prefix-line-2 : tie.Need-array-share-prefix-line-2
-array-share-prefix-line-2 c = within _ _ _ (c .before .print-bad .ensures)
-
-slice-aggregate-write-all-2 : tie.Need-slice-aggregate-write-all-2
-slice-aggregate-write-all-2 c = sym (length-take-le (c .before .before .print-bad .result) (c .before .before .print-bad .last .1 .0) (within _ _ _ (c .before .before .print-bad .ensures)))
-
-write-all-requires-2 : tie.Need-write-all-requires-2
-write-all-requires-2 c κs = tt
-
 returns : tie.Need-returns
 returns c = tt
-
-returns-2 : tie.Need-returns-2
-returns-2 c = tt
 
 pub main-spec : {M : Type 1} → statement M
 main-spec =
     tie.close
     (tie.spec
-    slice-aggregate-read
-    read-requires
-    slice-aggregate-replay
-    slice-aggregate-replay-2
-    number-requires
-    slice-aggregate-replay-3
-    replay-requires
+    slice-aggregate-read-full
+    read-full-requires
+    slice-aggregate-read-full-2
+    read-full-requires-2
+    array-share-prefix-list
+    slice-aggregate-print-replayed
+    slice-aggregate-print-replayed-2
+    print-replayed-requires
     array-share-prefix-line
     slice-aggregate-write-all
     write-all-requires
-    slice-aggregate-print-bad
-    print-bad-requires
-    array-share-prefix-line-2
-    slice-aggregate-write-all-2
-    write-all-requires-2
-    returns
-    returns-2)
+    returns)

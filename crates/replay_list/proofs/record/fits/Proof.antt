@@ -1,7 +1,8 @@
 -- `fits` meets its contract: its tests are those of the definition. Assumes nothing.
-use borrow.Author.Tests.{le-leb, lt-leb}
+use borrow.Author.Tests.{lt-leb}
 use Rattle.desk_job.proofs.Reading.{told-false, told-true}
 use Rattle.replay_list.specs.Record.{fitting}
+use Rattle.replay_list.proofs.Limits.{layout-left}
 use borrow.Author.Needs.{needs}
 use Rattle.replay_list.proofs.record.fits.Statement.{statement}
 use Rattle.replay_list.proofs.record.fits.Tie as tie
@@ -28,8 +29,7 @@ layout-length-requires : tie.Need-layout-length-requires
 layout-length-requires c κs = search needs
 
 returns-4 : tie.Need-returns-4
-unfolding fitting
-returns-4 c = simp (told-true (c .before .before .before .before .before .before .before .run-fits .ensures) (c .before .before .before .before .before .before .if1 .left), told-true (c .before .before .before .before .before .run-fits2 .ensures) (c .before .before .before .before .if2 .left), le-leb _ _ (c .before .before .if3 .left), c .before .layout-length .ensures)
+returns-4 c = layout-left (c .before .before .before .before .before .before .before .before .args .head) _ (told-true (c .before .before .before .before .before .before .before .run-fits .ensures) (c .before .before .before .before .before .before .if1 .left)) (told-true (c .before .before .before .before .before .run-fits2 .ensures) (c .before .before .before .before .if2 .left)) (c .before .before .if3 .left) (c .before .layout-length .ensures)
 
 pub fits-spec : {M : Type 1} → statement M
 fits-spec =

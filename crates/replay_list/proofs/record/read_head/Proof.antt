@@ -27,7 +27,7 @@ u64-at-requires-5 c κs = search needs
 
 returns : tie.Need-returns
 unfolding headOf
-returns c = simp (c .before .before .before .before .before .before .before .before .before .before .before .before .u64-at .ensures, c .before .before .before .before .before .before .before .before .before .before .u64-at2 .ensures, c .before .before .before .before .before .before .before .before .run-at .ensures, c .before .before .before .before .before .before .run-at2 .ensures, c .before .before .before .before .u64-at3 .ensures, c .before .before .u64-at4 .ensures, c .u64-at5 .ensures)
+returns c = simp (c .before .before .before .before .before .before .u64-at .ensures, c .before .before .before .before .before .u64-at2 .ensures, c .before .before .before .before .run-at .ensures, c .before .before .before .run-at2 .ensures, c .before .before .u64-at3 .ensures, c .before .u64-at4 .ensures, c .u64-at5 .ensures)
 
 pub read-head-spec : {M : Type 1} → statement M
 read-head-spec =

@@ -1,10 +1,9 @@
--- `run_fits` meets its contract: its tests are those of the definition, with no sum that wraps. Assumes nothing.
+-- `run_fits` meets its contract: its tests are those of the definition, with no sum that wraps.
 use Prim.Native.Nat.{_+_, _<_, _≤_}
 use native.Mathlib.Omega.{arith}
 use borrow.Author.Needs.{needs}
-use borrow.Author.Tests.{le-leb, lt-leb, eq-eqb}
+use borrow.Author.Tests.{le-leb, lt-leb}
 use Rattle.replay_list.specs.Record.{runFits}
-use Rattle.replay_list.proofs.Limits.{zeros-left}
 use Rattle.replay_list.proofs.record.run_fits.Statement.{statement}
 use Rattle.replay_list.proofs.record.run_fits.Tie as tie
 
@@ -25,15 +24,9 @@ returns-2 c =
 returns-3 : tie.Need-returns-3
 unfolding runFits
 returns-3 c =
-    let run = c .before .before .before .before .before .before .before .args .run in
+    let run = c .before .before .before .before .before .args .run in
     let under : run .stored + run .zeros ≤ 262145 = omega arith in
-    simp (le-leb _ _ (c .before .before .before .before .before .if1 .left), le-leb _ _ under, eq-eqb _ _ (c .if3 .taken))
-
-returns-4 : tie.Need-returns-4
-returns-4 c =
-    let a = c .before .before .before .before .before .before .before .before .args in
-    let under : a .run .stored + a .run .zeros ≤ 262145 = omega arith in
-    zeros-left (a .run) (a .longest) (c .before .before .before .before .before .before .if1 .left) under (c .before .if3 .left)
+    simp (le-leb _ _ (c .before .before .before .if1 .left), le-leb _ _ under)
 
 pub run-fits-spec : {M : Type 1} → statement M
-run-fits-spec = tie.close (tie.spec returns sub-if2 returns-2 returns-3 returns-4)
+run-fits-spec = tie.close (tie.spec returns sub-if2 returns-2 returns-3)
