@@ -10,7 +10,7 @@ use lib.ListN.{length, getD, drop, replicate, length-append, length-replicate, g
 use Rattle.keywords.specs.Words.{same}
 use Rattle.layout.specs.declared.Answer.{Answer}
 use Rattle.layout.specs.Outcome.{Outcome, Result, measured, laidOut}
-use Rattle.replay_list.specs.Agreement.{agreed, sameAnswer, sameResult, measuredNumber}
+use Rattle.replay_list.specs.Agreement.{callsAgree, sameAnswer, sameResult, measuredNumber}
 
 -- the layout, and 255 up to so many bytes
 abbrev pub expected : List ℕ → ℕ → List ℕ
@@ -53,29 +53,29 @@ module _ (o : Outcome) (number value : ℕ) (layout : List ℕ) (room : ℕ) (m 
   laid-in-blank : _≡_ {A = Result} (record { answer = a; space = after }) (laidOut o (replicate room 255))
   laid-in-blank = subst (λ (s : List ℕ). _≡_ {A = Result} (record { answer = a; space = after }) (laidOut o s)) hb hl
 
-  comparison : (r : Bool) → r ≡ (sameAnswer m n value && sameResult (record { answer = a; space = after }) number value layout) → r ≡ agreed o number value layout room
-  unfolding agreed
+  comparison : (r : Bool) → r ≡ (sameAnswer m n value && sameResult (record { answer = a; space = after }) number value layout) → r ≡ callsAgree o number value layout room
+  unfolding callsAgree
   comparison r h =
       h
       ∙ ap (λ (k : ℕ). sameAnswer m k value && sameResult (record { answer = a; space = after }) number value layout) hn
       ∙ ap (λ (x : Answer). sameAnswer x (measuredNumber number) value && sameResult (record { answer = a; space = after }) number value layout) hm
       ∙ ap (λ (x : Result). sameAnswer (measured o) (measuredNumber number) value && sameResult x number value layout) laid-in-blank
 
-  by-parts : (r p q s : Bool) → p ≡ sameAnswer m n value → q ≡ sameAnswer a number value → s ≡ same after (expected layout (length after)) → r ≡ (p && (q && s)) → r ≡ agreed o number value layout room
+  by-parts : (r p q s : Bool) → p ≡ sameAnswer m n value → q ≡ sameAnswer a number value → s ≡ same after (expected layout (length after)) → r ≡ (p && (q && s)) → r ≡ callsAgree o number value layout room
   by-parts r p q s hp hq hs h =
       comparison r (h ∙ ap (λ (x : Bool). x && (q && s)) hp ∙ ap (λ (x : Bool). sameAnswer m n value && (x && s)) hq ∙ ap (λ (x : Bool). sameAnswer m n value && (sameAnswer a number value && x)) hs)
 
   module _ (p : Bool) (hp : p ≡ sameAnswer m n value) where
-    pub differs-measured : not p ≡ true → false ≡ agreed o number value layout room
+    pub differs-measured : not p ≡ true → false ≡ callsAgree o number value layout room
     differs-measured t =
         by-parts false p (sameAnswer a number value) (same after (expected layout (length after))) hp refl refl
         (rw (not-true p t))
 
     module _ (tp : not p ≡ false) (q : Bool) (hq : q ≡ sameAnswer a number value) where
-      pub differs-laid : not q ≡ true → false ≡ agreed o number value layout room
+      pub differs-laid : not q ≡ true → false ≡ callsAgree o number value layout room
       differs-laid t =
           by-parts false p q (same after (expected layout (length after))) hp hq refl
           (rw (not-false p tp, not-true q t))
 
-      pub compares-space : not q ≡ false → (s : Bool) → s ≡ same after (expected layout (length after)) → s ≡ agreed o number value layout room
+      pub compares-space : not q ≡ false → (s : Bool) → s ≡ same after (expected layout (length after)) → s ≡ callsAgree o number value layout room
       compares-space t s hs = by-parts s p q s hp hq hs (rw (not-false p tp, not-false q t))

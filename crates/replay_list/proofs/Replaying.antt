@@ -21,8 +21,8 @@ use Rattle.replay_list.specs.declared.Tally.{Tally}
 use Rattle.replay_list.specs.declared.Replayed.{Replayed}
 use Rattle.replay_list.specs.declared.Replayed.the-variants.{Bad, Whole}
 use Rattle.replay_list.specs.Record.{numberAt, headOf, fitting, recordEnd, between, textOf, tapeOf, layoutOf}
-use Rattle.replay_list.specs.Agreement.{agreed}
-use Rattle.replay_list.specs.Replay.{agreeing, verdictOn, verdict, counted, afterRecord, replayedFrom, none, replayed}
+use Rattle.replay_list.specs.Agreement.{callsAgree}
+use Rattle.replay_list.specs.Replay.{recordAgrees, verdictOn, verdict, counted, afterRecord, replayedFrom, noRecords, replayed}
 
 -- ── a run that is copied into zeros
 
@@ -66,15 +66,15 @@ run-copied {r} {out} bytes zeros room n a s b e p q l m h w =
     ∙ ap (λ (x : List ℕ). x ++ replicate zeros 0) (between-same bytes a s b e p q)
 
 -- the two calls of a record, by the parts that they were given
-pub agreeing-of : {r : Bool} {text tape layout : List ℕ} {room : ℕ} (bytes : List ℕ) (head : RecordHead) → text ≡ textOf bytes head → tape ≡ tapeOf bytes head → layout ≡ layoutOf bytes head → room ≡ head .space
-    → r ≡ agreed (outcome original (head .width) (head .case) text tape) (head .number) (head .value) layout room → r ≡ agreeing bytes head
-unfolding agreeing
-agreeing-of {r} {text} {tape} {layout} {room} bytes head e f g k h =
+pub record-agrees-of : {r : Bool} {text tape layout : List ℕ} {room : ℕ} (bytes : List ℕ) (head : RecordHead) → text ≡ textOf bytes head → tape ≡ tapeOf bytes head → layout ≡ layoutOf bytes head → room ≡ head .space
+    → r ≡ callsAgree (outcome original (head .width) (head .case) text tape) (head .number) (head .value) layout room → r ≡ recordAgrees bytes head
+unfolding recordAgrees
+record-agrees-of {r} {text} {tape} {layout} {room} bytes head e f g k h =
     h
-    ∙ ap (λ (t : List ℕ). agreed (outcome original (head .width) (head .case) t tape) (head .number) (head .value) layout room) e
-    ∙ ap (λ (t : List ℕ). agreed (outcome original (head .width) (head .case) (textOf bytes head) t) (head .number) (head .value) layout room) f
-    ∙ ap (λ (l : List ℕ). agreed (outcome original (head .width) (head .case) (textOf bytes head) (tapeOf bytes head)) (head .number) (head .value) l room) g
-    ∙ ap (λ (n : ℕ). agreed (outcome original (head .width) (head .case) (textOf bytes head) (tapeOf bytes head)) (head .number) (head .value) (layoutOf bytes head) n) k
+    ∙ ap (λ (t : List ℕ). callsAgree (outcome original (head .width) (head .case) t tape) (head .number) (head .value) layout room) e
+    ∙ ap (λ (t : List ℕ). callsAgree (outcome original (head .width) (head .case) (textOf bytes head) t) (head .number) (head .value) layout room) f
+    ∙ ap (λ (l : List ℕ). callsAgree (outcome original (head .width) (head .case) (textOf bytes head) (tapeOf bytes head)) (head .number) (head .value) l room) g
+    ∙ ap (λ (n : ℕ). callsAgree (outcome original (head .width) (head .case) (textOf bytes head) (tapeOf bytes head)) (head .number) (head .value) (layoutOf bytes head) n) k
 
 -- ── what a record comes to
 
@@ -101,7 +101,7 @@ module _ (bytes : List ℕ) where
         cut : Broken ≡ verdictOn bytes head
         cut = rw (f, lt-leb (recordEnd head) (length bytes) (rw k at l))
 
-      pub record-compared : (end : ℕ) → end ≡ recordEnd head → end ≤ length bytes → (r : Bool) → r ≡ agreeing bytes head → Compared r end ≡ verdict bytes
+      pub record-compared : (end : ℕ) → end ≡ recordEnd head → end ≤ length bytes → (r : Bool) → r ≡ recordAgrees bytes head → Compared r end ≡ verdict bytes
       unfolding verdictOn
       record-compared end k l r a = all ∙ of-head where
         all : Compared r end ≡ verdictOn bytes head
@@ -119,7 +119,7 @@ verdict-end : (bytes : List ℕ) → endOf (verdict bytes) ≤ length bytes
 unfolding verdict verdictOn
 verdict-end bytes =
     let head = headOf bytes in
-    end-if (leb 72 (length bytes)) _ (length bytes) (λ _. end-if (fitting head && leb (recordEnd head) (length bytes)) (Compared (agreeing bytes head) (recordEnd head)) (length bytes) (λ b. leb-true (recordEnd head) (length bytes) (and-true (fitting head) _ b .1)))
+    end-if (leb 72 (length bytes)) _ (length bytes) (λ _. end-if (fitting head && leb (recordEnd head) (length bytes)) (Compared (recordAgrees bytes head) (recordEnd head)) (length bytes) (λ b. leb-true (recordEnd head) (length bytes) (and-true (fitting head) _ b .1)))
 
 compared-end : (bytes : List ℕ) (agrees : Bool) (end : ℕ) → Compared agrees end ≡ verdict bytes → end ≤ length bytes
 compared-end bytes agrees end h = subst (λ (v : Verdict). endOf v ≤ length bytes) (sym h) (verdict-end bytes)
@@ -151,7 +151,7 @@ pub too-short : (more : Bool) (list : List ℕ) → length list < 8 → Bad 0 �
 unfolding replayed
 too-short more list h = rw (lt-leb 8 (length list) h)
 
-pub start : (more : Bool) (list : List ℕ) (records : ℕ) → 8 ≤ length list → records ≡ numberAt list 0 → Reached more list records none 8
+pub start : (more : Bool) (list : List ℕ) (records : ℕ) → 8 ≤ length list → records ≡ numberAt list 0 → Reached more list records noRecords 8
 unfolding replayed
 start more list records h e =
     let left : numberAt list 0 ≡ records - 0 = omega (arith, e) in
@@ -159,7 +159,7 @@ start more list records h e =
       inside = h;
       left = omega arith;
       few = omega arith;
-      rest = rw (le-leb 8 (length list) h) (ap (λ (n : ℕ). replayedFrom more n (drop 8 list) none) left);
+      rest = rw (le-leb 8 (length list) h) (ap (λ (n : ℕ). replayedFrom more n (drop 8 list) noRecords) left);
     }
 
 module _ (more : Bool) (list : List ℕ) (records : ℕ) (t : Tally) (at : ℕ) (r : Reached more list records t at) where

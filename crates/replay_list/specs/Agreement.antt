@@ -21,6 +21,6 @@ sameResult r number value layout =
     sameAnswer (r .answer) number value && same (r .space) (layout ++ replicate (length (r .space) - length layout) 255)
 
 -- both calls agree, laying out in a space of so many bytes
-unfoldable pub agreed : Outcome → ℕ → ℕ → List ℕ → ℕ → Bool
-agreed o number value layout room =
+unfoldable pub callsAgree : Outcome → ℕ → ℕ → List ℕ → ℕ → Bool
+callsAgree o number value layout room =
     sameAnswer (measured o) (measuredNumber number) value && sameResult (laidOut o (replicate room 255)) number value layout

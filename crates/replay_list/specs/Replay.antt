@@ -13,16 +13,16 @@ use Rattle.replay_list.specs.declared.Tally.{Tally}
 use Rattle.replay_list.specs.declared.Replayed.{Replayed}
 use Rattle.replay_list.specs.declared.Replayed.the-variants.{Bad, Whole}
 use Rattle.replay_list.specs.Record.{numberAt, headOf, fitting, recordEnd, textOf, tapeOf, layoutOf}
-use Rattle.replay_list.specs.Agreement.{agreed}
+use Rattle.replay_list.specs.Agreement.{callsAgree}
 
 -- both calls of the record at the front of the bytes agree with it
-unfoldable pub agreeing : List ℕ → RecordHead → Bool
-agreeing bytes head =
-    agreed (outcome original (head .width) (head .case) (textOf bytes head) (tapeOf bytes head)) (head .number) (head .value) (layoutOf bytes head) (head .space)
+unfoldable pub recordAgrees : List ℕ → RecordHead → Bool
+recordAgrees bytes head =
+    callsAgree (outcome original (head .width) (head .case) (textOf bytes head) (tapeOf bytes head)) (head .number) (head .value) (layoutOf bytes head) (head .space)
 
 -- a record is broken where its numbers are cut, break a limit, or ask for more bytes than there are
 unfoldable pub verdictOn : List ℕ → RecordHead → Verdict
-verdictOn bytes head = cond (fitting head && leb (recordEnd head) (length bytes)) (Compared (agreeing bytes head) (recordEnd head)) Broken
+verdictOn bytes head = cond (fitting head && leb (recordEnd head) (length bytes)) (Compared (recordAgrees bytes head) (recordEnd head)) Broken
 
 unfoldable pub verdict : List ℕ → Verdict
 verdict bytes = cond (leb 72 (length bytes)) (verdictOn bytes (headOf bytes)) Broken
@@ -44,9 +44,9 @@ unfoldable pub replayedFrom : Bool → ℕ → List ℕ → Tally → Replayed
 replayedFrom more zero bytes t = cond (more || ltb 0 (length bytes)) (Bad (t .records)) (Whole t)
 replayedFrom more (suc left) bytes t = afterRecord (verdict bytes) bytes t (replayedFrom more left)
 
-abbrev pub none : Tally
-none = record { records = 0; differ = 0; first = 0 }
+abbrev pub noRecords : Tally
+noRecords = record { records = 0; differ = 0; first = 0 }
 
 -- the number of records, and then the records
 unfoldable pub replayed : Bool → List ℕ → Replayed
-replayed more list = cond (leb 8 (length list)) (replayedFrom more (numberAt list 0) (drop 8 list) none) (Bad 0)
+replayed more list = cond (leb 8 (length list)) (replayedFrom more (numberAt list 0) (drop 8 list) noRecords) (Bad 0)

@@ -9,7 +9,7 @@ ghost use lib.ListN.{length, getD, replicate};
 ghost use Rattle.keywords.specs.Words.{same};
 ghost use Rattle.layout.specs.Layout.{original};
 ghost use Rattle.layout.specs.Outcome.{outcome};
-ghost use Rattle.replay_list.specs.Agreement.{agreed, sameAnswer, measuredNumber};
+ghost use Rattle.replay_list.specs.Agreement.{callsAgree, sameAnswer, measuredNumber};
 
 // The space before a call.
 fn blank(out: &mut [u8])
@@ -68,7 +68,7 @@ fn same_space(out: &[u8], expected: &[u8]) -> bool
 }
 
 // Makes both calls, with an output space as long as `out`, and compares both answers and every byte of the space.
-pub(crate) fn agrees(
+pub(crate) fn calls_agree(
     text: &[u8],
     tape: &[u8],
     width: u64,
@@ -78,7 +78,7 @@ pub(crate) fn agrees(
     expected: &[u8],
     out: &mut [u8],
 ) -> bool
-    ensures { λ r. ⌜ r ≡ agreed (outcome original width case (now (text .entry)) (now (tape .entry))) number value (now (expected .entry)) (length (now (out .entry))) ⌝ }
+    ensures { λ r. ⌜ r ≡ callsAgree (outcome original width case (now (text .entry)) (now (tape .entry))) number value (now (expected .entry)) (length (now (out .entry))) ⌝ }
 {
     blank(out);
     let measured = measure(text, tape, width, case);

@@ -3,7 +3,7 @@ use crate::RecordHead;
 use crate::Replayed;
 use crate::Tally;
 use crate::Verdict;
-use crate::agree::agrees;
+use crate::agree::calls_agree;
 use crate::record::fits;
 use crate::record::layout_start;
 use crate::record::read_head;
@@ -17,12 +17,12 @@ ghost use mathlib.Core.Bool.{true};
 ghost use Prim.Native.Nat.{_≤_, _<_};
 ghost use lib.ListN.{length};
 ghost use Rattle.replay_list.specs.Record.{fitting, recordEnd};
-ghost use Rattle.replay_list.specs.Replay.{agreeing, verdict, counted, replayed};
+ghost use Rattle.replay_list.specs.Replay.{recordAgrees, verdict, counted, replayed};
 
 // Makes both calls of a whole record that keeps to the limits. The arrays hold zeros behind what is copied into them.
-fn agrees_with(bytes: &[u8], head: RecordHead) -> bool
+fn record_agrees(bytes: &[u8], head: RecordHead) -> bool
     requires { ⌜ (fitting head ≡ true) × (recordEnd head ≤ length (now bytes)) ⌝ }
-    ensures { λ r. ⌜ r ≡ agreeing (now (bytes .entry)) head ⌝ }
+    ensures { λ r. ⌜ r ≡ recordAgrees (now (bytes .entry)) head ⌝ }
 {
     let mut text = [0u8; 262145];
     let mut tape = [0u8; 262145];
@@ -35,7 +35,7 @@ fn agrees_with(bytes: &[u8], head: RecordHead) -> bool
     let text_end = run_length(head.text);
     let tape_end = run_length(head.tape);
     let space = head.space as usize;
-    agrees(
+    calls_agree(
         &text[..text_end],
         &tape[..tape_end],
         head.width,
@@ -62,7 +62,7 @@ fn replay_record(bytes: &[u8]) -> Verdict
     if bytes.len() < end {
         return Verdict::Broken;
     }
-    let agreed = agrees_with(bytes, head);
+    let agreed = record_agrees(bytes, head);
     Verdict::Compared(agreed, end)
 }
 

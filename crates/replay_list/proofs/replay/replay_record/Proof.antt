@@ -24,11 +24,11 @@ record-end-requires c κs = told-true (c .before .fits2 .ensures) (c .if2 .left)
 returns-3 : tie.Need-returns-3
 returns-3 c = cut-in-run (c .before .before .before .before .before .before .before .args .bytes .now) _ (c .before .before .before .before .read-head .ensures) (c .before .before .before .before .before .if1 .left) (told-true (c .before .before .before .fits2 .ensures) (c .before .before .if2 .left)) _ (c .before .record-end .ensures) (c .if3 .taken)
 
-agrees-with-requires : tie.Need-agrees-with-requires
-agrees-with-requires c κs = (told-true (c .before .before .before .fits2 .ensures) (c .before .before .if2 .left), omega (arith, c .if3 .left, c .before .record-end .ensures))
+record-agrees-requires : tie.Need-record-agrees-requires
+record-agrees-requires c κs = (told-true (c .before .before .before .fits2 .ensures) (c .before .before .if2 .left), omega (arith, c .if3 .left, c .before .record-end .ensures))
 
 returns-4 : tie.Need-returns-4
-returns-4 c = record-compared (c .before .before .before .before .before .before .before .before .args .bytes .now) _ (c .before .before .before .before .before .read-head .ensures) (c .before .before .before .before .before .before .if1 .left) (told-true (c .before .before .before .before .fits2 .ensures) (c .before .before .before .if2 .left)) _ (c .before .before .record-end .ensures) (c .before .if3 .left) _ (c .agrees-with .ensures)
+returns-4 c = record-compared (c .before .before .before .before .before .before .before .before .args .bytes .now) _ (c .before .before .before .before .before .read-head .ensures) (c .before .before .before .before .before .before .if1 .left) (told-true (c .before .before .before .before .fits2 .ensures) (c .before .before .before .if2 .left)) _ (c .before .before .record-end .ensures) (c .before .if3 .left) _ (c .record-agrees .ensures)
 
 pub replay-record-spec : {M : Type 1} → statement M
 replay-record-spec =
@@ -40,5 +40,5 @@ replay-record-spec =
     returns-2
     record-end-requires
     returns-3
-    agrees-with-requires
+    record-agrees-requires
     returns-4)

@@ -1,14 +1,14 @@
--- `agrees_with` meets its contract: the arrays' fronts are the record's text and tape, zeros included.
+-- `record_agrees` meets its contract: the arrays' fronts are the record's text and tape, zeros included.
 use mathlib.Core.Path.{refl, sym}
 use native.Mathlib.Omega.{arith}
 use borrow.Author.Needs.{needs}
 use lib.ListN.{replicate}
 use lib.Seq.{length-take-le}
 use Rattle.replay_list.proofs.Limits.{within-limits}
-use Rattle.replay_list.proofs.Replaying.{between-same, run-copied, agreeing-of}
+use Rattle.replay_list.proofs.Replaying.{between-same, run-copied, record-agrees-of}
 use Rattle.replay_list.specs.Record.{tapeStart, layoutStart, recordEnd}
-use Rattle.replay_list.proofs.replay.agrees_with.Statement.{statement}
-use Rattle.replay_list.proofs.replay.agrees_with.Tie as tie
+use Rattle.replay_list.proofs.replay.record_agrees.Statement.{statement}
+use Rattle.replay_list.proofs.replay.record_agrees.Tie as tie
 
 tape-start-requires : tie.Need-tape-start-requires
 tape-start-requires c κs = search needs
@@ -58,32 +58,32 @@ run-length-requires-2 c κs = within-limits (c .before .before .before .before .
 array-share-prefix-text : tie.Need-array-share-prefix-text
 array-share-prefix-text c = omega (arith, within-limits (c .before .before .before .before .before .before .before .before .before .before .before .before .before .before .args .head) (c .before .before .before .before .before .before .before .before .before .before .before .before .before .before .pre .0) .text .whole, c .before .run-length .ensures)
 
-slice-aggregate-agrees : tie.Need-slice-aggregate-agrees
-slice-aggregate-agrees c = sym (length-take-le _ (c .before .before .before .before .before .before .before .before .put-all .last .0) (omega (arith, within-limits (c .before .before .before .before .before .before .before .before .before .before .before .before .before .before .before .args .head) (c .before .before .before .before .before .before .before .before .before .before .before .before .before .before .before .pre .0) .text .whole, c .before .before .run-length .ensures, c .before .before .before .before .before .before .before .before .put-all .kept .0)))
+slice-aggregate-calls-agree : tie.Need-slice-aggregate-calls-agree
+slice-aggregate-calls-agree c = sym (length-take-le _ (c .before .before .before .before .before .before .before .before .put-all .last .0) (omega (arith, within-limits (c .before .before .before .before .before .before .before .before .before .before .before .before .before .before .before .args .head) (c .before .before .before .before .before .before .before .before .before .before .before .before .before .before .before .pre .0) .text .whole, c .before .before .run-length .ensures, c .before .before .before .before .before .before .before .before .put-all .kept .0)))
 
 array-share-prefix-tape : tie.Need-array-share-prefix-tape
 array-share-prefix-tape c = omega (arith, within-limits (c .before .before .before .before .before .before .before .before .before .before .before .before .before .before .before .args .head) (c .before .before .before .before .before .before .before .before .before .before .before .before .before .before .before .pre .0) .tape .whole, c .before .run-length2 .ensures)
 
-slice-aggregate-agrees-2 : tie.Need-slice-aggregate-agrees-2
-slice-aggregate-agrees-2 c = sym (length-take-le _ (c .before .before .before .before .before .put-all2 .last .0) (omega (arith, within-limits (c .before .before .before .before .before .before .before .before .before .before .before .before .before .before .before .before .args .head) (c .before .before .before .before .before .before .before .before .before .before .before .before .before .before .before .before .pre .0) .tape .whole, c .before .before .run-length2 .ensures, c .before .before .before .before .before .put-all2 .kept .0)))
+slice-aggregate-calls-agree-2 : tie.Need-slice-aggregate-calls-agree-2
+slice-aggregate-calls-agree-2 c = sym (length-take-le _ (c .before .before .before .before .before .put-all2 .last .0) (omega (arith, within-limits (c .before .before .before .before .before .before .before .before .before .before .before .before .before .before .before .before .args .head) (c .before .before .before .before .before .before .before .before .before .before .before .before .before .before .before .before .pre .0) .tape .whole, c .before .before .run-length2 .ensures, c .before .before .before .before .before .put-all2 .kept .0)))
 
-sub-agrees : tie.Need-sub-agrees
-sub-agrees c = omega (arith, c .before .before .before .before .before .before .before .before .before .before .before .before .record-end .ensures, c .before .before .before .before .before .before .before .before .before .before .before .before .before .layout-start .ensures)
+sub-calls-agree : tie.Need-sub-calls-agree
+sub-calls-agree c = omega (arith, c .before .before .before .before .before .before .before .before .before .before .before .before .record-end .ensures, c .before .before .before .before .before .before .before .before .before .before .before .before .before .layout-start .ensures)
 
-part-agrees-start : tie.Need-part-agrees-start
-part-agrees-start c = omega (arith, c .before .before .before .before .before .before .before .before .before .before .before .before .record-end .ensures, c .before .before .before .before .before .before .before .before .before .before .before .before .before .layout-start .ensures)
+part-calls-agree-start : tie.Need-part-calls-agree-start
+part-calls-agree-start c = omega (arith, c .before .before .before .before .before .before .before .before .before .before .before .before .record-end .ensures, c .before .before .before .before .before .before .before .before .before .before .before .before .before .layout-start .ensures)
 
-part-agrees-end : tie.Need-part-agrees-end
-part-agrees-end c = omega (arith, c .before .before .before .before .before .before .before .before .before .before .before .before .record-end .ensures, c .before .before .before .before .before .before .before .before .before .before .before .before .before .before .before .before .pre .1)
+part-calls-agree-end : tie.Need-part-calls-agree-end
+part-calls-agree-end c = omega (arith, c .before .before .before .before .before .before .before .before .before .before .before .before .record-end .ensures, c .before .before .before .before .before .before .before .before .before .before .before .before .before .before .before .before .pre .1)
 
 array-borrow-prefix-out : tie.Need-array-borrow-prefix-out
 array-borrow-prefix-out c = within-limits (c .before .before .before .before .before .before .before .before .before .before .before .before .before .before .before .before .before .args .head) (c .before .before .before .before .before .before .before .before .before .before .before .before .before .before .before .before .before .pre .0) .space
 
-slice-aggregate-agrees-3 : tie.Need-slice-aggregate-agrees-3
-slice-aggregate-agrees-3 c = sym (length-take-le (c .before .before .before .before .before .before .before .before .before .before .before .before .before .before .before .before .before .before .args .head .space) (replicate 4096 0) (within-limits (c .before .before .before .before .before .before .before .before .before .before .before .before .before .before .before .before .before .before .args .head) (c .before .before .before .before .before .before .before .before .before .before .before .before .before .before .before .before .before .before .pre .0) .space))
+slice-aggregate-calls-agree-3 : tie.Need-slice-aggregate-calls-agree-3
+slice-aggregate-calls-agree-3 c = sym (length-take-le (c .before .before .before .before .before .before .before .before .before .before .before .before .before .before .before .before .before .before .args .head .space) (replicate 4096 0) (within-limits (c .before .before .before .before .before .before .before .before .before .before .before .before .before .before .before .before .before .before .args .head) (c .before .before .before .before .before .before .before .before .before .before .before .before .before .before .before .before .before .before .pre .0) .space))
 
-agrees-requires : tie.Need-agrees-requires
-agrees-requires c κs = search needs
+calls-agree-requires : tie.Need-calls-agree-requires
+calls-agree-requires c κs = search needs
 
 returns : tie.Need-returns
 returns c =
@@ -96,15 +96,15 @@ returns c =
     let layout-start = c .before .before .before .before .before .before .before .before .before .before .before .before .before .before .before .before .before .layout-start .ensures in
     let text-end = c .before .before .before .before .before .before .before .run-length .ensures in
     let tape-end = c .before .before .before .before .before .before .run-length2 .ensures in
-    agreeing-of bytes head
+    record-agrees-of bytes head
     (run-copied bytes (head .text .zeros) 262145 (c .before .before .before .before .before .before .before .run-length .result) 72 72 (c .before .before .before .before .before .before .before .before .before .before .before .before .before .before .before .before .before .before .tape-start .result) (tapeStart head) refl tape-start (omega arith) (omega arith) (omega (arith, w .text .whole)) (c .before .before .before .before .before .before .before .before .before .before .before .before .before .put-all .ensures))
     (run-copied bytes (head .tape .zeros) 262145 (c .before .before .before .before .before .before .run-length2 .result) (c .before .before .before .before .before .before .before .before .before .before .before .before .before .before .before .before .before .before .tape-start .result) (tapeStart head) (c .before .before .before .before .before .before .before .before .before .before .before .before .before .before .before .before .before .layout-start .result) (layoutStart head) tape-start layout-start (omega arith) (omega arith) (omega (arith, w .tape .whole)) (c .before .before .before .before .before .before .before .before .before .put-all2 .ensures))
     (between-same bytes _ (layoutStart head) _ (recordEnd head) layout-start (c .before .before .before .before .before .before .before .before .before .before .before .before .before .before .before .before .record-end .ensures))
     (length-take-le (head .space) (replicate 4096 0) (w .space))
-    (c .before .agrees .ensures)
+    (c .before .calls-agree .ensures)
 
-pub agrees-with-spec : {M : Type 1} → statement M
-agrees-with-spec =
+pub record-agrees-spec : {M : Type 1} → statement M
+record-agrees-spec =
     tie.close
     (tie.spec
     tape-start-requires
@@ -123,13 +123,13 @@ agrees-with-spec =
     run-length-requires
     run-length-requires-2
     array-share-prefix-text
-    slice-aggregate-agrees
+    slice-aggregate-calls-agree
     array-share-prefix-tape
-    slice-aggregate-agrees-2
-    sub-agrees
-    part-agrees-start
-    part-agrees-end
+    slice-aggregate-calls-agree-2
+    sub-calls-agree
+    part-calls-agree-start
+    part-calls-agree-end
     array-borrow-prefix-out
-    slice-aggregate-agrees-3
-    agrees-requires
+    slice-aggregate-calls-agree-3
+    calls-agree-requires
     returns)

@@ -1,11 +1,11 @@
--- `agrees` meets its contract, by the first comparison that fails. Assumes nothing.
+-- `calls_agree` meets its contract, by the first comparison that fails. Assumes nothing.
 use lib.ListN.{length}
 use Rattle.layout.specs.Layout.{original}
 use Rattle.layout.specs.Outcome.{outcome}
 use Rattle.replay_list.proofs.Agreeing.{differs-measured, differs-laid, compares-space}
 use borrow.Author.Needs.{needs}
-use Rattle.replay_list.proofs.agree.agrees.Statement.{statement}
-use Rattle.replay_list.proofs.agree.agrees.Tie as tie
+use Rattle.replay_list.proofs.agree.calls_agree.Statement.{statement}
+use Rattle.replay_list.proofs.agree.calls_agree.Tie as tie
 
 blank-requires : tie.Need-blank-requires
 blank-requires c κs = search needs
@@ -52,8 +52,8 @@ returns-3 c =
     let a = c .before .before .before .before .before .before .before .before .before .before .before .before .before .before .before .before .before .before .before .before .args in
     compares-space (outcome original (a .width) (a .case) (a .text .now) (a .tape .now)) (a .number) (a .value) (a .expected .now) (length (a .out .now)) _ _ _ _ _ (c .before .before .before .before .before .before .before .before .before .before .before .before .before .before .blank .ensures) (c .before .before .before .before .before .before .before .before .before .before .before .measure .ensures) (c .before .before .before .before .before .before .before .before .before .layout .ensures) (c .before .before .before .before .before .before .measured-number .ensures) _ (c .before .before .before .before .before .same-answer .ensures) (c .before .before .before .before .if1 .left) _ (c .before .before .before .same-answer2 .ensures) (c .before .before .if2 .left) _ (c .same-space .ensures)
 
-pub agrees-spec : {M : Type 1} → statement M
-agrees-spec =
+pub calls-agree-spec : {M : Type 1} → statement M
+calls-agree-spec =
     tie.close
     (tie.spec
     blank-requires
