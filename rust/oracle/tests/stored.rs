@@ -5,7 +5,6 @@ mod common;
 use oracle::answers::{answer, Answer, Case};
 use oracle::arms;
 use oracle::stored::{names, read, write, Record, MOST_STORED};
-use oracle::tape::MOST_BYTES;
 use std::collections::BTreeSet;
 
 const LIST: &[u8] = include_bytes!("../../../vectors/vectors.bin");
@@ -54,28 +53,6 @@ fn there_are_2000_records_with_every_answer() {
     assert!(records.len() >= 2_000, "{}", records.len());
     let numbers: BTreeSet<u64> = records.iter().map(|record| record.laid_out.number).collect();
     assert_eq!(numbers, (0..=13).collect());
-}
-
-/// What vectors/README.md says about zeros: nothing longer was stored before them, so a reader's buffer still has zeros there.
-#[test]
-fn buffers_of_zeros_need_no_filling() {
-    for bytes_of in [|case: &Case| case.text.clone(), |case: &Case| case.tape.clone()] {
-        let mut buffer = vec![0; MOST_BYTES + 1];
-        let mut long = 0;
-        for record in records() {
-            let bytes = bytes_of(&record.case);
-            let zeros = if bytes.len() > MOST_STORED { trailing_zeros(&bytes) } else { 0 };
-            let stored = bytes.len() - zeros;
-            buffer[..stored].copy_from_slice(&bytes[..stored]);
-            assert!(buffer[..bytes.len()] == bytes, "a record after {long} long ones");
-            long += usize::from(zeros > 0);
-        }
-        assert!(long > 0);
-    }
-}
-
-fn trailing_zeros(bytes: &[u8]) -> usize {
-    bytes.iter().rev().take_while(|byte| **byte == 0).count()
 }
 
 #[test]

@@ -5,7 +5,7 @@ use crate::builder::Builder;
 use crate::source;
 use crate::tape::MOST_BYTES;
 
-/// The calls that are longer than any stored one, in an order that stores no byte of a text or tape before one that begins with zeros.
+/// The calls whose texts and tapes are longer than what is stored of them.
 const LONG: [&str; 9] = [
     "tape-too-long",
     "tape-at-most",
