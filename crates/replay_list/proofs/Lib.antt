@@ -2,3 +2,4 @@
 pub mod Limits
 pub mod Agreeing
 pub mod Replaying
+pub mod Tables

@@ -3,3 +3,4 @@ pub mod Record
 pub mod Agreement
 pub mod Replay
 pub mod Line
+pub mod SmallLists
