@@ -9,13 +9,8 @@ use lib.Seq.{drop-length}
 use lib.ListN.{length, getD, drop, replicate, length-append, length-replicate, getD-replicate}
 use Rattle.keywords.specs.Words.{same}
 use Rattle.layout.specs.declared.Answer.{Answer}
-<<<<<<< HEAD
 use Rattle.layout.specs.Outcome.{answers, Outcome, Result, measured, laidOut}
 use Rattle.replay_list.specs.Agreement.{callsAgree, sameResult, measuredNumber}
-=======
-use Rattle.layout.specs.Outcome.{Outcome, Result, measured, laidOut}
-use Rattle.replay_list.specs.Agreement.{callsAgree, sameAnswer, sameResult, measuredNumber}
->>>>>>> replay
 
 -- the layout, and 255 up to so many bytes
 abbrev pub expected : List ℕ → ℕ → List ℕ
@@ -58,7 +53,6 @@ module _ (o : Outcome) (number value : ℕ) (layout : List ℕ) (room : ℕ) (m 
   laid-in-blank : _≡_ {A = Result} (record { answer = a; space = after }) (laidOut o (replicate room 255))
   laid-in-blank = subst (λ (s : List ℕ). _≡_ {A = Result} (record { answer = a; space = after }) (laidOut o s)) hb hl
 
-<<<<<<< HEAD
   comparison : (r : Bool) → r ≡ (answers m n value && sameResult (record { answer = a; space = after }) number value layout) → r ≡ callsAgree o number value layout room
   unfolding callsAgree
   comparison r h =
@@ -68,35 +62,16 @@ module _ (o : Outcome) (number value : ℕ) (layout : List ℕ) (room : ℕ) (m 
       ∙ ap (λ (x : Result). answers (measured o) (measuredNumber number) value && sameResult x number value layout) laid-in-blank
 
   by-parts : (r p q s : Bool) → p ≡ answers m n value → q ≡ answers a number value → s ≡ same after (expected layout (length after)) → r ≡ (p && (q && s)) → r ≡ callsAgree o number value layout room
-=======
-  comparison : (r : Bool) → r ≡ (sameAnswer m n value && sameResult (record { answer = a; space = after }) number value layout) → r ≡ callsAgree o number value layout room
-  unfolding callsAgree
-  comparison r h =
-      h
-      ∙ ap (λ (k : ℕ). sameAnswer m k value && sameResult (record { answer = a; space = after }) number value layout) hn
-      ∙ ap (λ (x : Answer). sameAnswer x (measuredNumber number) value && sameResult (record { answer = a; space = after }) number value layout) hm
-      ∙ ap (λ (x : Result). sameAnswer (measured o) (measuredNumber number) value && sameResult x number value layout) laid-in-blank
-
-  by-parts : (r p q s : Bool) → p ≡ sameAnswer m n value → q ≡ sameAnswer a number value → s ≡ same after (expected layout (length after)) → r ≡ (p && (q && s)) → r ≡ callsAgree o number value layout room
->>>>>>> replay
   by-parts r p q s hp hq hs h =
       comparison r (h ∙ ap (λ (x : Bool). x && (q && s)) hp ∙ ap (λ (x : Bool). answers m n value && (x && s)) hq ∙ ap (λ (x : Bool). answers m n value && (answers a number value && x)) hs)
 
-<<<<<<< HEAD
   module _ (p : Bool) (hp : p ≡ answers m n value) where
-=======
-  module _ (p : Bool) (hp : p ≡ sameAnswer m n value) where
->>>>>>> replay
     pub differs-measured : not p ≡ true → false ≡ callsAgree o number value layout room
     differs-measured t =
         by-parts false p (answers a number value) (same after (expected layout (length after))) hp refl refl
         (rw (not-true p t))
 
-<<<<<<< HEAD
     module _ (tp : not p ≡ false) (q : Bool) (hq : q ≡ answers a number value) where
-=======
-    module _ (tp : not p ≡ false) (q : Bool) (hq : q ≡ sameAnswer a number value) where
->>>>>>> replay
       pub differs-laid : not q ≡ true → false ≡ callsAgree o number value layout room
       differs-laid t =
           by-parts false p q (same after (expected layout (length after))) hp hq refl

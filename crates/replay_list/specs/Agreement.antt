@@ -19,8 +19,4 @@ sameResult r number value layout =
 -- both calls agree, laying out in a space of so many bytes
 unfoldable pub callsAgree : Outcome → ℕ → ℕ → List ℕ → ℕ → Bool
 callsAgree o number value layout room =
-<<<<<<< HEAD
     answers (measured o) (measuredNumber number) value && sameResult (laidOut o (replicate room 255)) number value layout
-=======
-    sameAnswer (measured o) (measuredNumber number) value && sameResult (laidOut o (replicate room 255)) number value layout
->>>>>>> replay

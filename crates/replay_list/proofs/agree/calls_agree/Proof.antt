@@ -1,8 +1,4 @@
-<<<<<<< HEAD
 -- `calls_agree` meets its contract, by the first comparison that fails.
-=======
--- `calls_agree` meets its contract, by the first comparison that fails. Assumes nothing.
->>>>>>> replay
 use lib.ListN.{length}
 use Rattle.layout.specs.Layout.{original}
 use Rattle.layout.specs.Outcome.{outcome}

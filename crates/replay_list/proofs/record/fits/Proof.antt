@@ -1,12 +1,6 @@
-<<<<<<< HEAD
 -- `fits` meets its contract: its tests are those of the definition.
 use borrow.Author.Tests.{lt-leb}
 use Rattle.desk_job.proofs.Reading.{answered-false, answered-true}
-=======
--- `fits` meets its contract: its tests are those of the definition. Assumes nothing.
-use borrow.Author.Tests.{lt-leb}
-use Rattle.desk_job.proofs.Reading.{told-false, told-true}
->>>>>>> replay
 use Rattle.replay_list.specs.Record.{fitting}
 use Rattle.replay_list.proofs.Limits.{layout-left}
 use borrow.Author.Needs.{needs}
@@ -35,11 +29,7 @@ layout-length-requires : tie.Need-layout-length-requires
 layout-length-requires c κs = search needs
 
 returns-4 : tie.Need-returns-4
-<<<<<<< HEAD
 returns-4 c = layout-left (c .before .before .before .before .before .before .before .before .args .head) _ (answered-true (c .before .before .before .before .before .before .before .run-fits .ensures) (c .before .before .before .before .before .before .if1 .left)) (answered-true (c .before .before .before .before .before .run-fits2 .ensures) (c .before .before .before .before .if2 .left)) (c .before .before .if3 .left) (c .before .layout-length .ensures)
-=======
-returns-4 c = layout-left (c .before .before .before .before .before .before .before .before .args .head) _ (told-true (c .before .before .before .before .before .before .before .run-fits .ensures) (c .before .before .before .before .before .before .if1 .left)) (told-true (c .before .before .before .before .before .run-fits2 .ensures) (c .before .before .before .before .if2 .left)) (c .before .before .if3 .left) (c .before .layout-length .ensures)
->>>>>>> replay
 
 pub fits-spec : {M : Type 1} → statement M
 fits-spec =
