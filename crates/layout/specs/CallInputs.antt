@@ -27,7 +27,7 @@ allBothAnswer (s ∷ ss) = bothAnswer (outcome original (s .width) (s .case) (s 
 -- ── laid out, or 13
 
 -- a call that is accepted: measuring answers 0 and the needed length; laying out into the space answers the number and that length
-pub record Accepted : Type 0 where
+pub record LayoutCall : Type 0 where
   pub text : List ℕ
   pub tape : List ℕ
   pub needed : ℕ
@@ -36,13 +36,13 @@ pub record Accepted : Type 0 where
   pub after : List ℕ
 
 -- width 4, upper case
-abbrev pub answered : Accepted → Bool
+abbrev pub answered : LayoutCall → Bool
 answered c =
     let o = outcome original 4 1 (c .text) (c .tape) in
     let r = laidOut o (c .space) in
     answers (measured o) 0 (c .needed) && answers (r .answer) (c .number) (c .needed) && same (r .space) (c .after)
 
-abbrev pub allAnswered : List Accepted → Bool
+abbrev pub allAnswered : List LayoutCall → Bool
 allAnswered [] = true
 allAnswered (c ∷ cs) = answered c && allAnswered cs
 
@@ -50,11 +50,11 @@ abbrev pub layoutB : List ℕ
 layoutB = bytes "SELECT\n    a,\n    b\nFROM t\n"
 
 -- course sheet B lent n bytes, all 7: the answer's number, and the space afterwards
-abbrev pub callB : ℕ → ℕ → List ℕ → Accepted
+abbrev pub callB : ℕ → ℕ → List ℕ → LayoutCall
 callB n number after =
     record { text = bytes "select a,b from t"; tape = tapeOf treeB; needed = 27; space = replicate n 7; number = number; after = after }
 
-unfoldable pub smallLayouts : List Accepted
+unfoldable pub smallLayouts : List LayoutCall
 smallLayouts =
     -- 26 and 27 bytes for B, and three more, which stay
     callB 26 13 (replicate 26 7) ∷
