@@ -56,6 +56,7 @@ fn typical(seed: u64) -> Vec<Case> {
     whole.take(QUERIES).map(|query| with_fault(query, faults.below(TOKENS_FOR_A_FAULT))).collect()
 }
 
+/// The broken ones among the typical.
 fn broken(seed: u64) -> Vec<Case> {
     typical(seed).into_iter().filter(is_broken).collect()
 }
@@ -94,7 +95,7 @@ fn kind_at(tape: &[u8], place: usize) -> u16 {
     u16::from_le_bytes([tape[place + 1], tape[place + 2]])
 }
 
-/// The places of the commands that open a node, or of those of a token.
+/// The places of the commands of one sort.
 fn places(query: &Case, command: u8) -> Vec<usize> {
     command_places(&query.tape).into_iter().filter(|place| query.tape[*place] == command).collect()
 }
