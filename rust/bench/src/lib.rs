@@ -1,6 +1,8 @@
 //! Calls of the proved functions: those of the static libraries that `rt staticlib formatter` and `rt staticlib keywords` write.
 
 pub mod compare;
+pub mod corpora;
+pub mod rounds;
 
 /// Whether the libraries were at hand when this crate was built.
 pub const AT_HAND: bool = cfg!(has_library);

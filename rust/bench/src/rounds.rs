@@ -1,0 +1,162 @@
+//! The rounds of the benchmark of laying out: three sides on the same queries, in turns, and the least time of each.
+
+use crate::corpora::tokens;
+use oracle::answers::{accepted_tree, formatted, Answer, Case};
+use oracle::source;
+use std::hint::black_box;
+use std::ops::Range;
+use std::time::Instant;
+
+/// What is timed.
+#[derive(Clone, Copy)]
+pub enum Side {
+    /// The source's `format` on its own tree, made beforehand.
+    ReadyTree,
+    /// The oracle's reading of text and tape, with all refusals, then the source's `format`.
+    FromTape,
+    /// The port's laying out: check, measuring and writing.
+    Layout,
+    /// The port's measuring alone, which no table has; for a profiler.
+    Measure,
+}
+
+/// The sides that take turns.
+const SIDES: [Side; 3] = [Side::ReadyTree, Side::FromTape, Side::Layout];
+
+/// Tokens of a batch, at least: long enough for the clock, short enough to be left alone by the machine's other work now and then.
+const BATCH_TOKENS: usize = 10_000;
+
+/// Queries, and what the sides need beforehand.
+pub struct Queries {
+    cases: Vec<Case>,
+    trees: Vec<source::Tree>,
+    out: Vec<u8>,
+    pub tokens: usize,
+}
+
+impl Queries {
+    pub fn new(cases: Vec<Case>) -> Queries {
+        let trees = cases.iter().map(|case| source::tree(&accepted_tree(case).expect("accepted"))).collect();
+        let longest = cases.iter().map(|case| formatted(case).expect("accepted").len()).max();
+        let tokens = cases.iter().map(|case| tokens(case).len()).sum();
+        Queries { cases, trees, out: vec![0; longest.unwrap_or(0)], tokens }
+    }
+
+    /// Holds what lays out to the source on every query; the error names the first that differs.
+    pub fn compare(&self, layout: Layout) -> Result<(), String> {
+        let differs = |number, difference| format!("query {number}: {difference}");
+        let mut cases = self.cases.iter().enumerate();
+        cases.try_for_each(|(number, case)| compare(layout, case).map_err(|difference| differs(number, difference)))
+    }
+
+    pub fn count(&self) -> usize {
+        self.cases.len()
+    }
+
+    pub fn tape_bytes(&self) -> usize {
+        self.cases.iter().map(|case| case.tape.len()).sum()
+    }
+
+    /// Every query once on one side.
+    pub fn once(&mut self, side: Side) {
+        self.run(side, 0..self.cases.len());
+    }
+
+    /// Some of the queries on one side; what it gives is dropped.
+    fn run(&mut self, side: Side, queries: Range<usize>) {
+        let cases = &self.cases[queries.clone()];
+        match side {
+            Side::ReadyTree => cases.iter().zip(&self.trees[queries]).for_each(|(case, tree)| ready_tree(case, tree)),
+            Side::FromTape => cases.iter().for_each(from_tape),
+            Side::Layout => cases.iter().for_each(|case| layout(case, &mut self.out)),
+            Side::Measure => cases.iter().for_each(measure),
+        }
+    }
+
+    /// The queries in batches of so many tokens.
+    fn batches(&self) -> Vec<Range<usize>> {
+        let mut batches = Vec::new();
+        let (mut start, mut sum) = (0, 0);
+        for (number, case) in self.cases.iter().enumerate() {
+            sum += tokens(case).len();
+            if sum >= BATCH_TOKENS || number + 1 == self.cases.len() {
+                batches.push(start..number + 1);
+                (start, sum) = (number + 1, 0);
+            }
+        }
+        batches
+    }
+}
+
+/// A function like the port's laying out.
+pub type Layout = fn(&[u8], &[u8], u64, u64, &mut [u8]) -> Answer;
+
+/// Byte for byte, in a space of just the layout's length.
+fn compare(layout: Layout, case: &Case) -> Result<(), String> {
+    let expected = formatted(case).expect("accepted");
+    let mut out = vec![0xAA; expected.len()];
+    let answer = layout(&case.text, &case.tape, case.width, case.case, &mut out);
+    if answer.number != 0 || answer.second != expected.len() as u64 {
+        return Err(format!("the port answers {answer:?}, and the layout has {} bytes", expected.len()));
+    }
+    if out != expected.as_bytes() {
+        return Err("the port's layout is not the source's".to_string());
+    }
+    Ok(())
+}
+
+// A profiler finds the sides by the names of these functions.
+
+#[inline(never)]
+fn ready_tree(case: &Case, tree: &source::Tree) {
+    let text = std::str::from_utf8(&case.text).expect("ASCII");
+    black_box(source::format_tree(black_box(tree), case.width as usize, case.case == 1, text));
+}
+
+#[inline(never)]
+fn from_tape(case: &Case) {
+    black_box(formatted(black_box(case)).expect("accepted"));
+}
+
+#[inline(never)]
+fn layout(case: &Case, out: &mut [u8]) {
+    black_box(crate::layout(black_box(&case.text), &case.tape, case.width, case.case, out));
+}
+
+#[inline(never)]
+fn measure(case: &Case) {
+    black_box(crate::measure(black_box(&case.text), &case.tape, case.width, case.case));
+}
+
+/// Nanoseconds for a token.
+pub struct Times {
+    pub ready_tree: f64,
+    pub from_tape: f64,
+    pub port: f64,
+}
+
+/// In each round each side takes its turn with all queries, so that it comes to a query as to a new one. A side's time is the sum over the
+/// batches of its least time for the batch.
+pub fn least_times(queries: &mut Queries, rounds: usize) -> Times {
+    let passes = BATCH_TOKENS.div_ceil(queries.tokens);
+    let batches = queries.batches();
+    let mut least = SIDES.map(|_| vec![f64::INFINITY; batches.len()]);
+    for _ in 0..rounds {
+        for (side, least) in SIDES.into_iter().zip(&mut least) {
+            for (batch, least) in batches.iter().zip(least) {
+                *least = least.min(time(queries, side, batch, passes));
+            }
+        }
+    }
+    let [ready_tree, from_tape, port] = least.map(|times| times.iter().sum::<f64>() / (passes * queries.tokens) as f64);
+    Times { ready_tree, from_tape, port }
+}
+
+/// Nanoseconds for so many passes over a batch.
+fn time(queries: &mut Queries, side: Side, batch: &Range<usize>, passes: usize) -> f64 {
+    let start = Instant::now();
+    for _ in 0..passes {
+        queries.run(side, batch.clone());
+    }
+    start.elapsed().as_nanos() as f64
+}
