@@ -1,5 +1,6 @@
 #!/usr/bin/env python3
-"""Counts instructions by callgrind: what a token costs the port's check and each of its walks, and the source's `format` on a ready tree.
+"""Counts instructions by callgrind: what a token costs the port's check, the walk of measuring and the walks of laying out, and the source's
+`format` on a ready tree.
 
     scripts/instructions.py [--seed SEED] [CORPUS...]    the corpora of `cargo run --release --bin format -- --list`, or all
 
@@ -81,12 +82,12 @@ def print_row(corpus, seed):
     source = profile(corpus, seed, "ready-tree", "bench::rounds::ready_tree")
     check = layout.instructions_in(CHECK)
     measuring = measure.instructions_in(WALK)
-    # Laying out walks once more than measuring does.
-    writing = layout.instructions_in(WALK) - measuring
+    # One walk for a layout of at most 4,096 bytes, else two.
+    walks = layout.instructions_in(WALK)
     whole, mispredicted = layout.a_token()
     source_whole, source_mispredicted = source.a_token()
     print(
-        f"{corpus:<14} {check:>7.0f} {measuring:>9.0f} {writing:>8.0f} {whole:>8.0f} {source_whole:>8.0f}"
+        f"{corpus:<14} {check:>7.0f} {measuring:>9.0f} {walks:>8.0f} {whole:>8.0f} {source_whole:>8.0f}"
         f" | {mispredicted:>6.1f} {source_mispredicted:>6.1f}",
         flush=True,
     )
@@ -105,7 +106,7 @@ def main():
     if unknown:
         parser.error(f"no corpus {', '.join(sorted(unknown))}: there are {', '.join(known)}")
     print(f"{'':<14} {'instructions a token':^44} | {'mispredicted':^13}")
-    print(f"{'corpus':<14} {'check':>7} {'measuring':>9} {'writing':>8} {'layout':>8} {'source':>8} | {'layout':>6} {'source':>6}")
+    print(f"{'corpus':<14} {'check':>7} {'measuring':>9} {'walks':>8} {'layout':>8} {'source':>8} | {'layout':>6} {'source':>6}")
     for corpus in asked.corpora or known:
         print_row(corpus, asked.seed)
 
