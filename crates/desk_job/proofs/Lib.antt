@@ -1,4 +1,4 @@
 -- The laws that the functions' proofs cite.
 pub mod Writing
-pub mod Reading
+pub mod HeaderReading
 pub mod Printing

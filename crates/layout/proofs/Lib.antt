@@ -4,6 +4,6 @@ pub mod TwoCalls
 pub mod MaskingTests
 pub mod Origins
 pub mod Tables
-pub mod Limits
+pub mod CallLimits
 pub mod MaskingNeeds
 pub mod Running

@@ -6,7 +6,7 @@ use lib.ListN.{replicate}
 use lib.Dec.{eqb}
 use Rattle.keywords.specs.Words.{bytes, same}
 use Rattle.tape.specs.Kinds
-use Rattle.tape.specs.ReadingInputs.{Sample, command, close}
+use Rattle.tape.specs.ReadingInputs.{SmallInput, command, close}
 use Rattle.layout.specs.Layout.{original}
 use Rattle.layout.specs.Outcome.{Outcome, answers, outcome, measured, laidOut}
 use Rattle.layout.specs.CourseSheet.{tapeOf, treeB}
@@ -20,7 +20,7 @@ bothAnswer o number place =
     cond (eqb number 0) (eqb ((measured o) .number) 0 && eqb (after .answer .number) 0)
     (answers (measured o) number place && answers (after .answer) number place && same (after .space) (7 ∷ 8 ∷ 9 ∷ []))
 
-abbrev pub allBothAnswer : List Sample → Bool
+abbrev pub allBothAnswer : List SmallInput → Bool
 allBothAnswer [] = true
 allBothAnswer (s ∷ ss) = bothAnswer (outcome original (s .width) (s .case) (s .text) (s .tape)) (s .number) (s .place) && allBothAnswer ss
 

@@ -1,5 +1,5 @@
 -- The laws that the functions' proofs cite.
-pub mod Limits
+pub mod RecordLimits
 pub mod Agreeing
 pub mod Replaying
-pub mod Tables
+pub mod SmallLists

@@ -10,4 +10,4 @@ pub mod Skips
 pub mod Scans
 pub mod Order
 pub mod Samples
-pub mod Limits
+pub mod ReadingLimits

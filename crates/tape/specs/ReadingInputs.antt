@@ -10,7 +10,7 @@ use Rattle.tape.specs.Tape.{Read, refused, got}
 use Rattle.tape.specs.Call.{readCall}
 
 -- a call and what it is answered: 0 where it is accepted, else the refusal's number and its place
-pub record Sample : Type 0 where
+pub record SmallInput : Type 0 where
   pub width : ℕ
   pub case : ℕ
   pub text : List ℕ
@@ -22,12 +22,12 @@ abbrev pub answeredAs : Read Tree → ℕ → ℕ → Bool
 answeredAs (refused f p) n q = eqb (number f) n && eqb p q
 answeredAs (got t p) n q = eqb n 0
 
-abbrev pub hold : List Sample → Bool
+abbrev pub hold : List SmallInput → Bool
 hold [] = true
 hold (s ∷ ss) = answeredAs (readCall (s .width) (s .case) (s .text) (s .tape)) (s .number) (s .place) && hold ss
 
 -- width 4, upper case
-abbrev pub sample : List ℕ → List ℕ → ℕ → ℕ → Sample
+abbrev pub sample : List ℕ → List ℕ → ℕ → ℕ → SmallInput
 sample text tape n p = record { width = 4; case = 1; text = text; tape = tape; number = n; place = p }
 
 -- the command c with the kind k and the span from s to e, each below 256
@@ -44,7 +44,7 @@ abbrev pub times : ℕ → List ℕ → List ℕ
 times zero x = []
 times (suc n) x = x ++ times n x
 
-abbrev pub smallInputs : List Sample
+abbrev pub smallInputs : List SmallInput
 smallInputs =
     -- document 01's table, but for 3 and 5, which are too long to write out, and 13, which needs a layout
     record { width = 17; case = 1; text = []; tape = []; number = 1; place = 0 }

@@ -3,7 +3,7 @@ use borrow.Author.Needs.{needs}
 use native.Mathlib.Omega.{arith}
 use mathlib.Core.Path.{_∙_, sym}
 use Rattle.desk_job.proofs.Printing.{job-printed}
-use Rattle.desk_job.proofs.Reading.{accepted-within}
+use Rattle.desk_job.proofs.HeaderReading.{accepted-within}
 use Rattle.desk_job.specs.Job.{printedJob}
 use Rattle.desk_job.proofs.print_job.Statement.{statement}
 use Rattle.desk_job.proofs.print_job.Tie as tie

@@ -2,7 +2,7 @@
 use borrow.Author.Needs.{needs}
 use native.Mathlib.Omega.{arith}
 use borrow.Author.Tests.{le-ltb, lt-ltb}
-use Rattle.desk_job.proofs.Reading.{answered-false, answered-true, command-whole}
+use Rattle.desk_job.proofs.HeaderReading.{answered-false, answered-true, command-whole}
 use Rattle.desk_job.specs.Job.{readHeader}
 use Rattle.desk_job.proofs.read_header.Statement.{statement}
 use Rattle.desk_job.proofs.read_header.Tie as tie

@@ -1,8 +1,8 @@
 -- `fits` meets its contract: its tests are those of the definition.
 use borrow.Author.Tests.{lt-leb}
-use Rattle.desk_job.proofs.Reading.{answered-false, answered-true}
+use Rattle.desk_job.proofs.HeaderReading.{answered-false, answered-true}
 use Rattle.replay_list.specs.Record.{fitting}
-use Rattle.replay_list.proofs.Limits.{layout-left}
+use Rattle.replay_list.proofs.RecordLimits.{layout-left}
 use borrow.Author.Needs.{needs}
 use Rattle.replay_list.proofs.record.fits.Statement.{statement}
 use Rattle.replay_list.proofs.record.fits.Tie as tie

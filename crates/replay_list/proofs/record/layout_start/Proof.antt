@@ -1,7 +1,7 @@
 -- `layout_start` meets its contract: the limits keep the sum small.
 use native.Mathlib.Omega.{arith}
 use borrow.Author.Needs.{needs}
-use Rattle.replay_list.proofs.Limits.{within-limits}
+use Rattle.replay_list.proofs.RecordLimits.{within-limits}
 use Rattle.replay_list.proofs.record.layout_start.Statement.{statement}
 use Rattle.replay_list.proofs.record.layout_start.Tie as tie
 

@@ -1,7 +1,7 @@
 -- `run_length` meets its contract: the limits keep the sum small.
 use native.Mathlib.Omega.{arith}
 use borrow.Author.Needs.{needs}
-use Rattle.replay_list.proofs.Limits.{run-within}
+use Rattle.replay_list.proofs.RecordLimits.{run-within}
 use Rattle.replay_list.proofs.record.run_length.Statement.{statement}
 use Rattle.replay_list.proofs.record.run_length.Tie as tie
 

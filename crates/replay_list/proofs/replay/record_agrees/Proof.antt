@@ -4,7 +4,7 @@ use native.Mathlib.Omega.{arith}
 use borrow.Author.Needs.{needs}
 use lib.ListN.{replicate}
 use lib.Seq.{length-take-le}
-use Rattle.replay_list.proofs.Limits.{within-limits}
+use Rattle.replay_list.proofs.RecordLimits.{within-limits}
 use Rattle.replay_list.proofs.Replaying.{between-same, run-copied, record-agrees-of}
 use Rattle.replay_list.specs.Record.{tapeStart, layoutStart, recordEnd}
 use Rattle.replay_list.proofs.replay.record_agrees.Statement.{statement}

@@ -1,7 +1,7 @@
 -- `replay_record` meets its contract: its tests are those of the definition.
 use borrow.Author.Needs.{needs}
 use native.Mathlib.Omega.{arith}
-use Rattle.desk_job.proofs.Reading.{answered-false, answered-true}
+use Rattle.desk_job.proofs.HeaderReading.{answered-false, answered-true}
 use Rattle.replay_list.proofs.Replaying.{cut-in-head, over-limit, cut-in-run, record-compared}
 use Rattle.replay_list.proofs.replay.replay_record.Statement.{statement}
 use Rattle.replay_list.proofs.replay.replay_record.Tie as tie

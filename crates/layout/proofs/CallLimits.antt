@@ -13,7 +13,7 @@ use Rattle.tape.specs.Tree.{Tree, hasChild, countListItems, copied}
 use Rattle.tape.specs.Tape.{refused, got, headAt}
 use Rattle.tape.specs.Call.{readCall}
 use Rattle.tape.specs.ReadingInputs.{file, close}
-use Rattle.tape.proofs.Limits.{manyWords, nested, text-accepted, text-refused, tape-accepted, tape-refused, nodes-accepted, nodes-refused}
+use Rattle.tape.proofs.ReadingLimits.{manyWords, nested, text-accepted, text-refused, tape-accepted, tape-refused, nodes-accepted, nodes-refused}
 use Rattle.layout.specs.Routines.{formatFile}
 use Rattle.layout.specs.FormatNode.{armsOf, routines, routineOf, formatNode}
 use Rattle.layout.specs.Calls.{walk, calls}
