@@ -1,5 +1,5 @@
 -- From what the calls promise to the demands.
-use mathlib.Core.Path.{_≡_, refl, sym, ap, subst, subst₂, _∙_}
+use mathlib.Core.Path.{_≡_, sym, ap, subst, subst₂, _∙_}
 use mathlib.Core.Bool.{Bool, true, false}
 use mathlib.Core.List.{List, _++_}
 use Prim.Native.Nat.{ℕ, _≤_, _<_}
@@ -8,7 +8,7 @@ use lib.ListN.{length, getD, drop, length-map, List·getD-map}
 use borrow.Author.Tests.{le-leb, lt-leb}
 use Rattle.basics.specs.Case.{toLowercase}
 use Rattle.context.specs.Cells.{Text, Cell, bytesOf, fresh}
-use Rattle.context.specs.Alike.{Agree, CellLike}
+use Rattle.context.specs.Alike.{CellLike}
 use Rattle.context.proofs.AlikeWrites.{like-at}
 use Rattle.tape.specs.declared.Fault.{Fault}
 use Rattle.tape.specs.Tree.{Tree}

@@ -5,14 +5,13 @@ use mathlib.Core.List.{List, _++_}
 use Prim.Native.Nat.{ℕ, _≤_, _<_}
 use lib.ListN.{length, getD, drop}
 use Rattle.basics.specs.Case.{toLowercase}
-use Rattle.context.specs.Cells.{Text, Origin, from, Cell, bytesOf, fresh}
+use Rattle.context.specs.Cells.{Text, Origin, from, bytesOf, fresh}
 use Rattle.context.specs.Alike.{Agree}
 use Rattle.tape.specs.declared.Fault.{Fault}
 use Rattle.tape.specs.Faults.{number}
 use Rattle.tape.specs.Tree.{Tree}
 use Rattle.tape.specs.Tape.{refused, got}
 use Rattle.tape.specs.Call.{readCall}
-use Rattle.layout.specs.declared.Answer.{Answer}
 use Rattle.layout.specs.Layout.{original, format}
 use Rattle.layout.specs.Outcome.{Result, answer, configOf, laidOut, measured, outcome}
 use Rattle.layout.specs.Masking.{MaskedPair, MaskedPairForLayout, SameLines, cellsAfter}

@@ -9,7 +9,7 @@ use lib.Dec.{eqb}
 use lib.ListN.{length, getD, take, length-map}
 use Rattle.context.specs.Cells.{Text, Cell, isWhiteSpace, toCase, tokenText, bytesOf, fresh, copiedFrom, spanCells, cellInCase}
 use Rattle.context.specs.Trim.{trim, trimmedLength}
-use Rattle.context.specs.Context.{Step, writeToken, writeKeyword, writeRaw, afterWrite, lastByte, cellIsWhiteSpace, endLine, finish}
+use Rattle.context.specs.Context.{Step, writeToken, writeKeyword, lastByte, cellIsWhiteSpace, endLine, finish}
 use Rattle.context.specs.Alike.{CellLike, Like}
 use Rattle.context.specs.declared.FormatConfig.{FormatConfig}
 use Rattle.context.specs.declared.State.{State}

@@ -10,7 +10,7 @@ use Rattle.context.specs.Cells.{Cell, isWhiteSpace, toCase, bytesOf, fix
 use Rattle.context.specs.Trim.{trim, trimmedLength, trimmedAfter}
 use Rattle.context.specs.Splice.{splice}
 use Rattle.context.specs.Context.{Step, afterWrite, lead, writeToken, writeKeyword, writeRaw, endsInNewline}
-use Rattle.context.specs.Store.{new, advanced, Store, appended, stored, withState, Room, Spent, Wrote}
+use Rattle.context.specs.Store.{advanced, Store, appended, stored, withState, Spent, Wrote}
 use Rattle.context.specs.declared.FormatConfig.{FormatConfig}
 use Rattle.context.specs.declared.State.{State}
 use Rattle.context.specs.declared.Position.{Position}

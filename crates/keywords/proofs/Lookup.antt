@@ -1,11 +1,11 @@
 -- The one entry that the index leads to is the only one that can be equal to a word.
 use mathlib.Core.Path.{_≡_, refl, sym, ap, _∙_, subst}
 use mathlib.Core.Bool.{Bool, true, false, cond, _&&_, _||_, false≢true}
-use mathlib.Core.Logic.{_⊎_, inl, inr, ⊎-elim}
+use mathlib.Core.Logic.{_⊎_, inl, inr}
 use mathlib.Core.List.{List, [], _∷_}
 use Prim.Native.Nat.{ℕ, _-_, _/_, _%_, _≤_, _<_}
 use native.Mathlib.Omega.{arith}
-use borrow.Author.Tests.{eqb-true, eq-eqb, ne-eqb}
+use borrow.Author.Tests.{eq-eqb, ne-eqb}
 use lib.Dec.{T, eqb, leb, eqb→eq, leb→le}
 use lib.ListN.{length, getD, length-map}
 use Rattle.keywords.specs.Names.{names}
@@ -14,7 +14,7 @@ use Rattle.basics.specs.Match.{match}
 use Rattle.keywords.specs.Words.{capitals, words, same, listed, isKeyword}
 use Rattle.keywords.specs.Table.{capital, entry, entries, words-rule}
 use Rattle.keywords.specs.Index.{shifts, key, code, wordCode, codes}
-use Rattle.keywords.proofs.Same.{both, same-lengths, same-equal}
+use Rattle.keywords.proofs.Same.{both, same-equal}
 use Rattle.keywords.proofs.Capitals.{capitals-at}
 use Rattle.keywords.proofs.Codes.{code-injective, code-long, code-first}
 

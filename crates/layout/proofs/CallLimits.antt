@@ -1,7 +1,7 @@
 -- The limits of a whole call: what both calls answer at each, and one past it.
 use Prim.Native.Nat.{ℕ, _+_, _*_, _≤_, _<_}
 use native.Mathlib.Omega.{arith}
-use mathlib.Core.Path.{_≡_, refl, ap}
+use mathlib.Core.Path.{_≡_, ap}
 use mathlib.Core.List.{List, [], _++_}
 use lib.ListN.{length, replicate}
 use borrow.Author.Tests.{le-leb}

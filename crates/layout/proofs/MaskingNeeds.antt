@@ -1,17 +1,17 @@
 -- The masking rule's conditions are met by a pair of texts that differ, which is put through the rule; and each is needed.
 use Prim.Native.Nat.{ℕ, zero, suc, _<_}
 use native.Mathlib.Omega.{arith}
-use mathlib.Core.Path.{_≡_, refl, sym, subst}
-use mathlib.Core.Bool.{Bool, true, false, not, _&&_, _||_}
+use mathlib.Core.Path.{_≡_, refl, subst}
+use mathlib.Core.Bool.{Bool, false, not, _&&_, _||_}
 use mathlib.Core.List.{List, [], _∷_}
 use lib.ListN.{length, getD}
-use lib.Dec.{T, T-not, eqb, ltb, lit<}
+use lib.Dec.{T, T-not, eqb, lit<}
 use lib.Ieee.Fits.{and-l, and-r}
 use borrow.Author.Tests.{ne-eqb}
 use Rattle.context.specs.Cells.{Text}
 use Rattle.tape.specs.Tree.{Tree}
 use Rattle.tape.specs.Tape.{Read, refused, got, readTree}
-use Rattle.tape.specs.Call.{readInput, readCall}
+use Rattle.tape.specs.Call.{readCall}
 use Rattle.layout.specs.Layout.{original}
 use Rattle.layout.specs.Outcome.{outcome}
 use Rattle.layout.specs.Masking.{Differ, MaskedPair, MaskedPairForLayout}

@@ -1,11 +1,11 @@
 -- The tests of the masking rule's conditions and of its claim say what the rule says.
-use Prim.Native.Nat.{ℕ, zero, suc, _+_, _-_, _≤_, _<_}
+use Prim.Native.Nat.{ℕ, zero, suc, _+_, _-_, _<_}
 use native.Mathlib.Omega.{arith}
-use mathlib.Core.Path.{_≡_, refl, sym, _∙_, subst, ap}
+use mathlib.Core.Path.{_≡_, refl, sym, _∙_, subst}
 use mathlib.Core.Bool.{Bool, true, false, not, cond, _&&_, _||_}
 use mathlib.Core.List.{List, [], _∷_}
 use lib.ListN.{length, getD, List·getD-eq-default}
-use lib.Dec.{T, T-not, not-T, eqb, leb, ltb, leb→le, ltb→lt, eqb→eq, eqb-refl, le→leb, lt→ltb}
+use lib.Dec.{T, T-not, eqb, leb, ltb, leb→le, ltb→lt, eqb→eq, eqb-refl, le→leb, lt→ltb}
 use lib.Ieee.Fits.{and-l, and-r, and-i}
 use borrow.Author.Tests.{eqb-true, eqb-false, ltb-false}
 use Rattle.context.specs.Cells.{Text, Origin, made, from, Cell, isWhiteSpace}

@@ -3,8 +3,8 @@ use Prim.Native.Nat.{ℕ, zero, suc}
 use mathlib.Core.Path.{_≡_, refl, sym, ap, _∙_, subst, subst₂}
 use mathlib.Core.Bool.{Bool, true, false}
 use mathlib.Core.List.{List, [], _∷_, _++_}
-use lib.ListN.{length, getD, drop}
-use lib.Dec.{leb, eqb}
+use lib.ListN.{length, drop}
+use lib.Dec.{leb}
 use Rattle.context.specs.Cells.{Text, Origin, made, from, Cell, bytesOf, fixed}
 use Rattle.context.specs.Alike.{LinesAgree, Like}
 use Rattle.context.proofs.Bytes.{bytes-append, bytes-fixed}

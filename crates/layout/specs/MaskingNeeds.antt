@@ -2,7 +2,6 @@
 -- the others and breaks the claim. Two things are not needed in this layout: that a masked place lies in some token, which
 -- `MaskedForLayout` leaves out, and of "strictly inside" the half about a token's first place; the last place is (the fifth pair).
 use Prim.Native.Nat.{ℕ}
-use Prim.Native.String.{String}
 use mathlib.Core.Path.{_≡_}
 use mathlib.Core.Bool.{Bool, true, false, not, _&&_, _||_}
 use mathlib.Core.List.{List, [], _∷_}
@@ -15,7 +14,7 @@ use Rattle.tape.specs.Tree.{Children, done, Tree}
 use Rattle.tape.specs.Tape.{Read, refused, got, readTree}
 use Rattle.tape.specs.Call.{readCall}
 use Rattle.layout.specs.Layout.{original}
-use Rattle.layout.specs.Outcome.{Outcome, outcome}
+use Rattle.layout.specs.Outcome.{outcome}
 use Rattle.layout.specs.Masking.{AlikeByLines}
 use Rattle.layout.specs.CourseSheet.{root, tok, nod, tapeOf, isLaidOut}
 use Rattle.layout.specs.MaskingTests.{Condition, sameLength, asciiTexts, noNewline, inSomeToken, strictlyInside, inQuotes, notCopied, noWhiteSpaceEnd, Asks, holds, holdsForLayout, alikeByLines}

@@ -5,7 +5,7 @@ use mathlib.Core.Bool.{Bool, true, false, not, cond, _&&_, _||_}
 use mathlib.Core.List.{List, [], _∷_}
 use lib.ListN.{length, getD}
 use lib.Dec.{T, eqb, leb, ltb}
-use Rattle.context.specs.Cells.{Text, Origin, made, from, Cell, bytesOf, isWhiteSpace}
+use Rattle.context.specs.Cells.{Text, Origin, made, from, Cell, isWhiteSpace}
 use Rattle.tape.specs.declared.Head.{Head}
 use Rattle.tape.specs.declared.Place.{Place}
 use Rattle.tape.specs.declared.Place.the-variants.{Nowhere, At}

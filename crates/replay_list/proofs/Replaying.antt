@@ -1,7 +1,7 @@
 -- A record's runs, what a record comes to, and the replay from a record on.
 use mathlib.Core.Path.{_≡_, refl, sym, ap, subst, _∙_}
 use mathlib.Core.Bool.{Bool, true, false, cond, _&&_, _||_}
-use mathlib.Core.List.{List, [], _∷_, _++_}
+use mathlib.Core.List.{List, _∷_, _++_}
 use Prim.Native.Nat.{ℕ, zero, suc, _+_, _-_, _≤_, _<_}
 use native.Mathlib.Omega.{arith}
 use native.Mathlib.Nat.{le-of-suc-le-suc, not-suc-le-zero}
@@ -18,7 +18,6 @@ use Rattle.replay_list.specs.declared.RecordHead.{RecordHead}
 use Rattle.replay_list.specs.declared.Verdict.{Verdict}
 use Rattle.replay_list.specs.declared.Verdict.the-variants.{Broken, Compared}
 use Rattle.replay_list.specs.declared.Tally.{Tally}
-use Rattle.replay_list.specs.declared.Replayed.{Replayed}
 use Rattle.replay_list.specs.declared.Replayed.the-variants.{Bad, Whole}
 use Rattle.replay_list.specs.Record.{numberAt, headOf, fitting, recordEnd, between, textOf, tapeOf, layoutOf}
 use Rattle.replay_list.specs.Agreement.{callsAgree}

@@ -17,7 +17,7 @@ use Rattle.tape.specs.declared.Place.the-variants.{Nowhere, At}
 use Rattle.tape.specs.Tree.{Children, Tree, height}
 use Rattle.tape.specs.Tape.{headAt, Command, ends, faulty, opens, isToken, closes, Read, refused, got, andThen, byRoot, byEnd, commandAt, checkedAt, readChildren, readTree, verdict}
 use Rattle.tape.specs.Call.{firstNonAscii, byPlace, readInput, readCall}
-use Rattle.tape.specs.SpelledAt.{AcceptedTape, AcceptedCall, NodeAt}
+use Rattle.tape.specs.SpelledAt.{AcceptedTape, AcceptedCall}
 use Rattle.tape.proofs.Facts.{framed-of, known-of}
 use Rattle.tape.proofs.Trees.{spelled-end}
 use Rattle.tape.proofs.Reading.{held}

@@ -1,17 +1,16 @@
 -- `keywords::code_of` meets its contract: the bytes from i on are letters, and make the code.
 use mathlib.Core.Path.{_≡_, sym, _∙_, subst}
-use mathlib.Core.Bool.{true, false, _&&_}
+use mathlib.Core.Bool.{false, _&&_}
 use mathlib.Core.List.{List}
-use Prim.Native.Nat.{ℕ, suc, _+_, _*_, _-_, _≤_, _<_}
+use Prim.Native.Nat.{ℕ, _-_, _≤_, _<_}
 use native.Mathlib.Omega.{arith}
 use borrow.Author.Needs.{needs}
 use borrow.Author.Tests.{le-leb, lt-leb}
-use lib.Dec.{T, leb}
-use lib.ListN.{length, drop, getD, length-map, length-drop}
+use lib.Dec.{leb}
+use lib.ListN.{length, getD, length-map}
 use Rattle.basics.specs.Case.{toUppercase}
 use Rattle.keywords.specs.Words.{capitals}
-use Rattle.keywords.specs.Table.{capital}
-use Rattle.keywords.specs.Index.{code, wordCode}
+use Rattle.keywords.specs.Index.{wordCode}
 use Rattle.keywords.proofs.Capitals.{capitals-at}
 use Rattle.keywords.proofs.Codes.{Coded, coded-none, coded-fits, coded-more, coded-all, no-capital}
 use Rattle.keywords.proofs.code_of.Statement.{statement}

@@ -3,7 +3,6 @@ use Prim.Native.Nat.{_-_, _≤_, _<_}
 use native.Mathlib.Omega.{arith}
 use lib.ListN.{length}
 use Rattle.tape.proofs.Skips.{Skipping, skip-first, skip-low, skip-close, skip-open, skip-token, skip-last}
-use borrow.Author.Needs.{needs}
 use Rattle.tape.proofs.scan.skip.Statement.{statement}
 use Rattle.tape.proofs.scan.skip.Tie as tie
 
