@@ -66,12 +66,13 @@ WEAKENINGS = {
         (BOTH_PROOF, LAYOUT_PROOF, LAYOUT_PROOF.replace("tape m xs", "tape (pair-for-layout width case a b tape m) xs")),
         (BOTH_PROOF, "TwoCalls.{masking-original, ", "TwoCalls.{masking-original, pair-for-layout, "),
     ],
-    "printing a job says nothing of the buffer": [
+    "printing a job asks for an empty job": [
         (
             "desk_job/src/lib.rt",
-            "    ensures { λ r. ⌜ _≡_ {A = Written} (record { end = r; space = now (out .exit) }) (written 0 (printed more (now (job .entry)) (length (now (out .entry)))) (now (out .entry))) ⌝ }\n",
-            "    ensures { λ r. ⌜ r ≡ (written 0 (printed more (now (job .entry)) (length (now (out .entry)))) (now (out .entry))) .end ⌝ }\n",
-        ),
+            "    ensures { λ r. ⌜ _≡_ {A = Written} (record { end = r; space = now (out .exit) }) (written 0 (printed more",
+            "    requires { ⌜ length (now job) ≡ 0 ⌝ }\n"
+            "    ensures { λ r. ⌜ _≡_ {A = Written} (record { end = r; space = now (out .exit) }) (written 0 (printed more",
+        )
     ],
 }
 
