@@ -1,7 +1,7 @@
 -- What an accepted tape, and an accepted call, give to those that walk the tape.
 use Prim.Native.Nat.{ℕ, _+_, _≤_}
 use native.Mathlib.Omega.{arith}
-use mathlib.Core.Path.{_≡_, refl, sym, ap, _∙_}
+use mathlib.Core.Path.{_≡_, refl, sym, _∙_}
 use mathlib.Core.Bool.{Bool, true, false, cond}
 use mathlib.Core.List.{List}
 use lib.ListN.{length}
@@ -18,22 +18,22 @@ use Rattle.tape.specs.Tree.{Children, Tree, height}
 use Rattle.tape.specs.Tape.{headAt, Command, ends, faulty, opens, isToken, closes, Read, refused, got, andThen, byRoot, byEnd, commandAt, checkedAt, readChildren, readTree, verdict}
 use Rattle.tape.specs.Call.{firstNonAscii, byPlace, readInput, readCall}
 use Rattle.tape.specs.SpelledAt.{AcceptedTape, AcceptedCall}
-use Rattle.tape.proofs.Facts.{framed-of, known-of}
+use Rattle.tape.proofs.KnownCommands.{framed-of, known-of}
 use Rattle.tape.proofs.Trees.{spelled-end}
 use Rattle.tape.proofs.Reading.{held}
 
-no-tree : {f : Fault} {p : ℕ} {e : Bool} → _≡_ {A = Checked} (Refused f p) (Accepted e) → ⊥
+no-tree : {f : Fault} {p : ℕ} → _≡_ {A = Checked} (Refused f p) Accepted → ⊥
 no-tree u = let z : _≡_ {A = ℕ} 0 1 = cc in omega arith
 
-pub accepted-tape : (len : ℕ) (tape : List ℕ) {errors : Bool} → verdict (readTree len tape) ≡ Accepted errors → AcceptedTape len tape
+pub accepted-tape : (len : ℕ) (tape : List ℕ) → verdict (readTree len tape) ≡ Accepted → AcceptedTape len tape
 unfolding readTree
-accepted-tape len tape {errors} v = top (checkedAt len tape 0 0) refl v
+accepted-tape len tape v = top (checkedAt len tape 0 0) refl v
   where
     after : Head → Children → ℕ → Read Tree
     after h kids p = byEnd (commandAt tape p) (record { head = h; kids = kids }) p
 
     end : (kids : Children) (p : ℕ) → checkedAt len tape 0 0 ≡ opens → readChildren len tape (length tape) 1 11 ≡ got kids p
-        → (x : Command) → commandAt tape p ≡ x → verdict (byEnd x (record { head = headAt tape 0; kids = kids }) p) ≡ Accepted errors → AcceptedTape len tape
+        → (x : Command) → commandAt tape p ≡ x → verdict (byEnd x (record { head = headAt tape 0; kids = kids }) p) ≡ Accepted → AcceptedTape len tape
     end kids p e r ends w u =
         let s = held len tape (length tape) 1 11 kids p r in
         let out : p ≡ length tape = omega (arith, s .ends-at, spelled-end len tape 11 kids (s .spelled), framed-of tape p w) in
@@ -52,11 +52,11 @@ accepted-tape len tape {errors} v = top (checkedAt len tape 0 0) refl v
     end kids p e r closes w u = absurd (no-tree u)
 
     mid : (r : Read Children) → checkedAt len tape 0 0 ≡ opens → readChildren len tape (length tape) 1 11 ≡ r
-        → verdict (andThen r (after (headAt tape 0))) ≡ Accepted errors → AcceptedTape len tape
+        → verdict (andThen r (after (headAt tape 0))) ≡ Accepted → AcceptedTape len tape
     mid (refused f p) e w u = absurd (no-tree u)
     mid (got kids p) e w u = end kids p e w (commandAt tape p) refl u
 
-    top : (x : Command) → checkedAt len tape 0 0 ≡ x → verdict (byRoot tape x (λ h. andThen (readChildren len tape (length tape) 1 11) (after h))) ≡ Accepted errors
+    top : (x : Command) → checkedAt len tape 0 0 ≡ x → verdict (byRoot tape x (λ h. andThen (readChildren len tape (length tape) 1 11) (after h))) ≡ Accepted
         → AcceptedTape len tape
     top ends e u = absurd (no-tree u)
     top (faulty f) e u = absurd (no-tree u)
@@ -64,19 +64,16 @@ accepted-tape len tape {errors} v = top (checkedAt len tape 0 0) refl v
     top isToken e u = absurd (no-tree u)
     top closes e u = absurd (no-tree u)
 
-same-flag : {a b : Bool} → _≡_ {A = Checked} (Accepted a) (Accepted b) → a ≡ b
-same-flag e = cc
-
-pub accepted-call : (width case : ℕ) (text tape : List ℕ) {errors : Bool} → verdict (readCall width case text tape) ≡ Accepted errors
-    → AcceptedCall width case text tape errors
+pub accepted-call : (width case : ℕ) (text tape : List ℕ) → verdict (readCall width case text tape) ≡ Accepted
+    → AcceptedCall width case text tape
 unfolding readCall readInput
-accepted-call width case text tape {errors} v =
+accepted-call width case text tape v =
     go (ltb 16 width) (ltb 1 case) (ltb 262144 (length text)) (firstNonAscii 0 text) (ltb 262144 (length tape)) refl refl refl refl refl v
   where
     go : (w c t : Bool) (h : Place) (n : Bool)
         → ltb 16 width ≡ w → ltb 1 case ≡ c → ltb 262144 (length text) ≡ t → firstNonAscii 0 text ≡ h → ltb 262144 (length tape) ≡ n
-        → verdict (cond w (refused IndentWidth 0) (cond c (refused CaseByte 0) (cond t (refused TextTooLong 0) (byPlace h (cond n (refused TapeTooLong 0) (readTree (length text) tape)))))) ≡ Accepted errors
-        → AcceptedCall width case text tape errors
+        → verdict (cond w (refused IndentWidth 0) (cond c (refused CaseByte 0) (cond t (refused TextTooLong 0) (byPlace h (cond n (refused TapeTooLong 0) (readTree (length text) tape)))))) ≡ Accepted
+        → AcceptedCall width case text tape
     go true c t h n e1 e2 e3 e4 e5 u = absurd (no-tree u)
     go false true t h n e1 e2 e3 e4 e5 u = absurd (no-tree u)
     go false false true h n e1 e2 e3 e4 e5 u = absurd (no-tree u)
@@ -92,7 +89,6 @@ accepted-call width case text tape {errors} v =
           tape-fits = ltb-false 262144 (length tape) e5;
           accepted = a;
           read = rw (e1, e2, e3, e4, e5) (a .read);
-          has-error = same-flag (sym (ap verdict (a .read)) ∙ u);
         }
 
 -- two ASCII texts of one length are refused alike

@@ -1,233 +1,330 @@
--- The loop of the check: the verdict is that on the rest of the tape, a function of the place and of the number of open nodes,
--- joined with the Error nodes seen so far.
-use Prim.Native.Nat.{ℕ, zero, suc, _+_, _-_, _≤_, _<_}
+-- The loop of the check: what is read and noted is what is read and noted from the place on, a function of the place, of the open nodes and of the
+-- facts noted so far.
+use Prim.Native.Nat.{ℕ, zero, suc, _+_, _-_, _*_, _/_, _≤_, _<_}
 use native.Mathlib.Omega.{arith}
 use native.Mathlib.Numerals.{add-one}
 use mathlib.Core.Path.{_≡_, refl, sym, ap, _∙_, subst}
-use mathlib.Core.Bool.{Bool, true, false, _||_, or-false}
-use mathlib.Core.List.{List}
-use lib.ListN.{length}
-use lib.Dec.{eqb}
+use mathlib.Core.Bool.{true, false, not}
+use mathlib.Core.List.{List, [], _∷_}
+use lib.ListN.{length, getD, set, length-set, replicate}
+use lib.Seq.{getD-set-same, getD-set-other}
 use borrow.Author.Tests.{ne-eqb}
 use Rattle.tape.specs.declared.Head.{Head}
 use Rattle.tape.specs.declared.Fault.{Fault}
 use Rattle.tape.specs.declared.Fault.the-variants.{NotOneRoot}
-use Rattle.tape.specs.declared.Finding.the-variants.{Sound, Faulty}
 use Rattle.tape.specs.declared.Checked.{Checked}
 use Rattle.tape.specs.declared.Checked.the-variants.{Accepted, Refused}
-use Rattle.tape.specs.Kinds.{Error}
-use Rattle.tape.specs.Tree.{Children, token, node, hasErrorBelow, hasError}
-use Rattle.tape.specs.Tape.{headAt, Command, ends, faulty, opens, isToken, closes, Read, refused, got, andThen, byRoot, byEnd, commandAt, checkOpen, checkToken, checked, checkedAt, readTree, verdict}
-use Rattle.tape.proofs.Facts.{known-of, checked-of, at-end}
+use Rattle.tape.specs.Tree.{Children, token, node, Tree}
+use Rattle.tape.specs.Tape.{headAt, Command, ends, faulty, opens, isToken, closes, Finding, Sound, Faulty, Read, refused, got, andThen, byRoot, byEnd, commandAt, checkOpen, checkToken, checked, checkedAt, readTree, verdict, sound, Tells}
+use Rattle.tape.specs.NodeFacts.{Noted, NotedOf}
+use Rattle.tape.proofs.KnownCommands.{known-of, checked-of, at-end}
 use Rattle.tape.proofs.Reading.{step, read, reads}
+use Rattle.tape.proofs.NotedFacts.{openedAt, fill, fillTree, tree-noted}
+use Rattle.tape.proofs.Acceptance.{accepted-tape}
 
--- the verdict where errors says whether an Error node was seen before
-abbrev pub seen : Bool → Checked → Checked
-seen errors (Accepted e) = Accepted (errors || e)
-seen errors (Refused f p) = Refused f p
+then-each : {A B : Type 0} (r : Read A) (k l : A → ℕ → Read B) → ((x : A) (q : ℕ) → k x q ≡ l x q) → andThen r k ≡ andThen r l
+then-each (refused f p) k l e = refl
+then-each (got x q) k l e = e x q
 
-seen-seen : (a b : Bool) (x : Checked) → seen a (seen b x) ≡ seen (a || b) x
-seen-seen true b (Accepted e) = refl
-seen-seen false b (Accepted e) = refl
-seen-seen a b (Refused f p) = refl
+then-then : {A B C : Type 0} (r : Read A) (k : A → ℕ → Read B) (l : B → ℕ → Read C) → andThen (andThen r k) l ≡ andThen r (λ x q. andThen (k x q) l)
+then-then (refused f p) k l = refl
+then-then (got x q) k l = refl
 
--- a reading, and the verdict on what comes after it
-abbrev pub readThen : Read Children → (ℕ → Checked) → Checked
-readThen (refused f p) k = Refused f p
-readThen (got c p) k = seen (hasErrorBelow c) (k p)
+set-below : (xs : List ℕ) (n v m : ℕ) → v * 11 ≤ m → ((j : ℕ) → getD xs j 0 * 11 ≤ m) → (j : ℕ) → getD (set xs n v) j 0 * 11 ≤ m
+set-below [] n v m h k j = k j
+set-below (x ∷ xs) zero v m h k zero = h
+set-below (x ∷ xs) zero v m h k (suc j) = k (suc j)
+set-below (x ∷ xs) (suc n) v m h k zero = k zero
+set-below (x ∷ xs) (suc n) v m h k (suc j) = set-below xs n v m h (λ i. k (suc i)) j
 
-readThen-token : (r : Read Children) (h : Head) (k : ℕ → Checked) → readThen (andThen r (λ x q. got (token h x) q)) k ≡ readThen r k
-unfolding hasErrorBelow
-readThen-token (refused f p) h k = refl
-readThen-token (got c p) h k = refl
-
-readThen-rest : (h : Head) (c : Children) (r : Read Children) (k : ℕ → Checked)
-    → readThen (andThen r (λ y m. got (node h c y) m)) k ≡ seen (eqb (h .kind) Error) (seen (hasErrorBelow c) (readThen r k))
-unfolding hasErrorBelow
-readThen-rest h c (refused f p) k = refl
-readThen-rest h c (got d p) k =
-    sym (ap (seen (eqb (h .kind) Error)) (seen-seen (hasErrorBelow c) (hasErrorBelow d) (k p)) ∙ seen-seen (eqb (h .kind) Error) (hasErrorBelow c || hasErrorBelow d) (k p))
-
-readThen-node : (h : Head) (r : Read Children) (g : ℕ → Read Children) (k : ℕ → Checked)
-    → readThen (andThen r (λ x q. andThen (g q) (λ y m. got (node h x y) m))) k ≡ seen (eqb (h .kind) Error) (readThen r (λ q. readThen (g q) k))
-readThen-node h (refused f p) g k = refl
-readThen-node h (got c p) g k = readThen-rest h c (g p) k
-
--- the verdict after the root's close
-abbrev pub endVerdict : Command → ℕ → Checked
-endVerdict ends p = Accepted false
-endVerdict (faulty f) p = Refused f p
-endVerdict opens p = Refused NotOneRoot p
-endVerdict isToken p = Refused NotOneRoot p
-endVerdict closes p = Refused NotOneRoot p
-
-readThen-end : (tape : List ℕ) (h : Head) (r : Read Children)
-    → verdict (andThen r (λ kids p. byEnd (commandAt tape p) (record { head = h; kids = kids }) p))
-    ≡ seen (eqb (h .kind) Error) (readThen r (λ p. endVerdict (commandAt tape p) p))
-unfolding hasError
-readThen-end tape h (refused f p) = refl
-readThen-end tape h (got kids p) = go (commandAt tape p)
-  where
-    go : (x : Command) → verdict (byEnd x (record { head = h; kids = kids }) p) ≡ seen (eqb (h .kind) Error) (seen (hasErrorBelow kids) (endVerdict x p))
-    go ends = ap (λ x. Accepted (eqb (h .kind) Error || x)) (sym (or-false (hasErrorBelow kids)))
-    go (faulty f) = refl
-    go opens = refl
-    go isToken = refl
-    go closes = refl
+-- after the root's close: the facts, where nothing follows
+abbrev pub endNotes : Command → ℕ → List ℕ → Read (List ℕ)
+endNotes ends p fs = got fs p
+endNotes (faulty f) p fs = refused f p
+endNotes opens p fs = refused NotOneRoot p
+endNotes isToken p fs = refused NotOneRoot p
+endNotes closes p fs = refused NotOneRoot p
 
 module _ (len : ℕ) (tape : List ℕ) where
-  -- the verdict on the tape from p on, after the root's open, with so many nodes open
-  unfoldable pub rest : ℕ → ℕ → Checked
-  rest zero p = endVerdict (commandAt tape p) p
-  rest (suc d) p = readThen (read len tape (suc d) p) (λ q. rest d q)
+  -- what is read and noted of the whole tape
+  abbrev pub notes : List ℕ → Read (List ℕ)
+  notes fs = andThen (readTree len tape) (λ t p. got (fillTree t fs) p)
 
-  rest-step : (d p : ℕ) (x : Command) → checkedAt len tape (suc d) p ≡ x → rest (suc d) p ≡ readThen (step len tape (read len tape) (suc d) p x) (λ q. rest d q)
+  -- the same of the tape from p on, after the root's open, with so many nodes open
+  unfoldable pub rest : List ℕ → ℕ → ℕ → List ℕ → Read (List ℕ)
+  rest parents zero p fs = endNotes (commandAt tape p) p fs
+  rest parents (suc d) p fs = andThen (read len tape (suc d) p) (λ c q. rest parents d q (fill (getD parents (suc d) 0) c fs))
+
+  rest-step : (parents : List ℕ) (d p : ℕ) (fs : List ℕ) (x : Command) → checkedAt len tape (suc d) p ≡ x
+      → rest parents (suc d) p fs ≡ andThen (step len tape (read len tape) (suc d) p x) (λ c q. rest parents d q (fill (getD parents (suc d) 0) c fs))
   unfolding rest
-  rest-step d p x e = ap (λ r. readThen r (λ q. rest d q)) (reads len tape (suc d) p ∙ ap (step len tape (read len tape) (suc d) p) e)
+  rest-step parents d p fs x e =
+      ap (λ r. andThen r (λ c q. rest parents d q (fill (getD parents (suc d) 0) c fs))) (reads len tape (suc d) p ∙ ap (step len tape (read len tape) (suc d) p) e)
 
-  rest-open : (d p : ℕ) → checkedAt len tape (suc d) p ≡ opens → rest (suc d) p ≡ seen (eqb (headAt tape p .kind) Error) (rest (suc (suc d)) (p + 11))
+  -- nodes that are not open do not count
+  rest-set : (parents : List ℕ) (e i d p : ℕ) (fs : List ℕ) → d < e → rest (set parents e i) d p fs ≡ rest parents d p fs
   unfolding rest
-  rest-open d p e = rest-step d p opens e ∙ readThen-node (headAt tape p) (read len tape (suc (suc d)) (p + 11)) (λ q. read len tape (suc d) q) (λ q. rest d q)
+  rest-set parents e i zero p fs h = refl
+  rest-set parents e i (suc d) p fs h =
+      then-each (read len tape (suc d) p) _ _
+      (λ c q.
+      ap (λ (x : ℕ). rest (set parents e i) d q (fill x c fs)) (getD-set-other parents e (suc d) i 0 (λ z. omega arith))
+      ∙ rest-set parents e i d q (fill (getD parents (suc d) 0) c fs) (omega arith))
 
-  rest-token : (d p : ℕ) → checkedAt len tape (suc d) p ≡ isToken → rest (suc d) p ≡ rest (suc d) (p + 11)
-  unfolding rest
-  rest-token d p e = rest-step d p isToken e ∙ readThen-token (read len tape (suc d) (p + 11)) (headAt tape p) (λ q. rest d q)
+  rest-open : (parents : List ℕ) (d p : ℕ) (fs : List ℕ) → suc (suc d) < length parents → checkedAt len tape (suc d) p ≡ opens
+      → rest parents (suc d) p fs
+      ≡ rest (set parents (suc (suc d)) (p / 11)) (suc (suc d)) (p + 11) (openedAt (p / 11) (getD parents (suc d) 0) (headAt tape p .kind) fs)
+  unfolding rest fill headAt
+  rest-open parents d p fs l e =
+      rest-step parents d p fs opens e
+      ∙ then-then (read len tape (suc (suc d)) (p + 11)) _ _
+      ∙ then-each (read len tape (suc (suc d)) (p + 11)) _ _
+      (λ kids m.
+      then-then (read len tape (suc d) m) _ _
+      ∙ sym (rest-set parents (suc (suc d)) (p / 11) (suc d) m (fill (p / 11) kids gs) (omega arith))
+      ∙ ap (λ (x : ℕ). rest (set parents (suc (suc d)) (p / 11)) (suc d) m (fill x kids gs)) (sym (getD-set-same parents (suc (suc d)) (p / 11) 0 l)))
+    where
+      gs : List ℕ
+      gs = openedAt (p / 11) (getD parents (suc d) 0) (headAt tape p .kind) fs
 
-  seen-none : (x : Checked) → seen false x ≡ x
-  seen-none (Accepted e) = refl
-  seen-none (Refused f p) = refl
+  rest-token : (parents : List ℕ) (d p : ℕ) (fs : List ℕ) → checkedAt len tape (suc d) p ≡ isToken → rest parents (suc d) p fs ≡ rest parents (suc d) (p + 11) fs
+  unfolding rest fill
+  rest-token parents d p fs e = rest-step parents d p fs isToken e ∙ then-then (read len tape (suc d) (p + 11)) _ _
 
-  rest-close : (d p : ℕ) → checkedAt len tape (suc d) p ≡ closes → rest (suc d) p ≡ rest d (p + 1)
-  unfolding hasErrorBelow
-  rest-close d p e = rest-step d p closes e ∙ seen-none (rest d (p + 1))
+  rest-close : (parents : List ℕ) (d p : ℕ) (fs : List ℕ) → checkedAt len tape (suc d) p ≡ closes → rest parents (suc d) p fs ≡ rest parents d (p + 1) fs
+  unfolding fill
+  rest-close parents d p fs e = rest-step parents d p fs closes e
 
   -- the first command
-  root : (x : Command) → checkedAt len tape 0 0 ≡ x → verdict (readTree len tape)
-      ≡ verdict (byRoot tape x (λ h. andThen (read len tape 1 11) (λ kids p. byEnd (commandAt tape p) (record { head = h; kids = kids }) p)))
+  root : (fs : List ℕ) (x : Command) → checkedAt len tape 0 0 ≡ x → notes fs
+      ≡ andThen (byRoot tape x (λ h. andThen (read len tape 1 11) (λ kids p. byEnd (commandAt tape p) (record { head = h; kids = kids }) p))) (λ t p. got (fillTree t fs) p)
   unfolding readTree
-  root x e = ap (λ y. verdict (byRoot tape y (λ h. andThen (read len tape 1 11) (λ kids p. byEnd (commandAt tape p) (record { head = h; kids = kids }) p)))) e
+  root fs x e =
+      ap (λ y. andThen (byRoot tape y (λ h. andThen (read len tape 1 11) (λ kids p. byEnd (commandAt tape p) (record { head = h; kids = kids }) p))) (λ t p. got (fillTree t fs) p)) e
 
-  root-open : checkedAt len tape 0 0 ≡ opens → verdict (readTree len tape) ≡ seen (eqb (headAt tape 0 .kind) Error) (rest 1 11)
-  unfolding rest
-  root-open e = root opens e ∙ readThen-end tape (headAt tape 0) (read len tape 1 11)
+  end-noted : (x : Command) (t : Tree) (p : ℕ) (fs : List ℕ) → andThen (byEnd x t p) (λ u q. got (fillTree u fs) q) ≡ endNotes x p (fillTree t fs)
+  end-noted ends t p fs = refl
+  end-noted (faulty f) t p fs = refl
+  end-noted opens t p fs = refl
+  end-noted isToken t p fs = refl
+  end-noted closes t p fs = refl
 
-  pub no-root : length tape ≡ 0 → verdict (readTree len tape) ≡ Refused NotOneRoot 0
-  no-root e = root ends (checked-of len tape 0 0 (at-end tape 0 (omega arith))) ∙ ap (Refused NotOneRoot) e
+  root-open : (parents fs : List ℕ) → getD parents 0 0 ≡ 0 → 1 < length parents → checkedAt len tape 0 0 ≡ opens
+      → notes fs ≡ rest (set parents 1 0) 1 11 (openedAt 0 (getD parents 0 0) (headAt tape 0 .kind) fs)
+  unfolding rest headAt
+  root-open parents fs z l e =
+      root fs opens e
+      ∙ then-then (read len tape 1 11) _ _
+      ∙ then-each (read len tape 1 11) _ _
+      (λ kids p.
+      end-noted (commandAt tape p) (record { head = headAt tape 0; kids = kids }) p fs
+      ∙ ap (λ (x : ℕ). endNotes (commandAt tape p) p (fill 0 kids (openedAt 0 x (headAt tape 0 .kind) fs))) (sym z)
+      ∙ ap (λ (x : ℕ). endNotes (commandAt tape p) p (fill x kids (openedAt 0 (getD parents 0 0) (headAt tape 0 .kind) fs))) (sym (getD-set-same parents 1 0 0 l)))
 
-  -- what the loop knows at the place p with so many nodes open: either nothing was read, or the verdict is that on the rest
-  pub record Checking (depth p : ℕ) (errors : Bool) : Type 0 where
+  -- what the loop knows at the place p: either nothing was read, or what is noted is what is noted from here on; no open node stands further on
+  pub record Checking (fs₀ : List ℕ) (depth p : ℕ) (parents fs : List ℕ) : Type 0 where
     pub low : depth ≤ 64
-    pub first : p ≡ 0 → (depth ≡ 0) × (errors ≡ false)
-    pub later : 0 < p → verdict (readTree len tape) ≡ seen errors (rest depth p)
+    pub many : length parents ≡ 65
+    pub same : length fs ≡ length fs₀
+    pub behind : (j : ℕ) → getD parents j 0 * 11 ≤ p
+    pub first : p ≡ 0 → (depth ≡ 0) × (getD parents 0 0 ≡ 0) × (fs ≡ fs₀)
+    pub later : 0 < p → notes fs₀ ≡ rest parents depth p fs
 
-  pub start : Checking 0 0 false
-  start = record { low = omega arith; first = λ _. (refl, refl); later = λ z. absurd (omega arith) }
+  none-open : (n j : ℕ) → _≡_ {A = ℕ} (getD (replicate n 0) j 0) 0
+  none-open zero j = refl
+  none-open (suc n) zero = refl
+  none-open (suc n) (suc j) = none-open n j
 
-  -- at the first command, or with a node open, the checked command decides
-  within : (depth p : ℕ) (errors : Bool) → Checking depth p errors → (depth ≡ 0 → p ≡ 0) → {f : Fault} → checkedAt len tape depth p ≡ faulty f
-      → verdict (readTree len tape) ≡ Refused f p
-  within depth zero errors c z {f} e = root (faulty f) (subst (λ (d : ℕ). checkedAt len tape d 0 ≡ faulty f) (c .first refl .0) e)
-  within zero (suc p) errors c z e = absurd (omega (arith, z refl))
-  within (suc d) (suc p) errors c z {f} e = c .later (omega arith) ∙ ap (seen errors) (rest-step d (suc p) (faulty f) e)
+  pub start : (fs₀ : List ℕ) → Checking fs₀ 0 0 (replicate 65 0) fs₀
+  start fs₀ =
+      record {
+        low = omega arith;
+        many = refl;
+        same = refl;
+        behind = λ j. omega (arith, none-open 65 j);
+        first = λ _. (refl, refl, refl);
+        later = λ z. absurd (omega arith);
+      }
 
-  -- with a node open something was read
-  inside : (depth p : ℕ) (errors : Bool) → Checking depth p errors → (depth ≡ 0 → ⊥) → verdict (readTree len tape) ≡ seen errors (rest depth p)
-  inside depth zero errors c z = absurd (z (c .first refl .0))
-  inside depth (suc p) errors c z = c .later (omega arith)
+  -- ── what the answer is
 
-  -- after the root's close the command decides
-  after : (p : ℕ) (errors : Bool) → Checking 0 p errors → 0 < p → verdict (readTree len tape) ≡ seen errors (endVerdict (commandAt tape p) p)
-  unfolding rest
-  after p errors c z = c .later z
+  no-got : {f : Fault} {p q : ℕ} {fs : List ℕ} → _≡_ {A = Read (List ℕ)} (got fs q) (refused f p) → ⊥
+  no-got e = let z : _≡_ {A = ℕ} 0 1 = cc in omega arith
 
-  module _ {depth p : ℕ} {errors : Bool} (c : Checking depth p errors) where
+  same-refusal : {f g : Fault} {p q : ℕ} → _≡_ {A = Read (List ℕ)} (refused f p) (refused g q) → _≡_ {A = Checked} (Refused g q) (Refused f p)
+  same-refusal e = cc
+
+  same-facts : {fs gs : List ℕ} {p q : ℕ} → _≡_ {A = Read (List ℕ)} (got fs p) (got gs q) → fs ≡ gs
+  same-facts e = cc
+
+  refusing : (fs₀ : List ℕ) {f : Fault} {p : ℕ} → notes fs₀ ≡ refused f p → (gs : List ℕ) → (Refused f p ≡ verdict (readTree len tape)) × NotedOf (readTree len tape) gs
+  refusing fs₀ {f} {p} e gs = go (readTree len tape) e
+    where
+      go : (r : Read Tree) → andThen r (λ t q. got (fillTree t fs₀) q) ≡ refused f p → (Refused f p ≡ verdict r) × NotedOf r gs
+      go (refused g q) w = (same-refusal w, tt)
+      go (got t q) w = absurd (no-got w)
+
+  accepting : (fs₀ : List ℕ) {gs : List ℕ} {p : ℕ} → length tape ≤ 11 * length fs₀ → notes fs₀ ≡ got gs p → (Accepted ≡ verdict (readTree len tape)) × NotedOf (readTree len tape) gs
+  accepting fs₀ {gs} {p} l e = go (readTree len tape) refl e
+    where
+      same-tree : {t u : Tree} {m n : ℕ} → _≡_ {A = Read Tree} (got t m) (got u n) → t ≡ u
+      same-tree w = cc
+
+      go : (r : Read Tree) → readTree len tape ≡ r → andThen r (λ t q. got (fillTree t fs₀) q) ≡ got gs p → (Accepted ≡ verdict r) × NotedOf r gs
+      go (refused g q) k w = absurd (no-got (sym w))
+      go (got t q) k w =
+          let a = accepted-tape len tape (ap verdict k) in
+          let b : a .tree ≡ t = same-tree (sym (a .read) ∙ k) in
+          (refl, subst (λ (x : List ℕ). Noted x t) (same-facts w)
+          (subst (λ (u : Tree). Noted (fillTree u fs₀) u) b (tree-noted len tape (a .tree) fs₀ (a .root) (a .kids) (omega (arith, a .whole)) l)))
+
+  -- ── the steps
+
+  module _ {fs₀ : List ℕ} where
+    -- at the first command, or with a node open, the checked command decides
+    within : (depth p : ℕ) (parents fs : List ℕ) → Checking fs₀ depth p parents fs → (depth ≡ 0 → p ≡ 0) → {f : Fault} → checkedAt len tape depth p ≡ faulty f
+        → notes fs₀ ≡ refused f p
+    within depth zero parents fs c z {f} e = root fs₀ (faulty f) (subst (λ (d : ℕ). checkedAt len tape d 0 ≡ faulty f) (c .first refl .0) e)
+    within zero (suc p) parents fs c z e = absurd (omega (arith, z refl))
+    within (suc d) (suc p) parents fs c z {f} e = c .later (omega arith) ∙ rest-step parents d (suc p) fs (faulty f) e
+
+    -- with a node open something was read
+    inside : (depth p : ℕ) (parents fs : List ℕ) → Checking fs₀ depth p parents fs → (depth ≡ 0 → ⊥) → notes fs₀ ≡ rest parents depth p fs
+    inside depth zero parents fs c z = absurd (z (c .first refl .0))
+    inside depth (suc p) parents fs c z = c .later (omega arith)
+
+    -- after the root's close the command decides
+    after : (p : ℕ) (parents fs : List ℕ) → Checking fs₀ 0 p parents fs → 0 < p → notes fs₀ ≡ endNotes (commandAt tape p) p fs
+    unfolding rest
+    after p parents fs c z = c .later z
+
+  told : (x : Finding) {f : Fault} → not (sound x) ≡ true → Tells x f → x ≡ Faulty f
+  told Sound e t = let z : _≡_ {A = ℕ} 0 1 = cc in absurd (omega arith)
+  told (Faulty g) e t = ap Faulty (sym t)
+
+  nothing-found : (x : Finding) → not (sound x) ≡ false → x ≡ Sound
+  nothing-found Sound e = refl
+  nothing-found (Faulty g) e = let z : _≡_ {A = ℕ} 0 1 = cc in absurd (omega arith)
+
+  module _ {fs₀ : List ℕ} {depth p : ℕ} {parents fs : List ℕ} (c : Checking fs₀ depth p parents fs) where
+    -- what the loop answers where a command is refused for f
+    abbrev Refuses : Fault → Type 0
+    Refuses f = (gs : List ℕ) → (Refused f p ≡ verdict (readTree len tape)) × NotedOf (readTree len tape) gs
+
     -- 6 and 7
-    pub broken : {f : Fault} → commandAt tape p ≡ faulty f → verdict (readTree len tape) ≡ Refused f p
-    broken {f} e = go depth p c e
+    pub broken : {f : Fault} → commandAt tape p ≡ faulty f → Refuses f
+    broken {f} e = refusing fs₀ (go depth p c e)
       where
-        go : (d q : ℕ) → Checking d q errors → commandAt tape q ≡ faulty f → verdict (readTree len tape) ≡ Refused f q
-        go d zero k w = within d zero errors k (λ _. refl) (checked-of len tape d 0 w)
-        go zero (suc q) k w = after (suc q) errors k (omega arith) ∙ ap (λ x. seen errors (endVerdict x (suc q))) w
-        go (suc d) (suc q) k w = within (suc d) (suc q) errors k (λ z. absurd (omega arith)) (checked-of len tape (suc d) (suc q) w)
+        go : (d q : ℕ) → Checking fs₀ d q parents fs → commandAt tape q ≡ faulty f → notes fs₀ ≡ refused f q
+        go d zero k w = within d zero parents fs k (λ _. refl) (checked-of len tape d 0 w)
+        go zero (suc q) k w = after (suc q) parents fs k (omega arith) ∙ ap (λ x. endNotes x (suc q) fs) w
+        go (suc d) (suc q) k w = within (suc d) (suc q) parents fs k (λ z. absurd (omega arith)) (checked-of len tape (suc d) (suc q) w)
 
     -- 12: a token or a close with no node open
-    stray : (x : Command) → checked len tape 0 p x ≡ faulty NotOneRoot → endVerdict x p ≡ Refused NotOneRoot p → depth ≡ 0 → commandAt tape p ≡ x
-        → verdict (readTree len tape) ≡ Refused NotOneRoot p
-    stray x u v z e = go p (subst (λ (d : ℕ). Checking d p errors) z c) u v e
+    stray : (x : Command) → checked len tape 0 p x ≡ faulty NotOneRoot → endNotes x p fs ≡ refused NotOneRoot p → depth ≡ 0 → commandAt tape p ≡ x → Refuses NotOneRoot
+    stray x u v z e = refusing fs₀ (go p (subst (λ (d : ℕ). Checking fs₀ d p parents fs) z c) u v e)
       where
-        go : (q : ℕ) → Checking 0 q errors → checked len tape 0 q x ≡ faulty NotOneRoot → endVerdict x q ≡ Refused NotOneRoot q → commandAt tape q ≡ x
-            → verdict (readTree len tape) ≡ Refused NotOneRoot q
-        go zero k r s w = within 0 0 errors k (λ _. refl) (checked-of len tape 0 0 w ∙ r)
-        go (suc q) k r s w = after (suc q) errors k (omega arith) ∙ ap (λ y. seen errors (endVerdict y (suc q))) w ∙ ap (seen errors) s
+        go : (q : ℕ) → Checking fs₀ 0 q parents fs → checked len tape 0 q x ≡ faulty NotOneRoot → endNotes x q fs ≡ refused NotOneRoot q → commandAt tape q ≡ x
+            → notes fs₀ ≡ refused NotOneRoot q
+        go zero k r s w = within 0 0 parents fs k (λ _. refl) (checked-of len tape 0 0 w ∙ r)
+        go (suc q) k r s w = after (suc q) parents fs k (omega arith) ∙ ap (λ y. endNotes y (suc q) fs) w ∙ s
 
-    pub stray-token : depth ≡ 0 → commandAt tape p ≡ isToken → verdict (readTree len tape) ≡ Refused NotOneRoot p
+    pub stray-token : depth ≡ 0 → commandAt tape p ≡ isToken → Refuses NotOneRoot
     stray-token = stray isToken refl refl
 
-    pub stray-close : depth ≡ 0 → commandAt tape p ≡ closes → verdict (readTree len tape) ≡ Refused NotOneRoot p
+    pub stray-close : depth ≡ 0 → commandAt tape p ≡ closes → Refuses NotOneRoot
     stray-close = stray closes refl refl
 
     -- 12: a second root
-    pub second-root : depth ≡ 0 → 0 < p → commandAt tape p ≡ opens → verdict (readTree len tape) ≡ Refused NotOneRoot p
-    second-root z lt e = after p errors (subst (λ (d : ℕ). Checking d p errors) z c) lt ∙ ap (λ x. seen errors (endVerdict x p)) e
+    pub second-root : depth ≡ 0 → 0 < p → commandAt tape p ≡ opens → Refuses NotOneRoot
+    second-root z lt e = refusing fs₀ (after p parents fs (subst (λ (d : ℕ). Checking fs₀ d p parents fs) z c) lt ∙ ap (λ x. endNotes x p fs) e)
 
     -- 8 to 11
-    pub faulty-token : (depth ≡ 0 → ⊥) → commandAt tape p ≡ isToken → {h : Head} → h ≡ headAt tape p → {f : Fault} → checkToken len h ≡ Faulty f
-        → verdict (readTree len tape) ≡ Refused f p
-    faulty-token z e i w = within depth p errors c (λ k. absurd (z k)) (checked-of len tape depth p e ∙ rw (ne-eqb depth 0 z, ← i, w))
+    pub faulty-token : (depth ≡ 0 → ⊥) → commandAt tape p ≡ isToken → {h : Head} → h ≡ headAt tape p → {f : Fault} → not (sound (checkToken len h)) ≡ true
+        → Tells (checkToken len h) f → Refuses f
+    faulty-token z e {h} i s t = refusing fs₀ (within depth p parents fs c (λ k. absurd (z k)) (checked-of len tape depth p e ∙ rw (ne-eqb depth 0 z, ← i, told (checkToken len h) s t)))
 
-    pub faulty-open : (depth ≡ 0 → p ≡ 0) → commandAt tape p ≡ opens → {h : Head} → h ≡ headAt tape p → {f : Fault} → checkOpen len depth h ≡ Faulty f
-        → verdict (readTree len tape) ≡ Refused f p
-    faulty-open z e i w = within depth p errors c z (checked-of len tape depth p e ∙ rw (← i, w))
+    pub faulty-open : (depth ≡ 0 → p ≡ 0) → commandAt tape p ≡ opens → {h : Head} → h ≡ headAt tape p → {f : Fault} → not (sound (checkOpen len depth h)) ≡ true
+        → Tells (checkOpen len depth h) f → Refuses f
+    faulty-open z e {h} i s t = refusing fs₀ (within depth p parents fs c z (checked-of len tape depth p e ∙ rw (← i, told (checkOpen len depth h) s t)))
 
     -- the next command
-    pub next-close : (depth ≡ 0 → ⊥) → commandAt tape p ≡ closes → Checking (depth - 1) (p + 1) errors
+    pub next-close : (depth ≡ 0 → ⊥) → commandAt tape p ≡ closes → Checking fs₀ (depth - 1) (p + 1) parents fs
     next-close z e =
-        record { low = omega (arith, c .low); first = λ k. absurd (omega arith); later = λ _. inside depth p errors c z ∙ ap (seen errors) (go depth refl) }
+        record {
+          low = omega (arith, c .low);
+          many = c .many;
+          same = c .same;
+          behind = λ j. omega (arith, c .behind j);
+          first = λ k. absurd (omega arith);
+          later = λ _. inside depth p parents fs c z ∙ go depth refl;
+        }
       where
-        go : (d : ℕ) → depth ≡ d → rest depth p ≡ rest (depth - 1) (p + 1)
+        go : (d : ℕ) → depth ≡ d → rest parents depth p fs ≡ rest parents (depth - 1) (p + 1) fs
         go zero w = absurd (z w)
         go (suc d) w =
             let less : d ≡ depth - 1 = omega arith in
             let k : checkedAt len tape (suc d) p ≡ closes = checked-of len tape (suc d) p e ∙ rw (ne-eqb (suc d) 0 (λ x. z (w ∙ x))) in
-            ap (λ (x : ℕ). rest x p) w ∙ rest-close d p k ∙ ap (λ (x : ℕ). rest x (p + 1)) less
+            ap (λ (x : ℕ). rest parents x p fs) w ∙ rest-close parents d p fs k ∙ ap (λ (x : ℕ). rest parents x (p + 1) fs) less
 
-    pub next-token : (depth ≡ 0 → ⊥) → commandAt tape p ≡ isToken → {h : Head} → h ≡ headAt tape p → checkToken len h ≡ Sound → Checking depth (p + 11) errors
-    next-token z e i s =
-        record { low = c .low; first = λ k. absurd (omega arith); later = λ _. inside depth p errors c z ∙ ap (seen errors) (go depth refl) }
-      where
-        go : (d : ℕ) → depth ≡ d → rest depth p ≡ rest depth (p + 11)
-        go zero w = absurd (z w)
-        go (suc d) w =
-            let k : checkedAt len tape (suc d) p ≡ isToken = checked-of len tape (suc d) p e ∙ rw (ne-eqb (suc d) 0 (λ x. z (w ∙ x)), ← i, s) in
-            ap (λ (x : ℕ). rest x p) w ∙ rest-token d p k ∙ ap (λ (x : ℕ). rest x (p + 11)) (sym w)
-
-    pub next-open : (depth ≡ 0 → p ≡ 0) → commandAt tape p ≡ opens → {h : Head} → h ≡ headAt tape p → checkOpen len depth h ≡ Sound
-        → Checking (depth + 1) (p + 11) (errors || eqb (h .kind) Error)
-    next-open z e {h} i s =
-        let k : checkedAt len tape depth p ≡ opens = checked-of len tape depth p e ∙ rw (← i, s) in
+    pub next-token : (depth ≡ 0 → ⊥) → commandAt tape p ≡ isToken → {h : Head} → h ≡ headAt tape p → not (sound (checkToken len h)) ≡ false
+        → Checking fs₀ depth (p + 11) parents fs
+    next-token z e {h} i s =
         record {
-          low = omega (arith, known-of len tape depth p k .1);
-          first = λ q. absurd (omega arith);
-          later = λ _. go depth p c z k ∙ ap (λ (x : Head). seen (errors || eqb (x .kind) Error) (rest (depth + 1) (p + 11))) (sym i);
+          low = c .low;
+          many = c .many;
+          same = c .same;
+          behind = λ j. omega (arith, c .behind j);
+          first = λ k. absurd (omega arith);
+          later = λ _. inside depth p parents fs c z ∙ go depth refl;
         }
       where
-        go : (d q : ℕ) → Checking d q errors → (d ≡ 0 → q ≡ 0) → checkedAt len tape d q ≡ opens
-            → verdict (readTree len tape) ≡ seen (errors || eqb (headAt tape q .kind) Error) (rest (d + 1) (q + 11))
-        go zero zero b y w = root-open w ∙ ap (λ x. seen (x || eqb (headAt tape 0 .kind) Error) (rest 1 11)) (sym (b .first refl .1))
-        go zero (suc q) b y w = absurd (omega (arith, y refl))
-        go (suc d) q b y w =
-            inside (suc d) q errors b (λ x. omega arith) ∙ ap (seen errors) (rest-open d q w) ∙ seen-seen errors (eqb (headAt tape q .kind) Error) (rest (suc (suc d)) (q + 11))
-            ∙ ap (λ (x : ℕ). seen (errors || eqb (headAt tape q .kind) Error) (rest x (q + 11))) (sym (add-one (suc d)))
+        go : (d : ℕ) → depth ≡ d → rest parents depth p fs ≡ rest parents depth (p + 11) fs
+        go zero w = absurd (z w)
+        go (suc d) w =
+            let k : checkedAt len tape (suc d) p ≡ isToken =
+            checked-of len tape (suc d) p e ∙ rw (ne-eqb (suc d) 0 (λ x. z (w ∙ x)), ← i, nothing-found (checkToken len h) s) in
+            ap (λ (x : ℕ). rest parents x p fs) w ∙ rest-token parents d p fs k ∙ ap (λ (x : ℕ). rest parents x (p + 11) fs) (sym w)
+
+    pub next-open : (depth ≡ 0 → p ≡ 0) → commandAt tape p ≡ opens → {h : Head} → h ≡ headAt tape p → not (sound (checkOpen len depth h)) ≡ false
+        → Checking fs₀ (depth + 1) (p + 11) (set parents (depth + 1) (p / 11)) (openedAt (p / 11) (getD parents depth 0) (h .kind) fs)
+    next-open z e {h} i s =
+        let k : checkedAt len tape depth p ≡ opens = checked-of len tape depth p e ∙ rw (← i, nothing-found (checkOpen len depth h) s) in
+        let deep = known-of len tape depth p k .1 in
+        record {
+          low = omega (arith, deep);
+          many = length-set parents (depth + 1) (p / 11) ∙ c .many;
+          same = length-set (set fs (getD parents depth 0) _) (p / 11) _ ∙ length-set fs (getD parents depth 0) _ ∙ c .same;
+          behind = set-below parents (depth + 1) (p / 11) (p + 11) (omega arith) (λ j. omega (arith, c .behind j));
+          first = λ q. absurd (omega arith);
+          later =
+              λ _.
+              go depth p c z k deep
+              ∙ ap (λ (x : Head). rest (set parents (depth + 1) (p / 11)) (depth + 1) (p + 11) (openedAt (p / 11) (getD parents depth 0) (x .kind) fs)) (sym i);
+        }
+      where
+        go : (d q : ℕ) → Checking fs₀ d q parents fs → (d ≡ 0 → q ≡ 0) → checkedAt len tape d q ≡ opens → d < 64
+            → notes fs₀ ≡ rest (set parents (d + 1) (q / 11)) (d + 1) (q + 11) (openedAt (q / 11) (getD parents d 0) (headAt tape q .kind) fs)
+        go zero zero b y w l =
+            root-open parents fs₀ (b .first refl .1) (omega (arith, b .many)) w
+            ∙ ap (λ (x : List ℕ). rest (set parents 1 0) 1 11 (openedAt 0 (getD parents 0 0) (headAt tape 0 .kind) x)) (sym (b .first refl .2))
+        go zero (suc q) b y w l = absurd (omega (arith, y refl))
+        go (suc d) q b y w l =
+            inside (suc d) q parents fs b (λ x. omega arith)
+            ∙ rest-open parents d q fs (omega (arith, b .many)) w
+            ∙ ap (λ (x : ℕ). rest (set parents x (q / 11)) x (q + 11) (openedAt (q / 11) (getD parents (suc d) 0) (headAt tape q .kind) fs)) (sym (add-one (suc d)))
 
     -- the tape's end
-    pub end-open : length tape ≤ p → (depth ≡ 0 → ⊥) → verdict (readTree len tape) ≡ Refused NotOneRoot (length tape)
-    end-open h z = inside depth p errors c z ∙ ap (seen errors) (go depth refl)
+    pub end-open : length tape ≤ p → (depth ≡ 0 → ⊥) → (gs : List ℕ) → (Refused NotOneRoot (length tape) ≡ verdict (readTree len tape)) × NotedOf (readTree len tape) gs
+    end-open h z = refusing fs₀ (inside depth p parents fs c z ∙ go depth refl)
       where
-        go : (d : ℕ) → depth ≡ d → rest depth p ≡ Refused NotOneRoot (length tape)
+        go : (d : ℕ) → depth ≡ d → rest parents depth p fs ≡ refused NotOneRoot (length tape)
         go zero w = absurd (z w)
-        go (suc d) w = ap (λ (x : ℕ). rest x p) w ∙ rest-step d p ends (checked-of len tape (suc d) p (at-end tape p h))
+        go (suc d) w = ap (λ (x : ℕ). rest parents x p fs) w ∙ rest-step parents d p fs ends (checked-of len tape (suc d) p (at-end tape p h))
 
-    pub end-root : length tape ≤ p → depth ≡ 0 → (p ≡ 0 → ⊥) → verdict (readTree len tape) ≡ Accepted errors
-    end-root h z n =
-        after p errors (subst (λ (d : ℕ). Checking d p errors) z c) (omega arith) ∙ ap (λ x. seen errors (endVerdict x p)) (at-end tape p h)
-        ∙ ap Accepted (or-false errors)
+    pub end-root : length tape ≤ p → length tape ≤ 11 * length fs₀ → depth ≡ 0 → (p ≡ 0 → ⊥) → (Accepted ≡ verdict (readTree len tape)) × NotedOf (readTree len tape) fs
+    end-root h l z n =
+        accepting fs₀ l (after p parents fs (subst (λ (d : ℕ). Checking fs₀ d p parents fs) z c) (omega arith) ∙ ap (λ x. endNotes x p fs) (at-end tape p h))
+
+  pub no-root : length tape ≡ 0 → (gs : List ℕ) → (Refused NotOneRoot 0 ≡ verdict (readTree len tape)) × NotedOf (readTree len tape) gs
+  no-root e = refusing [] (root [] ends (checked-of len tape 0 0 (at-end tape 0 (omega arith))) ∙ ap (refused NotOneRoot) e)

@@ -10,7 +10,7 @@ use Rattle.tape.specs.declared.Fault.the-variants.{NotOneRoot}
 use Rattle.tape.specs.Tree.{Children, done, token, node, size, height}
 use Rattle.tape.specs.Tape.{headAt, Command, ends, faulty, opens, isToken, closes, Read, refused, got, andThen, byCommand, checkedAt, readChildren}
 use Rattle.tape.specs.SpelledAt.{SpelledAt}
-use Rattle.tape.proofs.Facts.{at-end, known-of, checked-of}
+use Rattle.tape.proofs.KnownCommands.{at-end, known-of, checked-of}
 use Rattle.tape.proofs.Trees.{some-size}
 
 module _ (len : ℕ) (tape : List ℕ) where

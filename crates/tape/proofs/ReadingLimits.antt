@@ -16,7 +16,7 @@ use Rattle.tape.specs.Tree.{Children, done, token, node, Tree}
 use Rattle.tape.specs.Tape.{u16At, u32At, opens, isToken, closes, Read, refused, got, andThen, byRoot, byEnd, headAt, commandAt, checkOpen, checkToken, checkedAt, readChildren, readTree}
 use Rattle.tape.specs.Call.{firstNonAscii, readInput, readCall}
 use Rattle.tape.specs.ReadingInputs.{command, file, close, times}
-use Rattle.tape.proofs.Facts.{at-end, at-close, at-open, at-token, checked-of}
+use Rattle.tape.proofs.KnownCommands.{at-end, at-close, at-open, at-token, checked-of}
 use Rattle.tape.proofs.Reading.{step, read, reads}
 
 -- ── the text: 262,144 bytes

@@ -5,4 +5,5 @@ pub mod Faults
 pub mod Tape
 pub mod Call
 pub mod SpelledAt
+pub mod NodeFacts
 pub mod ReadingInputs

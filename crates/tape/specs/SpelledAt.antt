@@ -1,13 +1,13 @@
 -- Which tree a tape spells at a place, and what an accepted tape gives to those that walk it.
 use Prim.Native.Nat.{ℕ, suc, _+_, _≤_, _<_}
 use mathlib.Core.Path.{_≡_}
-use mathlib.Core.Bool.{Bool, false}
+use mathlib.Core.Bool.{false}
 use mathlib.Core.List.{List}
 use lib.ListN.{length, getD}
 use Rattle.tape.specs.declared.Head.{Head}
 use Rattle.tape.specs.declared.Place.the-variants.{Nowhere}
 use Rattle.tape.specs.Kinds.{notCarried}
-use Rattle.tape.specs.Tree.{Children, done, token, node, Tree, size, height, hasError}
+use Rattle.tape.specs.Tree.{Children, done, token, node, Tree, size, height}
 use Rattle.tape.specs.Tape.{headAt, got, readTree}
 use Rattle.tape.specs.Call.{firstNonAscii, readCall}
 
@@ -49,8 +49,8 @@ module _ (len : ℕ) (tape : List ℕ) where
     pub whole : 11 + size (tree .kids) ≡ length tape
     pub depth : suc (height (tree .kids)) ≤ 64
 
--- what is known where nothing of 1 to 12 is due, and the check says whether the tree has an Error node
-pub record AcceptedCall (width case : ℕ) (text tape : List ℕ) (errors : Bool) : Type 0 where
+-- what is known where nothing of 1 to 12 is due
+pub record AcceptedCall (width case : ℕ) (text tape : List ℕ) : Type 0 where
   pub width-fits : width ≤ 16
   pub case-fits : case ≤ 1
   pub text-fits : length text ≤ 262144
@@ -58,7 +58,6 @@ pub record AcceptedCall (width case : ℕ) (text tape : List ℕ) (errors : Bool
   pub tape-fits : length tape ≤ 262144
   pub accepted : AcceptedTape (length text) tape
   pub read : readCall width case text tape ≡ got (accepted .tree) (length tape)
-  pub has-error : hasError (accepted .tree) ≡ errors
 
 -- a node opens at p, and the tape spells its children after it
 pub record NodeAt (tape : List ℕ) (p : ℕ) : Type 0 where
@@ -72,7 +71,3 @@ pub record Skipped (tape : List ℕ) (p r : ℕ) : Type 0 where
   pub forward : p < r
   pub inside : r ≤ length tape
   pub past : (len : ℕ) (kids : Children) → SpelledAt len tape (p + 11) kids → r ≡ p + 11 + size kids
-
--- r is what f says of the children of the node that opens at p
-pub record Scanned {A : Type 0} (f : Children → A) (tape : List ℕ) (p : ℕ) (r : A) : Type 0 where
-  pub all : (len : ℕ) (kids : Children) → SpelledAt len tape (p + 11) kids → r ≡ f kids

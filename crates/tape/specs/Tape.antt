@@ -1,18 +1,17 @@
 -- The tape: what each command is, which refusal it meets, and the tree that a tape holds. Of the text only its length counts.
 use Prim.Native.Nat.{ℕ, zero, suc, _+_, _*_}
-use mathlib.Core.Bool.{cond, _&&_, _||_}
+use mathlib.Core.Path.{_≡_}
+use mathlib.Core.Bool.{Bool, true, false, cond, _&&_, _||_}
 use mathlib.Core.List.{List}
 use lib.ListN.{length, getD}
 use lib.Dec.{leb, ltb, eqb}
 use Rattle.tape.specs.declared.Head.{Head}
 use Rattle.tape.specs.declared.Fault.{Fault}
 use Rattle.tape.specs.declared.Fault.the-variants.{UnknownCommand, CutCommand, UnknownKind, KindNotCarried, SpanOutside, TooDeep, NotOneRoot}
-use Rattle.tape.specs.declared.Finding.{Finding}
-use Rattle.tape.specs.declared.Finding.the-variants.{Sound, Faulty}
 use Rattle.tape.specs.declared.Checked.{Checked}
 use Rattle.tape.specs.declared.Checked.the-variants.{Accepted, Refused}
 use Rattle.tape.specs.Kinds.{notCarried, ErrorMaxQuerySizeExceeded}
-use Rattle.tape.specs.Tree.{Children, done, token, node, Tree, hasError}
+use Rattle.tape.specs.Tree.{Children, done, token, node, Tree}
 
 -- the number of two, of four bytes at a place, low byte first
 abbrev pub u16At : List ℕ → ℕ → ℕ
@@ -45,6 +44,11 @@ commandAt tape p =
     (cond (eqb c 2) (whole tape p isToken)
     (cond (eqb c 3) closes (faulty UnknownCommand))))
 
+-- what the tests of a command's operands find
+pub data Finding : Type 0 where
+  Sound : Finding
+  Faulty : Fault → Finding
+
 -- 8 to 11 for the open of a node, with depth nodes open before it
 unfoldable pub checkOpen : ℕ → ℕ → Head → Finding
 checkOpen len depth h =
@@ -58,6 +62,15 @@ unfoldable pub checkToken : ℕ → Head → Finding
 checkToken len h =
     cond (ltb ErrorMaxQuerySizeExceeded (h .kind)) (Faulty UnknownKind)
     (cond (ltb (h .end) (h .start) || ltb len (h .end)) (Faulty SpanOutside) Sound)
+
+-- the tests find no fault; where they find one, it is f
+abbrev pub sound : Finding → Bool
+sound Sound = true
+sound (Faulty f) = false
+
+abbrev pub Tells : Finding → Fault → Type 0
+Tells Sound f = Unit {0}
+Tells (Faulty g) f = f ≡ g
 
 -- what reading comes to: a refusal and its place; or a value and the place after it
 pub data Read (A : Type 0) : Type 0 where
@@ -126,4 +139,4 @@ module _ (len : ℕ) (tape : List ℕ) where
 -- what a check answers of a reading
 abbrev pub verdict : Read Tree → Checked
 verdict (refused f p) = Refused f p
-verdict (got t p) = Accepted (hasError t)
+verdict (got t p) = Accepted

@@ -51,16 +51,6 @@ severalListItems c = ltb 1 (countListItems c)
 unfoldable pub copied : ℕ → Children → Bool
 copied k kids = eqb k Error || (not (eqb k QueryList) && hasErrorChild kids)
 
--- some node among the children or below is an Error node
-unfoldable pub hasErrorBelow : Children → Bool
-hasErrorBelow done = false
-hasErrorBelow (token h rest) = hasErrorBelow rest
-hasErrorBelow (node h kids rest) = eqb (h .kind) Error || (hasErrorBelow kids || hasErrorBelow rest)
-
--- some node of the tree is an Error node
-unfoldable pub hasError : Tree → Bool
-hasError t = eqb (t .head .kind) Error || hasErrorBelow (t .kids)
-
 -- P holds of each token, of each node with its children, among the children and below
 abbrev pub EachToken : (Head → Type 0) → Children → Type 0
 EachToken P done = Unit {0}

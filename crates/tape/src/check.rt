@@ -1,17 +1,22 @@
 // Refusals 1 to 12.
 use crate::Checked;
 use crate::Fault;
-use crate::Finding;
 use crate::Place;
-use crate::commands::check_open;
-use crate::commands::check_token;
 use crate::commands::head_at;
-use crate::syntax_kind;
+use crate::commands::open_fault;
+use crate::commands::sound_open;
+use crate::commands::sound_token;
+use crate::commands::token_fault;
+use crate::facts::opened;
+use crate::facts::with_child;
 ghost use mathlib.Core.Path.{_≡_};
 ghost use mathlib.Core.Bool.{true};
+ghost use Prim.Native.Nat.{_*_, _≤_};
+ghost use lib.ListN.{length};
 ghost use Rattle.tape.specs.declared.Place.the-variants.{Nowhere};
 ghost use Rattle.tape.specs.Faults.{number};
 ghost use Rattle.tape.specs.Tape.{readTree, verdict};
+ghost use Rattle.tape.specs.NodeFacts.{NotedOf};
 ghost use Rattle.tape.specs.Call.{firstNonAscii, readInput, readCall};
 
 // The number that the caller is told.
@@ -34,13 +39,15 @@ pub fn number(fault: Fault) -> u64
     }
 }
 
-// 6 to 12: the tape is read once from its start, and the first faulty command decides. `len` is the text's length.
-fn check(len: usize, tape: &[u8]) -> Checked
-    ensures { λ r. ⌜ r ≡ verdict (readTree len (now (tape .entry))) ⌝ }
+// 6 to 12: the tape is read once from its start, and the first faulty command decides. `len` is the text's length. `parents` has the index of each open
+// node's byte in `facts`, from place 1 on; what is noted for the root's parent, at place 0, the root's own byte takes the place of.
+fn check(len: usize, tape: &[u8], facts: &mut [u8]) -> Checked
+    requires { ⌜ (length (now tape) ≤ 262144) × (length (now tape) ≤ 11 * length (now facts)) ⌝ }
+    ensures { λ r. ⌜ (r ≡ verdict (readTree len (now (tape .entry)))) × NotedOf (readTree len (now (tape .entry))) (now (facts .exit)) ⌝ }
 {
+    let mut parents = [0u16; 65];
     let mut depth: usize = 0;
     let mut at: usize = 0;
-    let mut errors = false;
     while at < tape.len() {
         let command = tape[at];
         if command == 3 {
@@ -50,11 +57,10 @@ fn check(len: usize, tape: &[u8]) -> Checked
             depth -= 1;
             at += 1;
         } else {
-            if command == 0 {
-                return Checked::Refused(Fault::UnknownCommand, at);
-            }
-            if 3 < command {
-                return Checked::Refused(Fault::UnknownCommand, at);
+            if command != 2 {
+                if command != 1 {
+                    return Checked::Refused(Fault::UnknownCommand, at);
+                }
             }
             if tape.len() < at + 11 {
                 return Checked::Refused(Fault::CutCommand, at);
@@ -64,9 +70,8 @@ fn check(len: usize, tape: &[u8]) -> Checked
                 if depth == 0 {
                     return Checked::Refused(Fault::NotOneRoot, at);
                 }
-                let found = check_token(len, head);
-                if let Finding::Faulty(fault) = found {
-                    return Checked::Refused(fault, at);
+                if !sound_token(len, head) {
+                    return Checked::Refused(token_fault(head), at);
                 }
                 at += 11;
             } else {
@@ -76,12 +81,15 @@ fn check(len: usize, tape: &[u8]) -> Checked
                         return Checked::Refused(Fault::NotOneRoot, at);
                     }
                 }
-                let found = check_open(len, depth, head);
-                if let Finding::Faulty(fault) = found {
-                    return Checked::Refused(fault, at);
+                if !sound_open(len, depth, head) {
+                    return Checked::Refused(open_fault(len, head), at);
                 }
-                errors = errors | (head.kind == syntax_kind::ERROR);
+                let parent = parents[depth] as usize;
+                facts[parent] = with_child(facts[parent], head.kind);
+                let here = at / 11;
+                facts[here] = opened(head.kind);
                 depth += 1;
+                parents[depth] = here as u16;
                 at += 11;
             }
         }
@@ -92,7 +100,7 @@ fn check(len: usize, tape: &[u8]) -> Checked
     if tape.len() == 0 {
         return Checked::Refused(Fault::NotOneRoot, 0);
     }
-    Checked::Accepted(errors)
+    Checked::Accepted
 }
 
 // Whether every byte is below 128. It has no early exit, so that the machine takes many bytes at a time.
@@ -129,8 +137,9 @@ fn first_non_ascii(text: &[u8]) -> Place
 }
 
 // 3 to 12: text and tape.
-fn check_input(text: &[u8], tape: &[u8]) -> Checked
-    ensures { λ r. ⌜ r ≡ verdict (readInput (now (text .entry)) (now (tape .entry))) ⌝ }
+fn check_input(text: &[u8], tape: &[u8], facts: &mut [u8]) -> Checked
+    requires { ⌜ (length (now tape) ≤ 262144 → length (now tape) ≤ 11 * length (now facts)) ⌝ }
+    ensures { λ r. ⌜ (r ≡ verdict (readInput (now (text .entry)) (now (tape .entry)))) × NotedOf (readInput (now (text .entry)) (now (tape .entry))) (now (facts .exit)) ⌝ }
 {
     if 262144 < text.len() {
         return Checked::Refused(Fault::TextTooLong, 0);
@@ -142,12 +151,19 @@ fn check_input(text: &[u8], tape: &[u8]) -> Checked
     if 262144 < tape.len() {
         return Checked::Refused(Fault::TapeTooLong, 0);
     }
-    check(text.len(), tape)
+    check(text.len(), tape, facts)
 }
 
-// 1 to 12: settings, text and tape.
-pub fn check_call(width: u64, case: u64, text: &[u8], tape: &[u8]) -> Checked
-    ensures { λ r. ⌜ r ≡ verdict (readCall width case (now (text .entry)) (now (tape .entry))) ⌝ }
+// 1 to 12: settings, text and tape; and in `facts`, which has room for each node, what is to be known of them.
+pub fn check_call(
+    width: u64,
+    case: u64,
+    text: &[u8],
+    tape: &[u8],
+    facts: &mut [u8],
+) -> Checked
+    requires { ⌜ (length (now tape) ≤ 262144 → length (now tape) ≤ 11 * length (now facts)) ⌝ }
+    ensures { λ r. ⌜ (r ≡ verdict (readCall width case (now (text .entry)) (now (tape .entry)))) × NotedOf (readCall width case (now (text .entry)) (now (tape .entry))) (now (facts .exit)) ⌝ }
 {
     if 16 < width {
         return Checked::Refused(Fault::IndentWidth, 0);
@@ -155,5 +171,5 @@ pub fn check_call(width: u64, case: u64, text: &[u8], tape: &[u8]) -> Checked
     if 1 < case {
         return Checked::Refused(Fault::CaseByte, 0);
     }
-    check_input(text, tape)
+    check_input(text, tape, facts)
 }

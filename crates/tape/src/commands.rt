@@ -1,13 +1,12 @@
 // Reading one command of the tape, numbers low byte first. The readers ask for bytes within the tape: the check has tested it.
 use crate::Fault;
-use crate::Finding;
 use crate::Head;
 use crate::syntax_kind;
 ghost use mathlib.Core.Path.{_≡_};
-ghost use Prim.Native.Nat.{_+_, _≤_};
+ghost use Prim.Native.Nat.{ℕ, _+_, _≤_};
 ghost use lib.ListN.{length};
 ghost use Rattle.tape.specs.Kinds.{notCarried};
-ghost use Rattle.tape.specs.Tape.{u16At, u32At, headAt, checkOpen, checkToken};
+ghost use Rattle.tape.specs.Tape.{u16At, u32At, headAt, checkOpen, checkToken, sound, Tells};
 
 // The number of two bytes at a place, for the tape and for what stores numbers in the same way.
 pub fn u16_at(bytes: &[u8], at: usize) -> u16
@@ -38,10 +37,15 @@ pub fn head_at(tape: &[u8], at: usize) -> Head
     }
 }
 
-// Whether nodes of the kind are not carried. Two arms: keys that are neighbours would become ranges.
+// Whether nodes of the kind are not carried. Those below 64 in a `match` of their own, which becomes a test of one bit; two arms, since keys that are
+// neighbours would become ranges.
 fn not_carried(kind: u16) -> bool
     ensures { λ r. ⌜ r ≡ notCarried kind ⌝ }
 {
+    if 63 < kind {
+        return (kind == syntax_kind::INSERT_VALUES_CLAUSE)
+            | (kind == syntax_kind::COLUMN_DEFINITION_LIST);
+    }
     match kind {
         syntax_kind::INSERT_STATEMENT
         | syntax_kind::CREATE_STATEMENT
@@ -50,9 +54,7 @@ fn not_carried(kind: u16) -> bool
         | syntax_kind::TABLE_DEFINITION
         | syntax_kind::VIEW_DEFINITION
         | syntax_kind::DICTIONARY_DEFINITION
-        | syntax_kind::ENGINE_CLAUSE
-        | syntax_kind::COLUMN_DEFINITION_LIST
-        | syntax_kind::INSERT_VALUES_CLAUSE => true,
+        | syntax_kind::ENGINE_CLAUSE => true,
         syntax_kind::ALTER_STATEMENT
         | syntax_kind::DATABASE_DEFINITION
         | syntax_kind::MATERIALIZED_VIEW_DEFINITION => true,
@@ -60,40 +62,46 @@ fn not_carried(kind: u16) -> bool
     }
 }
 
-// 8 to 11 for the open of a node, with `depth` nodes open before it.
-pub(crate) fn check_open(len: usize, depth: usize, h: Head) -> Finding
-    ensures { λ r. ⌜ r ≡ checkOpen len depth h ⌝ }
+// 8 to 11 for the open of a node, with `depth` nodes open before it: whether nothing is found, in one test.
+pub(crate) fn sound_open(len: usize, depth: usize, h: Head) -> bool
+    ensures { λ r. ⌜ r ≡ sound (checkOpen len depth h) ⌝ }
 {
-    let left_out = not_carried(h.kind);
+    let known = h.kind <= syntax_kind::ERROR_MAX_QUERY_SIZE_EXCEEDED;
+    let within = (h.end < h.start) | (h.end <= len);
+    known & !not_carried(h.kind) & within & (depth < 64)
+}
+
+// Which of them it is, where one is found.
+pub(crate) fn open_fault(len: usize, h: Head) -> Fault
+    ensures { λ r. ⌜ ((depth : ℕ) → Tells (checkOpen len depth h) r) ⌝ }
+{
     if syntax_kind::ERROR_MAX_QUERY_SIZE_EXCEEDED < h.kind {
-        return Finding::Faulty(Fault::UnknownKind);
+        return Fault::UnknownKind;
     }
-    if left_out {
-        return Finding::Faulty(Fault::KindNotCarried);
+    if not_carried(h.kind) {
+        return Fault::KindNotCarried;
     }
     if h.start <= h.end {
         if len < h.end {
-            return Finding::Faulty(Fault::SpanOutside);
+            return Fault::SpanOutside;
         }
     }
-    if 64 <= depth {
-        return Finding::Faulty(Fault::TooDeep);
-    }
-    Finding::Sound
+    Fault::TooDeep
 }
 
-// 8 and 10 for a token.
-pub(crate) fn check_token(len: usize, t: Head) -> Finding
-    ensures { λ r. ⌜ r ≡ checkToken len t ⌝ }
+// 8 and 10 for a token, in the same way.
+pub(crate) fn sound_token(len: usize, t: Head) -> bool
+    ensures { λ r. ⌜ r ≡ sound (checkToken len t) ⌝ }
+{
+    let known = t.kind <= syntax_kind::ERROR_MAX_QUERY_SIZE_EXCEEDED;
+    known & (t.start <= t.end) & (t.end <= len)
+}
+
+pub(crate) fn token_fault(t: Head) -> Fault
+    ensures { λ r. ⌜ ((len : ℕ) → Tells (checkToken len t) r) ⌝ }
 {
     if syntax_kind::ERROR_MAX_QUERY_SIZE_EXCEEDED < t.kind {
-        return Finding::Faulty(Fault::UnknownKind);
+        return Fault::UnknownKind;
     }
-    if t.end < t.start {
-        return Finding::Faulty(Fault::SpanOutside);
-    }
-    if len < t.end {
-        return Finding::Faulty(Fault::SpanOutside);
-    }
-    Finding::Sound
+    Fault::SpanOutside
 }

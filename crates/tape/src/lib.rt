@@ -1,6 +1,7 @@
-// The tape: its commands, the check of refusals 1 to 12, and the scans that look ahead on an accepted tape.
+// The tape: its commands, the check of refusals 1 to 12, what it notes of each node, and the way past a node.
 pub mod check;
 pub mod commands;
+pub mod facts;
 pub mod scan;
 pub mod syntax_kind;
 
@@ -28,15 +29,9 @@ pub enum Fault {
     NotOneRoot,
 }
 
-// What the tests of a command's operands find.
-pub enum Finding {
-    Sound,
-    Faulty(Fault),
-}
-
-// The answer of a check: whether the tree has an Error node; or the fault and its place.
+// The answer of a check: accepted; or the fault and its place.
 pub enum Checked {
-    Accepted(bool),
+    Accepted,
     Refused(Fault, usize),
 }
 

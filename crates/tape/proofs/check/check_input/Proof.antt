@@ -1,5 +1,5 @@
 -- `check_input` meets its contract: each answer by the tests that led to it.
-use mathlib.Core.Path.{sym, _∙_}
+use mathlib.Core.Path.{refl, sym, _∙_}
 use borrow.Author.Tests.{lt-ltb, le-ltb}
 use Rattle.tape.specs.Call.{readInput}
 use borrow.Author.Needs.{needs}
@@ -8,7 +8,7 @@ use Rattle.tape.proofs.check.check_input.Tie as tie
 
 returns : tie.Need-returns
 unfolding readInput
-returns c = simp (lt-ltb _ _ (c .if1 .taken))
+returns c = rw (lt-ltb _ _ (c .if1 .taken)) (refl, tt)
 
 first-non-ascii-requires : tie.Need-first-non-ascii-requires
 first-non-ascii-requires c κs = search needs
@@ -18,21 +18,24 @@ enum-known-high c = search needs
 
 returns-2 : tie.Need-returns-2
 unfolding readInput
-returns-2 c = simp (le-ltb _ _ (c .before .before .before .before .if1 .left), sym (c .before .before .before .first-non-ascii .ensures) ∙ c .before .high .given .1)
+returns-2 c = rw (le-ltb _ _ (c .before .before .before .before .if1 .left), sym (c .before .before .before .first-non-ascii .ensures) ∙ c .before .high .given .1) (refl, tt)
 
 enum-told : tie.Need-enum-told
 enum-told c = search needs
 
 returns-3 : tie.Need-returns-3
 unfolding readInput
-returns-3 c = simp (le-ltb _ _ (c .before .before .before .before .if1 .left), sym (c .before .before .before .first-non-ascii .ensures) ∙ c .before .enum-told .given .1, lt-ltb _ _ (c .if2 .taken))
+returns-3 c = rw (le-ltb _ _ (c .before .before .before .before .if1 .left), sym (c .before .before .before .first-non-ascii .ensures) ∙ c .before .enum-told .given .1, lt-ltb _ _ (c .if2 .taken)) (refl, tt)
 
 check-requires : tie.Need-check-requires
-check-requires c κs = search needs
+check-requires c κs = (c .before .if2 .left, c .before .before .before .before .before .before .before .before .before .pre (c .before .if2 .left))
+
+same-length : tie.Need-same-length
+same-length c = search needs
 
 returns-4 : tie.Need-returns-4
 unfolding readInput
-returns-4 c = simp (le-ltb _ _ (c .before .before .before .before .before .if1 .left), sym (c .before .before .before .before .first-non-ascii .ensures) ∙ c .before .before .enum-told .given .1, le-ltb _ _ (c .before .if2 .left)) (c .check .ensures)
+returns-4 c = rw (le-ltb _ _ (c .before .before .before .before .before .before .before .before .if1 .left), sym (c .before .before .before .before .before .before .before .first-non-ascii .ensures) ∙ c .before .before .before .before .before .enum-told .given .1, le-ltb _ _ (c .before .before .before .before .if2 .left)) (c .before .before .check .ensures)
 
 pub check-input-spec : {M : Type 1} → statement M
 check-input-spec =
@@ -45,4 +48,5 @@ check-input-spec =
     enum-told
     returns-3
     check-requires
+    same-length
     returns-4)

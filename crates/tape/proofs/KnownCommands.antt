@@ -2,15 +2,15 @@
 use Prim.Native.Nat.{ℕ, _+_, _≤_, _<_}
 use native.Mathlib.Omega.{arith}
 use mathlib.Core.Path.{_≡_, refl, ap, subst}
-use mathlib.Core.Bool.{Bool, true, false, cond, _&&_, _||_}
+use mathlib.Core.Bool.{Bool, true, false, cond, not, _&&_, _||_}
 use mathlib.Core.List.{List}
 use lib.ListN.{length, getD}
 use lib.Dec.{leb, ltb, eqb}
-use borrow.Author.Tests.{ltb-false, leb-true, leb-false, eqb-true, eqb-false, lt-ltb, le-ltb, le-leb, lt-leb, ne-eqb}
+use borrow.Author.Tests.{ltb-true, ltb-false, leb-true, leb-false, eqb-true, eqb-false, lt-ltb, le-ltb, le-leb, lt-leb, ne-eqb}
+use Rattle.tape.specs.declared.Head.{Head}
 use Rattle.tape.specs.declared.Fault.the-variants.{UnknownCommand, CutCommand, UnknownKind, KindNotCarried, SpanOutside, TooDeep, NotOneRoot}
-use Rattle.tape.specs.declared.Finding.the-variants.{Sound, Faulty}
 use Rattle.tape.specs.Kinds.{notCarried}
-use Rattle.tape.specs.Tape.{headAt, Command, ends, faulty, opens, isToken, closes, commandAt, checkOpen, checkToken, byFinding, checked, checkedAt}
+use Rattle.tape.specs.Tape.{headAt, Command, ends, faulty, opens, isToken, closes, Sound, Faulty, commandAt, checkOpen, checkToken, byFinding, sound, checked, checkedAt}
 use Rattle.tape.specs.SpelledAt.{OpenAt, TokenAt, CloseAt}
 
 -- the command by its byte and by what is left of the tape
@@ -72,6 +72,63 @@ framed tape p =
 
 pub framed-of : (tape : List ℕ) (p : ℕ) {x : Command} → commandAt tape p ≡ x → Framed tape p x
 framed-of tape p e = subst (Framed tape p) e (framed tape p)
+
+-- a test and its negation
+leb-not : (m n : ℕ) → leb m n ≡ not (ltb n m)
+leb-not m n = go (ltb n m) refl
+  where
+    go : (t : Bool) → ltb n m ≡ t → leb m n ≡ not t
+    go true e = lt-leb m n (ltb-true n m e)
+    go false e = le-leb m n (ltb-false n m e)
+
+ltb-not : (m n : ℕ) → ltb m n ≡ not (leb n m)
+ltb-not m n = go (leb n m) refl
+  where
+    go : (t : Bool) → leb n m ≡ t → ltb m n ≡ not t
+    go true e = le-ltb m n (leb-true n m e)
+    go false e = lt-ltb m n (leb-false n m e)
+
+-- the tests of an open and of a token in one
+pub sound-open : (len depth : ℕ) (h : Head)
+    → ((leb (h .kind) 257 && not (notCarried (h .kind))) && (ltb (h .end) (h .start) || leb (h .end) len) && ltb depth 64) ≡ sound (checkOpen len depth h)
+unfolding checkOpen
+sound-open len depth h =
+    rw (leb-not (h .kind) 257, ltb-not (h .end) (h .start), leb-not (h .end) len, ltb-not depth 64)
+    (go (ltb 257 (h .kind)) (notCarried (h .kind)) (leb (h .start) (h .end)) (ltb len (h .end)) (leb 64 depth))
+  where
+    go : (k n o s d : Bool) → ((not k && not n) && (not o || not s) && not d)
+        ≡ sound (cond k (Faulty UnknownKind) (cond n (Faulty KindNotCarried) (cond (o && s) (Faulty SpanOutside) (cond d (Faulty TooDeep) Sound))))
+    go true n o s d = refl
+    go false true o s d = refl
+    go false false true true d = refl
+    go false false true false true = refl
+    go false false true false false = refl
+    go false false false s true = refl
+    go false false false s false = refl
+
+-- where they find nothing, fewer than 64 nodes are open
+pub open-low : (len depth : ℕ) (h : Head) → not (sound (checkOpen len depth h)) ≡ false → depth < 64
+unfolding checkOpen
+open-low len depth h e = go (ltb 257 (h .kind)) (notCarried (h .kind)) (leb (h .start) (h .end) && ltb len (h .end)) (leb 64 depth) refl e
+  where
+    go : (k n s d : Bool) → leb 64 depth ≡ d
+        → not (sound (cond k (Faulty UnknownKind) (cond n (Faulty KindNotCarried) (cond s (Faulty SpanOutside) (cond d (Faulty TooDeep) Sound))))) ≡ false → depth < 64
+    go true n s d w u = let z : _≡_ {A = ℕ} 0 1 = cc in absurd (omega arith)
+    go false true s d w u = let z : _≡_ {A = ℕ} 0 1 = cc in absurd (omega arith)
+    go false false true d w u = let z : _≡_ {A = ℕ} 0 1 = cc in absurd (omega arith)
+    go false false false true w u = let z : _≡_ {A = ℕ} 0 1 = cc in absurd (omega arith)
+    go false false false false w u = leb-false 64 depth w
+
+pub sound-token : (len : ℕ) (h : Head) → ((leb (h .kind) 257 && leb (h .start) (h .end)) && leb (h .end) len) ≡ sound (checkToken len h)
+unfolding checkToken
+sound-token len h =
+    rw (leb-not (h .kind) 257, leb-not (h .start) (h .end), leb-not (h .end) len) (go (ltb 257 (h .kind)) (ltb (h .end) (h .start)) (ltb len (h .end)))
+  where
+    go : (k o s : Bool) → ((not k && not o) && not s) ≡ sound (cond k (Faulty UnknownKind) (cond (o || s) (Faulty SpanOutside) Sound))
+    go true o s = refl
+    go false true s = refl
+    go false false true = refl
+    go false false false = refl
 
 module _ (len : ℕ) (tape : List ℕ) where
   -- what is known where the checked command is of one sort
