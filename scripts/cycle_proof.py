@@ -32,9 +32,10 @@ HEAD = """\
 use borrow.Author.Needs.{needs}
 use Prim.Native.Nat.{_*_, _+_, _-_}
 use native.Mathlib.Omega.{arith}
-use mathlib.Core.Bool.{false}
+use mathlib.Core.Bool.{Bool, false, _&&_}
 use mathlib.Core.Logic.{⊎-elim}
 use mathlib.Core.Path.{_∙_, ap, refl, sym}
+use lib.Dec.{eqb}
 use lib.ListN.{length}
 use Rattle.tokens.proofs.Choices.{as-spaced}
 use Rattle.tokens.proofs.Runs.{no-spacing, spaced}
@@ -56,8 +57,8 @@ MODULES = {
 MEASURE = "2 * a .1 .1 .1 .1 .1 .0"
 NODE_MEASURE = MEASURE + " + 1"
 
-LOOP = "Loop source tape config errors left at "
-HERE = "(@pre .1) (@loop .inv)"
+LOOP = "Loop source tape facts config left at "
+HERE = "({ready}) (@loop .inv)"
 CHILD = HERE + " (@if1 .taken) (@if2 .left)"
 KIND = "(@head-at .result .kind)"
 SPACE_AFTER = "(spaced 0 (spaceIf (spaceAfter ((@loop .local) .prev))) (omega arith) (ap spaceIf (sym (@space-after .ensures))) "
@@ -67,13 +68,13 @@ SPACE_AFTER = "(spaced 0 (spaceIf (spaceAfter ((@loop .local) .prev))) (omega ar
 ANSWERS = {
     "Inv-loop": LOOP + "{done} {arms} ctx₀ out₀ out i ctx {local}",
     "μ-loop": "length tape - i",
-    "add-i": "omega (arith, @pre .1 .inside, @pre .1 .sizes .tape-fits)",
-    "loop-holds": "loop-first {done} {arms} _ (@pre .1) (λ all z. {known})",
+    "add-i": "omega (arith, {ready} .inside, {ready} .sizes .tape-fits)",
+    "loop-holds": "loop-first {done} {arms} _ ({ready}) (λ all z. {known})",
     "shared-slice-read-if1": "omega (arith, @loop .inv .inside)",
     "head-at-requires": f"loop-fits {HERE} (@if1 .taken)",
     "shared-slice-read-if2": "omega (arith, @loop .inv .inside)",
     "TOKEN-requires": f"token-ready {HERE} _ (@if2 .taken) (@head-at .ensures)",
-    "add-i-2": f"omega (arith, loop-fits {HERE} (@if1 .taken), @pre .1 .sizes .tape-fits)",
+    "add-i-2": f"omega (arith, loop-fits {HERE} (@if1 .taken), {{ready}} .sizes .tape-fits)",
     "loop-less": "omega (arith, @loop .inv .inside)",
     "loop-again": f"token-next {HERE} (@if2 .taken) (@head-at .ensures) {{acted}} (@{{token}} .kept .1 .1 .0)",
     "BEFORE-requires": f"let r = side-ready {HERE} in omega arith",
@@ -82,31 +83,32 @@ ANSWERS = {
     "loop-less-2": "omega (arith, @loop .inv .inside, @node .ensures .forward)",
     "loop-again-2": f"node-next {HERE} {{at-node}} (@if1 .taken) (@if2 .left) (@head-at .ensures) (λ k z. {{same-node}}) {{before}} "
     "(@node .ensures) {next-local} {after} (omega arith) (omega arith) (@node .kept .1 .1 .1 .1 .0{kept})",
-    "add-end": "omega (arith, @loop .inv .inside, @pre .1 .sizes .tape-fits)",
+    "add-end": "omega (arith, @loop .inv .inside, {ready} .sizes .tape-fits)",
     "same-length": "@loop .inv .same",
     "returns": f"loop-last {HERE} (@if1 .left) {{end}} (omega arith)",
-    "multi-item-requires": "opened-at (@pre .1)",
-    "several-items-requires": f"child-at {CHILD}",
+    "multi-item-requires": "fact-fits ({ready})",
+    "several-items-requires": f"omega (arith, loop-fits {HERE} (@if1 .taken), {{ready}} .sizes .facts-fit)",
 }
 # The needs for which the routine's definition is unfolded.
 UNFOLDED = ("loop-holds", "loop-again", "loop-again-2", "returns")
 
 # The needs of the dispatch: those of a copied node by name, then those of each routine that it calls.
 NODE_ANSWERS = {
-    "is-copied-requires": "opened-at (@pre .1 .0)",
+    "has-error-requires": "fact-fits (@pre .1 .0)",
     "head-at-requires": "@pre .1 .0 .inside",
     "skip-requires": "opened-at (@pre .1 .0)",
     "format-error-verbatim-requires": "copy-ready (@pre .1 .0) (@head-at .ensures)",
     "same-length": "@format-error-verbatim .kept .1 .1 .0",
-    "returns": "node-copied (@pre .1 .0) (@pre .1 .1) (@head-at .ensures) (scanned-as (@is-copied .ensures) (@if2 .taken)) (@skip .ensures) "
+    "returns": "node-copied (@pre .1 .0) (@pre .1 .1) (@head-at .ensures) (decided-copied (@pre .1 .0) (@pre .1 .1) (@has-error .ensures) (@if1 .taken) (@if2 .taken)) (@skip .ensures) "
     "(@format-error-verbatim .ensures)",
     "routine-of-requires": "search needs",
     "enum-told": "search needs",
     "enum-known-r": "search needs",
     "CALL-requires": "(omega (arith, @pre .0), @pre .1 .0)",
+    "list-by-requires": "(omega (arith, @pre .0), (@pre .1 .0, is-list _ _ (sym (@r .given .1) ∙ @routine-of .ensures)))",
     "CALL-same-length": "@{called} .kept .1 .1 .1 .1 .0",
-    "CALL-returns": "node-by {variant} (@pre .1 .1) (⊎-elim (λ w. scanned-as (w .1 .ensures) (w .2 .left)) "
-    "(λ w. clean-node (@pre .1 .0) (@pre .1 .1) (w .left)) (@if1 .came)) (sym (@{told} .given .1) ∙ @routine-of .ensures) (@{called} .ensures)",
+    "CALL-returns": "node-by {variant} (@pre .1 .1) (⊎-elim (λ w. decided-list (@pre .1 .0) (@pre .1 .1) (w .1 .left)) "
+    "(λ w. decided-clean (@pre .1 .0) (@pre .1 .1) (@has-error .ensures) (w .left)) (@if1 .came)) (sym (@{told} .given .1) ∙ @routine-of .ensures) (@{called} .ensures)",
 }
 
 # The variant that holds a number.
@@ -128,9 +130,11 @@ ROWS = {
         "arms": f"(listClauseArms {LIST} {MULTI})",
         "done": f"(formatListClause {LIST})",
         "Inv-loop": LOOP + "(formatListClause list) (listClauseArms list multi) ctx₀ out₀ out i ctx local",
-        "known": f"list-known {LIST} all {MULTI} (@multi-item .ensures .all _ all z)",
+        "ready": "@pre .1 .0",
+        "known": f"list-known {LIST} all {MULTI} (@multi-item .ensures ∙ multi-noted (@pre .1 .1) (node-noted (@pre .1 .0) all z))",
         "at-node": f"(listNode {LIST_NODE} (@several-items .result))",
-        "same-node": f"list-node {LIST_NODE} _ (@several-items .result) (@several-items .ensures .all _ k z)",
+        "same-node": f"list-node {LIST_NODE} _ (@several-items .result) "
+        f"(@several-items .ensures ∙ ap (λ (b : Bool). eqb {KIND} {LIST} && b) (child-noted {CHILD} k z))",
         "definition": "listClauseArms",
     },
     "select": {"next-local": KEPT.format("select-kept")},
@@ -206,6 +210,7 @@ def pieces(routine, need):
     if "space-after" in trail:
         spacing = SPACE_AFTER + spacing + ")"
     return {
+        "ready": "@pre .1",
         "arms": routine.definition,
         "done": f"(always {routine.definition})",
         "known": "refl",
@@ -245,7 +250,7 @@ def node_answer(routine, need, members, variants):
         variant = HOLDING if told == "r" else "the-variants." + variants[int(told.removeprefix("enum-told") or 1) - 1]
         own = {"called": called, "told": told, "variant": variant}
         return NODE_ANSWERS.get("CALL-" + kind), own, ["armsOf"] if kind == "returns" else []
-    if kind.removesuffix("-requires") in members:
+    if kind not in NODE_ANSWERS and kind.removesuffix("-requires") in members:
         kind = "CALL-requires"
     return NODE_ANSWERS.get(kind), {}, []
 

@@ -6,8 +6,8 @@ use context::FormatterContext;
 use layout::Local;
 use layout::PrevKind;
 use tape::Head;
-use tape::scan::has_child;
-use tape::scan::several_list_items;
+use tape::facts::has_list;
+use tape::facts::several_list_items;
 use tape::syntax_kind;
 use tokens::Arm;
 use tokens::blank_line;
@@ -25,15 +25,16 @@ use tokens::write_word;
 ghost use mathlib.Core.Path.{_≡_};
 ghost use mathlib.Core.Bool.{cond, not, _&&_};
 ghost use mathlib.Core.List.{[], _∷_};
+ghost use Prim.Native.Nat.{_*_, _<_};
 ghost use lib.Dec.{eqb};
+ghost use lib.ListN.{length};
 ghost use Rattle.context.specs.Store.{Room};
 ghost use Rattle.basics.specs.Match.{among};
 ghost use Rattle.tape.specs.Kinds.{SelectStatement, UnionClause};
 ghost use Rattle.layout.specs.Arms.{dedent, indent, newline, seen};
 ghost use Rattle.layout.specs.Tokens.{noSpaceBefore};
-ghost use Rattle.layout.specs.Routines.{fileToken, formatFile, formatQueryList, formatSelectClause, formatSelectStatement, formatSettingsClause, formatUnionClause, joinClauseToken, listClauseNode, listClauseToken, multiItem, queryListToken, selectClauseToken, selectStatementToken, simpleClauseToken, unionToken};
-ghost use Rattle.tape.specs.SpelledAt.{NodeAt, Scanned};
-ghost use Rattle.tape.specs.Tree.{severalListItems};
+ghost use Rattle.layout.specs.Routines.{fileToken, formatFile, formatQueryList, formatSelectClause, formatSelectStatement, formatSettingsClause, formatUnionClause, joinClauseToken, listClauseNode, listClauseToken, queryListToken, selectClauseToken, selectStatementToken, simpleClauseToken, unionToken};
+ghost use Rattle.tape.specs.NodeFacts.{factsAt, notesList, notesSeveral};
 ghost use Rattle.tokens.specs.TokenPromises.{Acted, Spaced, SpacedUnwritten, TokenDone, TokenReady};
 
 // ---- format_file
@@ -213,24 +214,24 @@ pub fn simple_clause_token(
 
 // ---- format_group_by_clause, format_order_by_clause
 
-// Whether the clause that opens at `at` holds no list node and more than one node. One scan serves both of the source's.
-pub fn multi_item(tape: &[u8], at: usize, list: u16) -> bool
-    requires { ⌜ NodeAt (now tape) at ⌝ }
-    ensures { λ r. ⌜ Scanned (multiItem list) (now (tape .entry)) at r ⌝ }
+// Whether the clause that opens at `at` holds no list node and more than one node, by what the check has noted.
+pub fn multi_item(facts: &[u8], at: usize, list: u16) -> bool
+    requires { ⌜ at < 11 * length (now facts) ⌝ }
+    ensures { λ r. ⌜ r ≡ (notesSeveral (factsAt (now (facts .entry)) at) && not (notesList list (factsAt (now (facts .entry)) at))) ⌝ }
 {
-    if several_list_items(tape, at) {
-        return !has_child(tape, at, list);
+    if several_list_items(facts, at) {
+        return !has_list(facts, at, list);
     }
     false
 }
 
 // Whether the child that opens at `at` is the clause's list and holds more than one item.
-pub fn several_items(tape: &[u8], at: usize, list: u16, kind: u16) -> bool
-    requires { ⌜ NodeAt (now tape) at ⌝ }
-    ensures { λ r. ⌜ Scanned (λ kids. eqb kind list && severalListItems kids) (now (tape .entry)) at r ⌝ }
+pub fn several_items(facts: &[u8], at: usize, list: u16, kind: u16) -> bool
+    requires { ⌜ at < 11 * length (now facts) ⌝ }
+    ensures { λ r. ⌜ r ≡ (eqb kind list && notesSeveral (factsAt (now (facts .entry)) at)) ⌝ }
 {
     if kind == list {
-        return several_list_items(tape, at);
+        return several_list_items(facts, at);
     }
     false
 }

@@ -1,8 +1,8 @@
 -- From the walk to the two calls.
-use mathlib.Core.Path.{_≡_, refl, sym, ap, subst, _∙_}
 use mathlib.Core.Bool.{Bool}
+use mathlib.Core.Path.{_≡_, refl, sym, ap, subst, _∙_}
 use mathlib.Core.List.{List, [], _∷_, _++_}
-use Prim.Native.Nat.{ℕ, zero, suc, _+_, _^_, _≤_, _<_}
+use Prim.Native.Nat.{ℕ, zero, suc, _+_, _*_, _^_, _≤_, _<_}
 use native.Mathlib.Omega.{arith}
 use lib.ListN.{length, take, drop, set}
 use lib.Seq.{length-take-le, take-take}
@@ -20,10 +20,12 @@ use Rattle.tape.specs.declared.Head.{Head}
 use Rattle.tape.specs.declared.Fault.{Fault}
 use Rattle.tape.specs.declared.Checked.{Checked}
 use Rattle.tape.specs.declared.Checked.the-variants.{Accepted, Refused}
-use Rattle.tape.specs.Tree.{Tree, hasError}
+use Rattle.tape.specs.Tree.{Tree}
+use Rattle.tape.specs.NodeFacts.{Noted, NotedOf}
 use Rattle.tape.specs.Tape.{Read, refused, got, readTree, headAt, verdict}
 use Rattle.tape.specs.Call.{readCall}
 use Rattle.tape.specs.Faults.{number}
+use Rattle.tape.specs.SpelledAt.{AcceptedCall}
 use Rattle.tape.proofs.Acceptance.{accepted-call}
 use Rattle.layout.specs.declared.Answer.{Answer}
 use Rattle.layout.specs.FormatNode.{formatNode}
@@ -47,9 +49,9 @@ take-splice (suc k) (b ∷ bs) (x ∷ xs) h l = ap {B = List ℕ} (λ r. b ∷ r
 
 -- ── the walk from the start
 
-pub root-ready : {text tape : List ℕ} {config : FormatConfig} {errors : Bool} {h : Head} {c : FormatterContext} → Ready text tape config errors → h ≡ headAt tape 0 → c ≡ new
-    → NodeReady text tape config errors 63 0 c × (h .kind ≡ headAt tape 0 .kind)
-root-ready {text} {tape} {config} {errors} p q e =
+pub root-ready : {text tape facts : List ℕ} {config : FormatConfig} {h : Head} {c : FormatterContext} → Ready text tape facts config → h ≡ headAt tape 0 → c ≡ new
+    → NodeReady text tape facts config 63 0 c × (h .kind ≡ headAt tape 0 .kind)
+root-ready {text} {tape} {facts} {config} p q e =
     let a = p .accepted in (
       rw e (record {
         sizes = p .sizes;
@@ -59,7 +61,7 @@ root-ready {text} {tape} {config} {errors} p q e =
         kids = a .tree .kids;
         spelled = a .kids;
         low = omega (arith, a .depth);
-        clean = λ f. ap (λ (h : Head). hasError (record { head = h; kids = a .tree .kids })) (sym (a .root .head)) ∙ p .has-error ∙ f;
+        noted = subst (λ (h : Head). Noted facts (record { head = h; kids = a .tree .kids })) (a .root .head) (p .noted);
       }),
       ap (λ (x : Head). x .kind) q,
     )
@@ -72,10 +74,10 @@ record Walked (bs xs : List ℕ) (w : Walk) (ys : List ℕ) : Type 0 where
   bytes : ys ≡ splice 0 bs xs
   short : w .context .position .trimmed ≤ 2 ^ 60
 
-walked : {text tape : List ℕ} {config : FormatConfig} {errors : Bool} {c : FormatterContext} {xs ys : List ℕ} {w : Walk} → Ready text tape config errors → c ≡ new
+walked : {text tape facts : List ℕ} {config : FormatConfig} {c : FormatterContext} {xs ys : List ℕ} {w : Walk} → Ready text tape facts config → c ≡ new
     → NodeDone text tape config 0 c xs w ys → (t : Tree) (p : ℕ) → readTree (length text) tape ≡ got t p → Walked (bytesOf (allCells config text t)) xs w ys
 unfolding piecesOf original appended advanced
-walked {text} {tape} {config} {errors} {c} {xs} {ys} {w} r e d t p q =
+walked {text} {tape} {facts} {config} {c} {xs} {ys} {w} r e d t p q =
     let a = r .accepted in
     let u = d .all (a .tree .kids) (a .kids) in
     let k : a .tree ≡ t = same-tree (sym (a .read) ∙ q) in
@@ -96,7 +98,7 @@ walked {text} {tape} {config} {errors} {c} {xs} {ys} {w} r e d t p q =
       short = omega (arith, trimmed-le isWhiteSpace (bytesOf X), d .grew .length, d .inside, r .sizes .tape-fits, b);
     }
 
-module _ {text tape : List ℕ} {config : FormatConfig} {errors : Bool} {c : FormatterContext} {w : Walk} (r : Ready text tape config errors) (e : c ≡ new) where
+module _ {text tape facts : List ℕ} {config : FormatConfig} {c : FormatterContext} {w : Walk} (r : Ready text tape facts config) (e : c ≡ new) where
   pub walked-into : {xs ys : List ℕ} → NodeDone text tape config 0 c xs w ys → WalkedInto text tape config xs (w .context .position .trimmed) ys
   walked-into d =
       record {
@@ -192,23 +194,29 @@ module _ (width case : ℕ) (text tape : List ℕ) where
   refused-layout {f} {n} {p} xs k e =
       ap (λ (m : ℕ). record { answer = record { number = m; value = p }; space = xs }) k ∙ sym (ap (λ (o : Outcome). laidOut o xs) (refused-is f p e))
 
-  module _ {errors : Bool} (e : Accepted errors ≡ verdict (readCall width case text tape)) where
-    pub ready : Ready text tape (configOf width case) errors
-    ready =
-        let k = accepted-call width case text tape (sym e) in
-        record { sizes = record { text = k .text-fits; tape-fits = k .tape-fits; width = k .width-fits }; accepted = k .accepted; has-error = k .has-error }
+  module _ (e : Accepted ≡ verdict (readCall width case text tape)) where
+    call : AcceptedCall width case text tape
+    call = accepted-call width case text tape (sym e)
 
-    accepted-is : outcome original width case text tape ≡ laid (format original (configOf width case) text (ready .accepted .tree))
-    unfolding outcome ready
-    accepted-is = ap (λ (r : Read Tree). ofRead r (format original (configOf width case) text)) (accepted-call width case text tape (sym e) .read)
+    pub ready : {facts : List ℕ} → NotedOf (readCall width case text tape) facts → (length tape ≤ 262144 → length tape ≤ 11 * length facts) → Ready text tape facts (configOf width case)
+    ready {facts} n room =
+        record {
+          sizes = record { text = call .text-fits; tape-fits = call .tape-fits; facts-fit = room (call .tape-fits); width = call .width-fits };
+          accepted = call .accepted;
+          noted = subst (λ (r : Read Tree). NotedOf r facts) (call .read) n;
+        }
+
+    accepted-is : outcome original width case text tape ≡ laid (format original (configOf width case) text (call .accepted .tree))
+    unfolding outcome
+    accepted-is = ap (λ (r : Read Tree). ofRead r (format original (configOf width case) text)) (call .read)
 
     pub measures : {config : FormatConfig} {r : Answer} → config ≡ configOf width case → Measures text tape config r → r ≡ measured (outcome original width case text tape)
     measures {config} {r} c m =
         let u = subst (λ (z : FormatConfig). Measures text tape z r) c m in
-        u .all (ready .accepted .tree) _ (ready .accepted .read) ∙ ap measured (sym accepted-is)
+        u .all (call .accepted .tree) _ (call .accepted .read) ∙ ap measured (sym accepted-is)
 
     pub lays-out : {config : FormatConfig} {r : Answer} {xs ys : List ℕ} → config ≡ configOf width case → LaysOut text tape config xs r ys
         → _≡_ {A = Result} (record { answer = r; space = ys }) (laidOut (outcome original width case text tape) xs)
     lays-out {config} {r} {xs} {ys} c m =
         let u = subst (λ (z : FormatConfig). LaysOut text tape z xs r ys) c m in
-        u .all (ready .accepted .tree) _ (ready .accepted .read) ∙ ap (λ (o : Outcome). laidOut o xs) (sym accepted-is)
+        u .all (call .accepted .tree) _ (call .accepted .read) ∙ ap (λ (o : Outcome). laidOut o xs) (sym accepted-is)

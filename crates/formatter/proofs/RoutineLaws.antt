@@ -1,15 +1,22 @@
 -- What the routines' definitions come to around a child node, as the loops have it.
 use Prim.Native.Nat.{ℕ}
-use mathlib.Core.Path.{_≡_, refl, sym, ap}
-use mathlib.Core.Bool.{Bool, true, false, cond, not, _&&_}
-use mathlib.Core.List.{List, [], _∷_}
+use mathlib.Core.Path.{_≡_, refl, sym, ap, _∙_}
+use mathlib.Core.Bool.{Bool, true, false, cond, not, _&&_, _||_, and-false, and-true, false≢true}
+use mathlib.Core.Logic.{inl, inr, ⊎-elim}
+use mathlib.Core.List.{List, [], _∷_, map}
 use lib.Dec.{eqb, ltb}
-use Rattle.basics.specs.Match.{among}
-use Rattle.tape.specs.Kinds.{ColumnList, SettingList, WhenClause, SelectStatement, UnionClause}
-use Rattle.tape.specs.Tree.{Children}
+use borrow.Author.Tests.{eqb-true}
+use Rattle.basics.specs.Match.{among, match}
+use Rattle.tape.specs.Kinds.{ColumnList, SettingList, WhenClause, SelectStatement, UnionClause, GroupByList, OrderByList}
+use Rattle.tape.specs.Tree.{Children, hasChild, countListItems, severalListItems}
+use Rattle.tape.specs.NodeFacts.{notesSeveral, notesList, NodeFacts}
 use Rattle.layout.specs.declared.Local.{Local}
+use Rattle.layout.specs.declared.Routine.{Routine}
+use Rattle.layout.specs.declared.Routine.the-variants as the-variants
 use Rattle.layout.specs.Arms.{Spacing, newline, space, indent, dedent}
+use Rattle.layout.specs.FormatNode.{routines, routineOf}
 use Rattle.layout.specs.Routines.{flagged, formatSelectClause, formatSettingsClause, formatCaseExpression, multiItem, listClauseNode, listClauseArms, formatListClause, formatUnionClause}
+use Rattle.formatter.specs.RoutinePromises.{IsList}
 
 -- a match on the child's kind whose arms leave the local variables as they are
 kept : (l : Local) (t : Bool) (x y : List Spacing × List Spacing) → l ≡ (cond {A = Local × List Spacing × List Spacing} t (l, x .0, x .1) (l, y .0, y .1)) .0
@@ -37,6 +44,71 @@ case-after l k = go (eqb k WhenClause)
     go false = refl
 
 -- ── format_group_by_clause, format_order_by_clause
+
+-- the list of a clause is one of the two: computed over the table of routines
+listed : Routine → Bool
+listed the-variants.File = true
+listed the-variants.QueryList = true
+listed the-variants.SelectStatement = true
+listed the-variants.SelectClause = true
+listed the-variants.SimpleClause = true
+listed (the-variants.ListClause list) = eqb list GroupByList || eqb list OrderByList
+listed the-variants.SettingsClause = true
+listed the-variants.WithClause = true
+listed the-variants.JoinClause = true
+listed the-variants.Inline = true
+listed the-variants.CommaList = true
+listed the-variants.InlineCommaList = true
+listed the-variants.BinaryExpression = true
+listed the-variants.UnaryExpression = true
+listed the-variants.FunctionCall = true
+listed the-variants.CaseExpression = true
+listed the-variants.WhenClause = true
+listed the-variants.Subquery = true
+listed the-variants.ParenList = true
+listed the-variants.BracketList = true
+listed the-variants.InlineNoSpaces = true
+listed the-variants.BraceList = true
+listed the-variants.DataType = true
+listed the-variants.InlineTightParens = true
+listed the-variants.AlterCommandList = true
+listed the-variants.UnionClause = true
+listed the-variants.Passthrough = true
+
+match-all : (k : ℕ) (table : List (ℕ × Routine)) (d : Routine) → map (λ (e : ℕ × Routine). listed (e .1)) table ≡ map (λ (e : ℕ × Routine). true) table → listed d ≡ true
+    → listed (match k table d) ≡ true
+match-all k [] d t u = u
+match-all k (e ∷ es) d t u = go (eqb k (e .0)) (first t) (match-all k es d (others t) u)
+  where
+    first : {a b : Bool} {xs ys : List Bool} → a ∷ xs ≡ b ∷ ys → a ≡ b
+    first w = cc
+
+    others : {a b : Bool} {xs ys : List Bool} → a ∷ xs ≡ b ∷ ys → xs ≡ ys
+    others w = cc
+
+    go : (b : Bool) → listed (e .1) ≡ true → listed (match k es d) ≡ true → listed (cond b (e .1) (match k es d)) ≡ true
+    go true v w = v
+    go false v w = w
+
+pub is-list : (k list : ℕ) → the-variants.ListClause list ≡ routineOf k → IsList list
+unfolding routineOf routines listed
+is-list k list e = either (eqb list GroupByList) (eqb list OrderByList) refl refl (ap listed e ∙ match-all k routines the-variants.Passthrough refl refl)
+  where
+    either : (g o : Bool) → eqb list GroupByList ≡ g → eqb list OrderByList ≡ o → (g || o) ≡ true → IsList list
+    either true o u v w = inl (eqb-true list GroupByList u)
+    either false true u v w = inr (eqb-true list OrderByList v)
+    either false false u v w = absurd (false≢true w)
+
+-- by what the check has noted of the clause
+pub multi-noted : {f k : ℕ} {list : ℕ} {kids : Children} → IsList list → NodeFacts f k kids → (notesSeveral f && not (notesList list f)) ≡ multiItem list kids
+unfolding multiItem
+multi-noted {f} {k} {list} {kids} o n =
+    let has : notesList list f ≡ hasChild list kids = ⊎-elim (λ e. rw e (n .group-by-list)) (λ e. rw e (n .order-by-list)) o in
+    rw (n .several, has) (go (hasChild list kids))
+  where
+    go : (b : Bool) → (ltb 1 (countListItems kids) && not b) ≡ ltb 1 (cond (not b) (countListItems kids) 0)
+    go true = and-false (ltb 1 (countListItems kids))
+    go false = and-true (ltb 1 (countListItems kids))
 
 pub list-known : (list : ℕ) (kids : Children) (multi : Bool) → multi ≡ multiItem list kids → formatListClause list kids ≡ listClauseArms list multi
 unfolding formatListClause

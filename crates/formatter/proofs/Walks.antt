@@ -1,8 +1,8 @@
 -- The laws by which the routines and the dispatch meet their promises, one for each kind of need.
 use mathlib.Core.Path.{_≡_, refl, sym, ap, subst, _∙_}
-use mathlib.Core.Bool.{Bool, true, false, cond}
+use mathlib.Core.Bool.{Bool, true, false, cond, _||_}
 use mathlib.Core.List.{List, _++_, map}
-use Prim.Native.Nat.{ℕ, _+_, _-_, _≤_, _<_}
+use Prim.Native.Nat.{ℕ, _+_, _-_, _*_, _≤_, _<_}
 use native.Mathlib.Omega.{arith}
 use lib.ListN.{length, getD}
 use lib.Dec.{eqb}
@@ -12,11 +12,12 @@ use Rattle.context.specs.Store.{Store, Room}
 use Rattle.context.specs.declared.FormatConfig.{FormatConfig}
 use Rattle.context.specs.declared.FormatterContext.{FormatterContext}
 use Rattle.tape.specs.declared.Head.{Head}
-use Rattle.tape.specs.Tree.{Children, done, token, node, size, height, countListItems, copied, hasErrorBelow, hasError}
+use Rattle.tape.specs.Kinds.{Error, QueryList}
+use Rattle.tape.specs.Tree.{Children, done, token, node, size, height, hasErrorChild, countListItems, severalListItems, copied, EachNode}
 use Rattle.tape.specs.Tape.{headAt}
-use Rattle.tape.specs.SpelledAt.{SpelledAt, NodeAt, Skipped, Scanned}
+use Rattle.tape.specs.SpelledAt.{SpelledAt, NodeAt, Skipped}
+use Rattle.tape.specs.NodeFacts.{factsAt, notesError, notesSeveral, NodeFacts, NotedNode}
 use Rattle.tape.proofs.Trees.{some-size, spelled-inside, spelled-byte, spelled-close, spelled-token, spelled-node, spelled-one}
-use Rattle.tape.proofs.Errors.{no-error-node, no-error-root, not-copied}
 use Rattle.layout.specs.declared.Local.{Local}
 use Rattle.layout.specs.declared.Routine.{Routine}
 use Rattle.layout.specs.Arms.{Spacing, seen, Arms}
@@ -27,6 +28,7 @@ use Rattle.layout.proofs.Running.{run-append, run-spacing}
 use Rattle.tokens.specs.TokenPromises.{Ran, Spaced, TokenReady, Acted}
 use Rattle.formatter.specs.declared.Walk.{Walk}
 use Rattle.formatter.specs.RoutinePromises.{Grew, NodeReady, RoutineDone, NodeDone}
+use Rattle.formatter.proofs.Copied.{copied-noted, copied-list, copied-clean}
 
 -- ── the calls of a row of children
 
@@ -64,7 +66,7 @@ pub record Rest (source : Text) (config : FormatConfig) (at : ℕ) (R : Children
   pub at-end : at + 11 + size all ≡ i + size left
   pub same-run : run config source (walk formatNode source (R all) (R all .begin) all) (c, xs) ≡ run config source (walk formatNode source Q l left) (ctx, ys)
 
-pub record Loop (source tape : List ℕ) (config : FormatConfig) (errors : Bool) (left at : ℕ) (R : Children → Arms) (Q : Arms) (c : FormatterContext) (xs ys : List ℕ) (i : ℕ) (ctx : FormatterContext) (l : Local) : Type 0 where
+pub record Loop (source tape facts : List ℕ) (config : FormatConfig) (left at : ℕ) (R : Children → Arms) (Q : Arms) (c : FormatterContext) (xs ys : List ℕ) (i : ℕ) (ctx : FormatterContext) (l : Local) : Type 0 where
   pub inside : i < length tape
   pub past : at + 11 ≤ i
   pub grew : Grew 11 at c i ctx
@@ -72,13 +74,13 @@ pub record Loop (source tape : List ℕ) (config : FormatConfig) (errors : Bool)
   pub kids : Children
   pub spelled : SpelledAt (length source) tape i kids
   pub low : height kids ≤ left
-  pub clean : errors ≡ false → hasErrorBelow kids ≡ false
+  pub noted : EachNode (NotedNode facts) kids
   pub rest : (all : Children) → SpelledAt (length source) tape (at + 11) all → Rest source config at R Q c xs ys i ctx l kids all
 
-pub loop-first : {source tape : List ℕ} {config : FormatConfig} {errors : Bool} {left at : ℕ} {c : FormatterContext} (R : Children → Arms) (Q : Arms) (xs : List ℕ)
-    → NodeReady source tape config errors left at c → ((all : Children) → SpelledAt (length source) tape (at + 11) all → R all ≡ Q)
-    → Loop source tape config errors left at R Q c xs xs (at + 11) c (Q .begin)
-loop-first {source} {tape} {config} {errors} {left} {at} {c} R Q xs p e =
+pub loop-first : {source tape facts : List ℕ} {config : FormatConfig} {left at : ℕ} {c : FormatterContext} (R : Children → Arms) (Q : Arms) (xs : List ℕ)
+    → NodeReady source tape facts config left at c → ((all : Children) → SpelledAt (length source) tape (at + 11) all → R all ≡ Q)
+    → Loop source tape facts config left at R Q c xs xs (at + 11) c (Q .begin)
+loop-first {source} {tape} {facts} {config} {left} {at} {c} R Q xs p e =
     record {
       inside = spelled-inside _ _ _ (p .kids) (p .spelled);
       past = omega arith;
@@ -87,7 +89,7 @@ loop-first {source} {tape} {config} {errors} {left} {at} {c} R Q xs p e =
       kids = p .kids;
       spelled = p .spelled;
       low = p .low;
-      clean = λ q. (no-error-root _ (p .clean q)) .1;
+      noted = p .noted .1;
       rest = λ all z.
           let s = spelled-one _ _ _ _ (p .kids) all (p .spelled) z in
           record {
@@ -98,11 +100,22 @@ loop-first {source} {tape} {config} {errors} {left} {at} {c} R Q xs p e =
           };
     }
 
-pub opened-at : {source tape : List ℕ} {config : FormatConfig} {errors : Bool} {left at : ℕ} {c : FormatterContext} → NodeReady source tape config errors left at c → NodeAt tape at
+-- the node's byte lies in the facts
+pub fact-fits : {source tape facts : List ℕ} {config : FormatConfig} {left at : ℕ} {c : FormatterContext} → NodeReady source tape facts config left at c → at < 11 * length facts
+fact-fits p = omega (arith, p .inside, p .sizes .facts-fit)
+
+-- what the check has noted of the node
+pub node-noted : {source tape facts : List ℕ} {config : FormatConfig} {left at : ℕ} {c : FormatterContext} → NodeReady source tape facts config left at c → (kids : Children)
+    → SpelledAt (length source) tape (at + 11) kids → NodeFacts (factsAt facts at) (headAt tape at .kind) kids
+unfolding headAt
+node-noted {tape = tape} {facts = facts} {at = at} p kids z =
+    subst (NodeFacts (factsAt facts at) (headAt tape at .kind)) (spelled-one _ _ _ _ (p .kids) kids (p .spelled) z) (p .noted .0)
+
+pub opened-at : {source tape facts : List ℕ} {config : FormatConfig} {left at : ℕ} {c : FormatterContext} → NodeReady source tape facts config left at c → NodeAt tape at
 opened-at p = record { len = _; kids = p .kids; inside = p .inside; spelled = p .spelled }
 
-module _ {source tape : List ℕ} {config : FormatConfig} {errors : Bool} {left at : ℕ} {R : Children → Arms} {Q : Arms} {c : FormatterContext} {xs ys : List ℕ} {i : ℕ} {ctx : FormatterContext} {l : Local}
-    (p : NodeReady source tape config errors left at c) (v : Loop source tape config errors left at R Q c xs ys i ctx l) where
+module _ {source tape facts : List ℕ} {config : FormatConfig} {left at : ℕ} {R : Children → Arms} {Q : Arms} {c : FormatterContext} {xs ys : List ℕ} {i : ℕ} {ctx : FormatterContext} {l : Local}
+    (p : NodeReady source tape facts config left at c) (v : Loop source tape facts config left at R Q c xs ys i ctx l) where
   -- a command that is no close opens a node if it is no token
   opens : ((getD tape i 0 ≡ 3) → ⊥) → ((getD tape i 0 ≡ 2) → ⊥) → getD tape i 0 ≡ 1
   opens e f = let b = spelled-byte _ _ _ (v .kids) (v .spelled) in omega arith
@@ -123,8 +136,8 @@ module _ {source tape : List ℕ} {config : FormatConfig} {errors : Bool} {left 
 
   pub token-next : {h : Head} {zs : List ℕ} {a : FormatterContext} {k : Local} → getD tape i 0 ≡ 2 → h ≡ headAt tape i
       → Acted 4 config source h ((Q .atToken l (seen source h)) .1) ctx ys a zs → k ≡ (Q .atToken l (seen source h)) .0 → length zs ≡ length ys
-      → Loop source tape config errors left at R Q c xs zs (i + 11) a k
-  unfolding size height hasErrorBelow
+      → Loop source tape facts config left at R Q c xs zs (i + 11) a k
+  unfolding size height
   token-next {h} {zs} {a} {k} e q d m n =
       let z = spelled-token _ _ _ (v .kids) (v .spelled) e in
       record {
@@ -135,7 +148,7 @@ module _ {source tape : List ℕ} {config : FormatConfig} {errors : Bool} {left 
         kids = z .0;
         spelled = z .3;
         low = omega (arith, v .low, ap height (z .1));
-        clean = λ f. sym (ap hasErrorBelow (z .1)) ∙ v .clean f;
+        noted = subst (EachNode (NotedNode facts)) (z .1) (v .noted);
         rest = λ all y. record {
           at-end = omega (arith, v .rest all y .at-end, ap size (z .1));
           same-run =
@@ -158,14 +171,17 @@ module _ {source tape : List ℕ} {config : FormatConfig} {errors : Bool} {left 
       let q = spelled-node _ _ _ (v .kids) (v .spelled) (opens e f) in
       omega (arith, v .low, ap height (q .2))
 
-  pub child-at : ((getD tape i 0 ≡ 3) → ⊥) → ((getD tape i 0 ≡ 2) → ⊥) → NodeAt tape i
-  child-at e f =
+  -- what the check has noted of the child
+  pub child-noted : ((getD tape i 0 ≡ 3) → ⊥) → ((getD tape i 0 ≡ 2) → ⊥) → (kids : Children) → SpelledAt (length source) tape (i + 11) kids
+      → notesSeveral (factsAt facts i) ≡ severalListItems kids
+  unfolding headAt
+  child-noted e f kids z =
       let q = spelled-node _ _ _ (v .kids) (v .spelled) (opens e f) in
-      record { len = _; kids = q .0; inside = q .3 .inside; spelled = q .4 }
+      (subst (EachNode (NotedNode facts)) (q .2) (v .noted)) .0 .several ∙ ap severalListItems (spelled-one _ _ _ _ (q .0) kids (q .4) z)
 
   pub node-ready : {h : Head} {n : ℕ} {a : FormatterContext} {x : List Spacing} {zs : List ℕ} → ((getD tape i 0 ≡ 3) → ⊥) → ((getD tape i 0 ≡ 2) → ⊥)
-      → h ≡ headAt tape i → Spaced n x ctx ys a zs → n ≤ 4 → NodeReady source tape config errors (left - 1) i a × (h .kind ≡ headAt tape i .kind)
-  unfolding height hasErrorBelow hasError
+      → h ≡ headAt tape i → Spaced n x ctx ys a zs → n ≤ 4 → NodeReady source tape facts config (left - 1) i a × (h .kind ≡ headAt tape i .kind)
+  unfolding height
   node-ready e f r d h =
       let q = spelled-node _ _ _ (v .kids) (v .spelled) (opens e f) in (
         record {
@@ -176,9 +192,7 @@ module _ {source tape : List ℕ} {config : FormatConfig} {errors : Bool} {left 
           kids = q .0;
           spelled = q .4;
           low = omega (arith, v .low, ap height (q .2));
-          clean = λ g.
-              let k = no-error-node (headAt tape i) (q .0) (q .1) (sym (ap hasErrorBelow (q .2)) ∙ v .clean g) in
-              rw (k .0, k .1);
+          noted = let n = subst (EachNode (NotedNode facts)) (q .2) (v .noted) in (n .0, n .1);
         },
         ap (λ (x : Head). x .kind) r,
       )
@@ -187,8 +201,8 @@ module _ {source tape : List ℕ} {config : FormatConfig} {errors : Bool} {left 
       → ((getD tape i 0 ≡ 3) → ⊥) → ((getD tape i 0 ≡ 2) → ⊥) → h ≡ headAt tape i
       → ((kids : Children) → SpelledAt (length source) tape (i + 11) kids → Q .atNode l (h .kind) (countListItems kids) ≡ N)
       → Spaced m (N .1) ctx ys a zs → NodeDone source tape config i a zs w us → k ≡ N .0 → Spaced n (N .2) (w .context) us b vs
-      → m ≤ 4 → n ≤ 4 → length vs ≡ length ys → Loop source tape config errors left at R Q c xs vs (w .at) b k
-  unfolding size height hasErrorBelow
+      → m ≤ 4 → n ≤ 4 → length vs ≡ length ys → Loop source tape facts config left at R Q c xs vs (w .at) b k
+  unfolding size height
   node-next {h} {a = a} {b = b} {k = k} {w = w} {zs = zs} {us = us} {vs = vs} N e f q j before d kept after m4 n4 n =
       let z = spelled-node _ _ _ (v .kids) (v .spelled) (opens e f) in
       let y = d .all (z .0) (z .4) in
@@ -201,7 +215,7 @@ module _ {source tape : List ℕ} {config : FormatConfig} {errors : Bool} {left 
         kids = z .1;
         spelled = o;
         low = omega (arith, v .low, ap height (z .2));
-        clean = λ g. (no-error-node (headAt tape i) (z .0) (z .1) (sym (ap hasErrorBelow (z .2)) ∙ v .clean g)) .2;
+        noted = (subst (EachNode (NotedNode facts)) (z .2) (v .noted)) .2;
         rest = λ all x. record {
           at-end = omega (arith, v .rest all x .at-end, ap size (z .2), y .at);
           same-run =
@@ -236,19 +250,27 @@ module _ {source tape : List ℕ} {config : FormatConfig} {errors : Bool} {left 
 
 -- ── the dispatch
 
-module _ {source tape : List ℕ} {config : FormatConfig} {errors : Bool} {left at : ℕ} {c : FormatterContext} (p : NodeReady source tape config errors left at c) where
-  -- where the tape has no Error node nothing is copied
-  pub clean-node : {kind : ℕ} → kind ≡ headAt tape at .kind → errors ≡ false → Scanned (copied kind) tape at false
-  clean-node q e =
-      record {
-        all = λ len kids z.
-            let s = spelled-one _ _ _ _ (p .kids) kids (p .spelled) z in
-            let k = no-error-root _ (p .clean e) in
-            sym (ap (λ (x : ℕ). copied x kids) q ∙ not-copied (headAt tape at .kind) kids (k .0) (sym (ap hasErrorBelow s) ∙ k .1));
-      }
-
+module _ {source tape facts : List ℕ} {config : FormatConfig} {left at : ℕ} {c : FormatterContext} (p : NodeReady source tape facts config left at c) where
   pub copy-ready : {h : Head} → h ≡ headAt tape at → (length source ≤ 262144) × (h .start ≤ h .end → h .end ≤ length source) × Room 1 c
   copy-ready q = (p .sizes .text, rw q (p .span), omega arith)
+
+-- b says of the node that opens at i, by whatever its children are, whether it is copied
+abbrev pub Decided : List ℕ → List ℕ → ℕ → ℕ → Bool → Type 0
+Decided source tape i kind b = (kids : Children) → SpelledAt (length source) tape (i + 11) kids → b ≡ copied kind kids
+
+-- by what the check has noted, and the kind that the caller read
+module _ {source tape facts : List ℕ} {config : FormatConfig} {left at kind : ℕ} {c : FormatterContext} (p : NodeReady source tape facts config left at c) (q : kind ≡ headAt tape at .kind) where
+  noted-error : {r : Bool} → r ≡ notesError (factsAt facts at) → (kids : Children) → SpelledAt (length source) tape (at + 11) kids → r ≡ (eqb kind Error || hasErrorChild kids)
+  noted-error e kids z = e ∙ node-noted p kids z .error ∙ ap (λ (x : ℕ). eqb x Error || hasErrorChild kids) (sym q)
+
+  pub decided-copied : {r : Bool} → r ≡ notesError (factsAt facts at) → r ≡ true → (kind ≡ QueryList → ⊥) → Decided source tape at kind true
+  decided-copied e t n kids z = copied-noted kind kids (sym (noted-error e kids z) ∙ t) n
+
+  pub decided-list : kind ≡ QueryList → Decided source tape at kind false
+  decided-list e kids z = copied-list kind kids e
+
+  pub decided-clean : {r : Bool} → r ≡ notesError (factsAt facts at) → r ≡ false → Decided source tape at kind false
+  decided-clean e t kids z = copied-clean kind kids (sym (noted-error e kids z) ∙ t)
 
 -- a node is copied or goes to its routine, by the kind that the caller read
 by-kind : (config : FormatConfig) (source : Text) (h : Head) (kids : Children) (w : Store) {kind : ℕ} {b : Bool} → kind ≡ h .kind → b ≡ copied kind kids
@@ -259,8 +281,8 @@ by-kind config source h kids w {kind} q e =
     ap (λ (x : Bool). run config source (cond x (formatErrorVerbatim h) (walk formatNode source (formatNode kind kids) (formatNode kind kids .begin) kids)) w) e
     ∙ ap (λ (x : ℕ). run config source (cond (copied x kids) (formatErrorVerbatim h) (walk formatNode source (formatNode x kids) (formatNode x kids .begin) kids)) w) q
 
-pub node-copied : {source tape : List ℕ} {config : FormatConfig} {errors : Bool} {left at kind j : ℕ} {c a : FormatterContext} {h : Head} {xs ys : List ℕ}
-    → NodeReady source tape config errors left at c → kind ≡ headAt tape at .kind → h ≡ headAt tape at → Scanned (copied kind) tape at true
+pub node-copied : {source tape facts : List ℕ} {config : FormatConfig} {left at kind j : ℕ} {c a : FormatterContext} {h : Head} {xs ys : List ℕ}
+    → NodeReady source tape facts config left at c → kind ≡ headAt tape at .kind → h ≡ headAt tape at → Decided source tape at kind true
     → Skipped tape at j → Ran 1 config source (formatErrorVerbatim h) c xs a ys → NodeDone source tape config at c xs (record { at = j; context = a }) ys
 node-copied {source} {tape} {config} {at = at} {c = c} {xs = xs} p q e o s d =
     record {
@@ -271,12 +293,12 @@ node-copied {source} {tape} {config} {at = at} {c = c} {xs = xs} p q e o s d =
         at = s .past _ kids z;
         did =
             d .did ∙ ap (λ (x : Head). run config source (formatErrorVerbatim x) (c, xs)) e
-            ∙ by-kind config source (headAt tape at) kids (c, xs) q (o .all _ kids z);
+            ∙ by-kind config source (headAt tape at) kids (c, xs) q (o kids z);
       };
     }
 
 pub node-by : {source tape : List ℕ} {config : FormatConfig} {at kind : ℕ} {c : FormatterContext} {xs ys : List ℕ} {w : Walk} (r : Routine)
-    → kind ≡ headAt tape at .kind → Scanned (copied kind) tape at false → r ≡ routineOf kind
+    → kind ≡ headAt tape at .kind → Decided source tape at kind false → r ≡ routineOf kind
     → RoutineDone source tape config at (armsOf r) c xs w ys → NodeDone source tape config at c xs w ys
 unfolding formatNode
 node-by {source} {tape} {config} {at} {kind} {c} {xs} r q o e d =
@@ -291,9 +313,6 @@ node-by {source} {tape} {config} {at} {kind} {c} {xs} r q o e d =
             did =
                 y .did
                 ∙ ap (λ (x : Routine). run config source (walk formatNode source (armsOf x kids) (armsOf x kids .begin) kids) (c, xs)) e
-                ∙ by-kind config source (headAt tape at) kids (c, xs) q (o .all _ kids z);
+                ∙ by-kind config source (headAt tape at) kids (c, xs) q (o kids z);
           };
     }
-
-pub scanned-as : {A : Type 0} {f : Children → A} {tape : List ℕ} {i : ℕ} {x y : A} → Scanned f tape i x → x ≡ y → Scanned f tape i y
-scanned-as o e = record { all = λ n k z. sym e ∙ o .all n k z }

@@ -1,6 +1,5 @@
 -- What the parts of the two calls ask and promise, where the tape is accepted.
 use mathlib.Core.Path.{_≡_}
-use mathlib.Core.Bool.{Bool}
 use mathlib.Core.List.{List, _++_}
 use Prim.Native.Nat.{ℕ, _^_, _≤_}
 use lib.ListN.{length, drop}
@@ -8,19 +7,20 @@ use Rattle.context.specs.Cells.{Text, Cell, bytesOf, isWhiteSpace}
 use Rattle.context.specs.Trim.{trimmedLength}
 use Rattle.context.specs.Splice.{splice}
 use Rattle.context.specs.declared.FormatConfig.{FormatConfig}
-use Rattle.tape.specs.Tree.{Tree, hasError}
+use Rattle.tape.specs.Tree.{Tree}
 use Rattle.tape.specs.Tape.{got, readTree}
 use Rattle.tape.specs.SpelledAt.{AcceptedTape}
+use Rattle.tape.specs.NodeFacts.{Noted}
 use Rattle.layout.specs.declared.Answer.{Answer}
 use Rattle.layout.specs.Layout.{written, original, piecesOf, format}
 use Rattle.layout.specs.Outcome.{Result, laid, laidOut, measured}
 use Rattle.formatter.specs.RoutinePromises.{Sizes}
 
--- the tape is accepted, and `errors` says whether its tree has an Error node
-pub record Ready (text tape : List ℕ) (config : FormatConfig) (errors : Bool) : Type 0 where
-  pub sizes : Sizes text tape config
+-- the tape is accepted, and the check has noted what is true of each node of its tree
+pub record Ready (text tape facts : List ℕ) (config : FormatConfig) : Type 0 where
+  pub sizes : Sizes text tape facts config
   pub accepted : AcceptedTape (length text) tape
-  pub has-error : hasError (accepted .tree) ≡ errors
+  pub noted : Noted facts (accepted .tree)
 
 -- all that is written for the tree, before it is trimmed
 abbrev pub allCells : FormatConfig → Text → Tree → List Cell

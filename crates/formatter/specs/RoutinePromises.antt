@@ -1,26 +1,29 @@
 -- What the routines and the dispatch ask and promise.
 use mathlib.Core.Path.{_≡_}
-use mathlib.Core.Bool.{Bool, false}
 use mathlib.Core.List.{List}
+use mathlib.Core.Logic.{_⊎_}
 use Prim.Native.Nat.{ℕ, _+_, _*_, _^_, _≤_, _<_}
 use lib.ListN.{length}
 use Rattle.context.specs.Cells.{Text}
 use Rattle.context.specs.Store.{Store}
 use Rattle.context.specs.declared.FormatConfig.{FormatConfig}
 use Rattle.context.specs.declared.FormatterContext.{FormatterContext}
-use Rattle.tape.specs.Tree.{Children, size, height, hasError}
+use Rattle.tape.specs.Kinds.{GroupByList, OrderByList}
+use Rattle.tape.specs.Tree.{Children, size, height}
 use Rattle.tape.specs.Tape.{headAt}
 use Rattle.tape.specs.SpelledAt.{SpelledAt}
+use Rattle.tape.specs.NodeFacts.{Noted}
 use Rattle.layout.specs.Arms.{Arms}
 use Rattle.layout.specs.FormatNode.{formatNode}
 use Rattle.layout.specs.Calls.{Call, walk, calls}
 use Rattle.layout.specs.Run.{run}
 use Rattle.formatter.specs.declared.Walk.{Walk}
 
--- the limits that the entry tests
-pub record Sizes (source tape : List ℕ) (config : FormatConfig) : Type 0 where
+-- the limits that the entry tests, and room for what the check notes
+pub record Sizes (source tape facts : List ℕ) (config : FormatConfig) : Type 0 where
   pub text : length source ≤ 262144
   pub tape-fits : length tape ≤ 262144
+  pub facts-fit : length tape ≤ 11 * length facts
   pub width : config .«indent_width» ≤ 16
 
 -- what was written up to the place i is bounded by i + n
@@ -33,21 +36,25 @@ pub record Grew (n i : ℕ) (c : FormatterContext) (j : ℕ) (r : FormatterConte
   pub level : r .state .«indent_level» + i + n ≤ c .state .«indent_level» + j
   pub length : r .position .length + 2 ^ 32 * (i + n) ≤ c .position .length + 2 ^ 32 * j
 
--- a node opens at i, the tape spells its children after it, at most so many levels deep; where `errors` is not set it has no Error node
-pub record NodeReady (source tape : List ℕ) (config : FormatConfig) (errors : Bool) (left i : ℕ) (c : FormatterContext) : Type 0 where
-  pub sizes : Sizes source tape config
+-- a node opens at i, the tape spells its children after it, at most so many levels deep, and the check has noted what is true of each
+pub record NodeReady (source tape facts : List ℕ) (config : FormatConfig) (left i : ℕ) (c : FormatterContext) : Type 0 where
+  pub sizes : Sizes source tape facts config
   pub inside : i + 11 ≤ length tape
   pub room : RoomAt 8 i c
   pub span : headAt tape i .start ≤ headAt tape i .end → headAt tape i .end ≤ length source
   pub kids : Children
   pub spelled : SpelledAt (length source) tape (i + 11) kids
   pub low : height kids ≤ left
-  pub clean : errors ≡ false → hasError (record { head = headAt tape i; kids = kids }) ≡ false
+  pub noted : Noted facts (record { head = headAt tape i; kids = kids })
 
 -- for these children: the walk w ends after them, and with ys it is what the calls make of c and xs
 pub record WalkDone (source : Text) (config : FormatConfig) (i : ℕ) (cs : List Call) (c : FormatterContext) (xs : List ℕ) (w : Walk) (ys : List ℕ) (kids : Children) : Type 0 where
   pub at : w .at ≡ i + 11 + size kids
   pub did : _≡_ {A = Store} (w .context, ys) (run config source cs (c, xs))
+
+-- the lists of which the check notes whether a clause has one
+abbrev pub IsList : ℕ → Type 0
+IsList list = (list ≡ GroupByList) ⊎ (list ≡ OrderByList)
 
 -- a routine that does not look ahead
 abbrev pub always : Arms → Children → Arms

@@ -80,7 +80,7 @@ use layout::Local;
 use layout::PrevKind;
 use layout::Routine;
 use tape::commands::head_at;
-use tape::scan::has_error_child;
+use tape::facts::has_error;
 use tape::scan::skip;
 use tape::syntax_kind;
 use tokens::emit_other;
@@ -88,24 +88,22 @@ use tokens::format_error_verbatim;
 use tokens::space_after;
 use tokens::space_if;
 ghost use mathlib.Core.Path.{_≡_};
-ghost use Rattle.tape.specs.SpelledAt.{NodeAt, Scanned};
 ghost use Rattle.tape.specs.Tape.{headAt};
-ghost use Rattle.tape.specs.Tree.{copied};
 ghost use Rattle.layout.specs.Routines.{formatAlterCommandList, formatBinaryExpression, formatBraceList, formatBracketList, formatCaseExpression, formatCommaList, formatDataType, formatFile, formatFunctionCall, formatInline, formatInlineCommaList, formatInlineNoSpaces, formatInlineTightParens, formatJoinClause, formatListClause, formatParenList, formatPassthrough, formatQueryList, formatSelectClause, formatSelectStatement, formatSettingsClause, formatSimpleClause, formatSubquery, formatUnaryExpression, formatUnionClause, formatWhenClause, formatWithClause};
-ghost use Rattle.formatter.specs.RoutinePromises.{NodeDone, NodeReady, RoutineDone, always};
+ghost use Rattle.formatter.specs.RoutinePromises.{IsList, NodeDone, NodeReady, RoutineDone, always};
 
 // format_file
 fn file(
     source: &[u8],
     tape: &[u8],
     config: FormatConfig,
-    errors: bool,
+    facts: &[u8],
     out: &mut [u8],
     left: usize,
     at: usize,
     c: FormatterContext,
 ) -> Walk
-    requires { ⌜ NodeReady (now source) (now tape) config errors left at c ⌝ }
+    requires { ⌜ NodeReady (now source) (now tape) (now facts) config left at c ⌝ }
     ensures { λ r. ⌜ RoutineDone (now (source .entry)) (now (tape .entry)) config at (always formatFile) c (now (out .entry)) r (now (out .exit)) ⌝ }
 {
     let mut i = at + 11;
@@ -121,7 +119,7 @@ fn file(
             i += 11;
         } else {
             let a = file_before(out, ctx, local);
-            let w = node(source, tape, config, errors, out, left - 1, i, h.kind, a);
+            let w = node(source, tape, config, facts, out, left - 1, i, h.kind, a);
             ctx = w.context;
             local = Local {
                 flag: true,
@@ -141,13 +139,13 @@ fn queries(
     source: &[u8],
     tape: &[u8],
     config: FormatConfig,
-    errors: bool,
+    facts: &[u8],
     out: &mut [u8],
     left: usize,
     at: usize,
     c: FormatterContext,
 ) -> Walk
-    requires { ⌜ NodeReady (now source) (now tape) config errors left at c ⌝ }
+    requires { ⌜ NodeReady (now source) (now tape) (now facts) config left at c ⌝ }
     ensures { λ r. ⌜ RoutineDone (now (source .entry)) (now (tape .entry)) config at (always formatQueryList) c (now (out .entry)) r (now (out .exit)) ⌝ }
 {
     let mut i = at + 11;
@@ -163,7 +161,7 @@ fn queries(
             i += 11;
         } else {
             let a = query_list_before(out, ctx, local);
-            let w = node(source, tape, config, errors, out, left - 1, i, h.kind, a);
+            let w = node(source, tape, config, facts, out, left - 1, i, h.kind, a);
             ctx = w.context;
             local = Local {
                 flag: false,
@@ -183,13 +181,13 @@ fn sel_stmt(
     source: &[u8],
     tape: &[u8],
     config: FormatConfig,
-    errors: bool,
+    facts: &[u8],
     out: &mut [u8],
     left: usize,
     at: usize,
     c: FormatterContext,
 ) -> Walk
-    requires { ⌜ NodeReady (now source) (now tape) config errors left at c ⌝ }
+    requires { ⌜ NodeReady (now source) (now tape) (now facts) config left at c ⌝ }
     ensures { λ r. ⌜ RoutineDone (now (source .entry)) (now (tape .entry)) config at (always formatSelectStatement) c (now (out .entry)) r (now (out .exit)) ⌝ }
 {
     let mut i = at + 11;
@@ -205,7 +203,7 @@ fn sel_stmt(
             i += 11;
         } else {
             let a = select_statement_before(out, ctx, local);
-            let w = node(source, tape, config, errors, out, left - 1, i, h.kind, a);
+            let w = node(source, tape, config, facts, out, left - 1, i, h.kind, a);
             ctx = w.context;
             local = Local {
                 flag: false,
@@ -225,13 +223,13 @@ fn select(
     source: &[u8],
     tape: &[u8],
     config: FormatConfig,
-    errors: bool,
+    facts: &[u8],
     out: &mut [u8],
     left: usize,
     at: usize,
     c: FormatterContext,
 ) -> Walk
-    requires { ⌜ NodeReady (now source) (now tape) config errors left at c ⌝ }
+    requires { ⌜ NodeReady (now source) (now tape) (now facts) config left at c ⌝ }
     ensures { λ r. ⌜ RoutineDone (now (source .entry)) (now (tape .entry)) config at (always formatSelectClause) c (now (out .entry)) r (now (out .exit)) ⌝ }
 {
     let mut i = at + 11;
@@ -247,7 +245,7 @@ fn select(
             i += 11;
         } else {
             let a = select_clause_before(out, ctx, local, h.kind);
-            let w = node(source, tape, config, errors, out, left - 1, i, h.kind, a);
+            let w = node(source, tape, config, facts, out, left - 1, i, h.kind, a);
             let b = w.context;
             ctx = select_clause_after(b, local, h.kind);
             i = w.at;
@@ -264,13 +262,13 @@ fn simple(
     source: &[u8],
     tape: &[u8],
     config: FormatConfig,
-    errors: bool,
+    facts: &[u8],
     out: &mut [u8],
     left: usize,
     at: usize,
     c: FormatterContext,
 ) -> Walk
-    requires { ⌜ NodeReady (now source) (now tape) config errors left at c ⌝ }
+    requires { ⌜ NodeReady (now source) (now tape) (now facts) config left at c ⌝ }
     ensures { λ r. ⌜ RoutineDone (now (source .entry)) (now (tape .entry)) config at (always formatSimpleClause) c (now (out .entry)) r (now (out .exit)) ⌝ }
 {
     let mut i = at + 11;
@@ -288,7 +286,7 @@ fn simple(
             i += 11;
         } else {
             let a = space_if(ctx, local.flag);
-            let w = node(source, tape, config, errors, out, left - 1, i, h.kind, a);
+            let w = node(source, tape, config, facts, out, left - 1, i, h.kind, a);
             ctx = w.context;
             local = Local {
                 flag: true,
@@ -308,17 +306,17 @@ fn list_by(
     source: &[u8],
     tape: &[u8],
     config: FormatConfig,
-    errors: bool,
+    facts: &[u8],
     out: &mut [u8],
     left: usize,
     at: usize,
     c: FormatterContext,
     list: u16,
 ) -> Walk
-    requires { ⌜ NodeReady (now source) (now tape) config errors left at c ⌝ }
+    requires { ⌜ NodeReady (now source) (now tape) (now facts) config left at c × IsList list ⌝ }
     ensures { λ r. ⌜ RoutineDone (now (source .entry)) (now (tape .entry)) config at (formatListClause list) c (now (out .entry)) r (now (out .exit)) ⌝ }
 {
-    let multi = multi_item(tape, at, list);
+    let multi = multi_item(facts, at, list);
     let mut i = at + 11;
     let mut ctx = c;
     let mut local = Local {
@@ -331,9 +329,9 @@ fn list_by(
             ctx = list_clause_token(source, config, out, ctx, multi, h);
             i += 11;
         } else {
-            let several = several_items(tape, i, list, h.kind);
+            let several = several_items(facts, i, list, h.kind);
             let a = list_clause_before(out, ctx, list, multi, local, h.kind, several);
-            let w = node(source, tape, config, errors, out, left - 1, i, h.kind, a);
+            let w = node(source, tape, config, facts, out, left - 1, i, h.kind, a);
             let b = w.context;
             ctx = list_clause_after(b, list, h.kind, several);
             local = list_clause_local(list, multi, local, h.kind);
@@ -352,13 +350,13 @@ fn join(
     source: &[u8],
     tape: &[u8],
     config: FormatConfig,
-    errors: bool,
+    facts: &[u8],
     out: &mut [u8],
     left: usize,
     at: usize,
     c: FormatterContext,
 ) -> Walk
-    requires { ⌜ NodeReady (now source) (now tape) config errors left at c ⌝ }
+    requires { ⌜ NodeReady (now source) (now tape) (now facts) config left at c ⌝ }
     ensures { λ r. ⌜ RoutineDone (now (source .entry)) (now (tape .entry)) config at (always formatJoinClause) c (now (out .entry)) r (now (out .exit)) ⌝ }
 {
     let mut i = at + 11;
@@ -376,7 +374,7 @@ fn join(
             i += 11;
         } else {
             let a = space_if(ctx, local.flag);
-            let w = node(source, tape, config, errors, out, left - 1, i, h.kind, a);
+            let w = node(source, tape, config, facts, out, left - 1, i, h.kind, a);
             ctx = w.context;
             local = Local {
                 flag: true,
@@ -396,13 +394,13 @@ fn settings(
     source: &[u8],
     tape: &[u8],
     config: FormatConfig,
-    errors: bool,
+    facts: &[u8],
     out: &mut [u8],
     left: usize,
     at: usize,
     c: FormatterContext,
 ) -> Walk
-    requires { ⌜ NodeReady (now source) (now tape) config errors left at c ⌝ }
+    requires { ⌜ NodeReady (now source) (now tape) (now facts) config left at c ⌝ }
     ensures { λ r. ⌜ RoutineDone (now (source .entry)) (now (tape .entry)) config at (always formatSettingsClause) c (now (out .entry)) r (now (out .exit)) ⌝ }
 {
     let mut i = at + 11;
@@ -418,7 +416,7 @@ fn settings(
             i += 11;
         } else {
             let a = settings_clause_before(out, ctx, local, h.kind);
-            let w = node(source, tape, config, errors, out, left - 1, i, h.kind, a);
+            let w = node(source, tape, config, facts, out, left - 1, i, h.kind, a);
             let b = w.context;
             ctx = settings_clause_after(b, local, h.kind);
             i = w.at;
@@ -435,13 +433,13 @@ fn with(
     source: &[u8],
     tape: &[u8],
     config: FormatConfig,
-    errors: bool,
+    facts: &[u8],
     out: &mut [u8],
     left: usize,
     at: usize,
     c: FormatterContext,
 ) -> Walk
-    requires { ⌜ NodeReady (now source) (now tape) config errors left at c ⌝ }
+    requires { ⌜ NodeReady (now source) (now tape) (now facts) config left at c ⌝ }
     ensures { λ r. ⌜ RoutineDone (now (source .entry)) (now (tape .entry)) config at (always formatWithClause) c (now (out .entry)) r (now (out .exit)) ⌝ }
 {
     let mut i = at + 11;
@@ -453,7 +451,7 @@ fn with(
             i += 11;
         } else {
             let a = with_clause_before(out, ctx);
-            let w = node(source, tape, config, errors, out, left - 1, i, h.kind, a);
+            let w = node(source, tape, config, facts, out, left - 1, i, h.kind, a);
             let b = w.context;
             ctx = with_clause_after(b);
             i = w.at;
@@ -470,13 +468,13 @@ fn comma(
     source: &[u8],
     tape: &[u8],
     config: FormatConfig,
-    errors: bool,
+    facts: &[u8],
     out: &mut [u8],
     left: usize,
     at: usize,
     c: FormatterContext,
 ) -> Walk
-    requires { ⌜ NodeReady (now source) (now tape) config errors left at c ⌝ }
+    requires { ⌜ NodeReady (now source) (now tape) (now facts) config left at c ⌝ }
     ensures { λ r. ⌜ RoutineDone (now (source .entry)) (now (tape .entry)) config at (always formatCommaList) c (now (out .entry)) r (now (out .exit)) ⌝ }
 {
     let mut i = at + 11;
@@ -494,7 +492,7 @@ fn comma(
             i += 11;
         } else {
             let a = space_if(ctx, !local.flag);
-            let w = node(source, tape, config, errors, out, left - 1, i, h.kind, a);
+            let w = node(source, tape, config, facts, out, left - 1, i, h.kind, a);
             ctx = w.context;
             local = Local {
                 flag: false,
@@ -514,13 +512,13 @@ fn inl_list(
     source: &[u8],
     tape: &[u8],
     config: FormatConfig,
-    errors: bool,
+    facts: &[u8],
     out: &mut [u8],
     left: usize,
     at: usize,
     c: FormatterContext,
 ) -> Walk
-    requires { ⌜ NodeReady (now source) (now tape) config errors left at c ⌝ }
+    requires { ⌜ NodeReady (now source) (now tape) (now facts) config left at c ⌝ }
     ensures { λ r. ⌜ RoutineDone (now (source .entry)) (now (tape .entry)) config at (always formatInlineCommaList) c (now (out .entry)) r (now (out .exit)) ⌝ }
 {
     let mut i = at + 11;
@@ -531,7 +529,7 @@ fn inl_list(
             ctx = inline_comma_list_token(source, config, out, ctx, h);
             i += 11;
         } else {
-            let w = node(source, tape, config, errors, out, left - 1, i, h.kind, ctx);
+            let w = node(source, tape, config, facts, out, left - 1, i, h.kind, ctx);
             ctx = w.context;
             i = w.at;
         }
@@ -547,13 +545,13 @@ fn binary(
     source: &[u8],
     tape: &[u8],
     config: FormatConfig,
-    errors: bool,
+    facts: &[u8],
     out: &mut [u8],
     left: usize,
     at: usize,
     c: FormatterContext,
 ) -> Walk
-    requires { ⌜ NodeReady (now source) (now tape) config errors left at c ⌝ }
+    requires { ⌜ NodeReady (now source) (now tape) (now facts) config left at c ⌝ }
     ensures { λ r. ⌜ RoutineDone (now (source .entry)) (now (tape .entry)) config at (always formatBinaryExpression) c (now (out .entry)) r (now (out .exit)) ⌝ }
 {
     let mut i = at + 11;
@@ -564,7 +562,7 @@ fn binary(
             ctx = binary_expression_token(source, config, out, ctx, h);
             i += 11;
         } else {
-            let w = node(source, tape, config, errors, out, left - 1, i, h.kind, ctx);
+            let w = node(source, tape, config, facts, out, left - 1, i, h.kind, ctx);
             ctx = w.context;
             i = w.at;
         }
@@ -580,13 +578,13 @@ fn unary(
     source: &[u8],
     tape: &[u8],
     config: FormatConfig,
-    errors: bool,
+    facts: &[u8],
     out: &mut [u8],
     left: usize,
     at: usize,
     c: FormatterContext,
 ) -> Walk
-    requires { ⌜ NodeReady (now source) (now tape) config errors left at c ⌝ }
+    requires { ⌜ NodeReady (now source) (now tape) (now facts) config left at c ⌝ }
     ensures { λ r. ⌜ RoutineDone (now (source .entry)) (now (tape .entry)) config at (always formatUnaryExpression) c (now (out .entry)) r (now (out .exit)) ⌝ }
 {
     let mut i = at + 11;
@@ -597,7 +595,7 @@ fn unary(
             ctx = unary_expression_token(source, config, out, ctx, h);
             i += 11;
         } else {
-            let w = node(source, tape, config, errors, out, left - 1, i, h.kind, ctx);
+            let w = node(source, tape, config, facts, out, left - 1, i, h.kind, ctx);
             ctx = w.context;
             i = w.at;
         }
@@ -613,13 +611,13 @@ fn call(
     source: &[u8],
     tape: &[u8],
     config: FormatConfig,
-    errors: bool,
+    facts: &[u8],
     out: &mut [u8],
     left: usize,
     at: usize,
     c: FormatterContext,
 ) -> Walk
-    requires { ⌜ NodeReady (now source) (now tape) config errors left at c ⌝ }
+    requires { ⌜ NodeReady (now source) (now tape) (now facts) config left at c ⌝ }
     ensures { λ r. ⌜ RoutineDone (now (source .entry)) (now (tape .entry)) config at (always formatFunctionCall) c (now (out .entry)) r (now (out .exit)) ⌝ }
 {
     let mut i = at + 11;
@@ -630,7 +628,7 @@ fn call(
             ctx = function_call_token(source, config, out, ctx, h);
             i += 11;
         } else {
-            let w = node(source, tape, config, errors, out, left - 1, i, h.kind, ctx);
+            let w = node(source, tape, config, facts, out, left - 1, i, h.kind, ctx);
             ctx = w.context;
             i = w.at;
         }
@@ -646,13 +644,13 @@ fn case(
     source: &[u8],
     tape: &[u8],
     config: FormatConfig,
-    errors: bool,
+    facts: &[u8],
     out: &mut [u8],
     left: usize,
     at: usize,
     c: FormatterContext,
 ) -> Walk
-    requires { ⌜ NodeReady (now source) (now tape) config errors left at c ⌝ }
+    requires { ⌜ NodeReady (now source) (now tape) (now facts) config left at c ⌝ }
     ensures { λ r. ⌜ RoutineDone (now (source .entry)) (now (tape .entry)) config at (always formatCaseExpression) c (now (out .entry)) r (now (out .exit)) ⌝ }
 {
     let mut i = at + 11;
@@ -668,7 +666,7 @@ fn case(
             i += 11;
         } else {
             let a = case_expression_before(out, ctx, local, h.kind);
-            let w = node(source, tape, config, errors, out, left - 1, i, h.kind, a);
+            let w = node(source, tape, config, facts, out, left - 1, i, h.kind, a);
             ctx = w.context;
             i = w.at;
         }
@@ -684,13 +682,13 @@ fn when(
     source: &[u8],
     tape: &[u8],
     config: FormatConfig,
-    errors: bool,
+    facts: &[u8],
     out: &mut [u8],
     left: usize,
     at: usize,
     c: FormatterContext,
 ) -> Walk
-    requires { ⌜ NodeReady (now source) (now tape) config errors left at c ⌝ }
+    requires { ⌜ NodeReady (now source) (now tape) (now facts) config left at c ⌝ }
     ensures { λ r. ⌜ RoutineDone (now (source .entry)) (now (tape .entry)) config at (always formatWhenClause) c (now (out .entry)) r (now (out .exit)) ⌝ }
 {
     let mut i = at + 11;
@@ -701,7 +699,7 @@ fn when(
             ctx = when_clause_token(source, config, out, ctx, h);
             i += 11;
         } else {
-            let w = node(source, tape, config, errors, out, left - 1, i, h.kind, ctx);
+            let w = node(source, tape, config, facts, out, left - 1, i, h.kind, ctx);
             ctx = w.context;
             i = w.at;
         }
@@ -717,13 +715,13 @@ fn subquery(
     source: &[u8],
     tape: &[u8],
     config: FormatConfig,
-    errors: bool,
+    facts: &[u8],
     out: &mut [u8],
     left: usize,
     at: usize,
     c: FormatterContext,
 ) -> Walk
-    requires { ⌜ NodeReady (now source) (now tape) config errors left at c ⌝ }
+    requires { ⌜ NodeReady (now source) (now tape) (now facts) config left at c ⌝ }
     ensures { λ r. ⌜ RoutineDone (now (source .entry)) (now (tape .entry)) config at (always formatSubquery) c (now (out .entry)) r (now (out .exit)) ⌝ }
 {
     let mut i = at + 11;
@@ -734,7 +732,7 @@ fn subquery(
             ctx = subquery_token(source, config, out, ctx, h);
             i += 11;
         } else {
-            let w = node(source, tape, config, errors, out, left - 1, i, h.kind, ctx);
+            let w = node(source, tape, config, facts, out, left - 1, i, h.kind, ctx);
             ctx = w.context;
             i = w.at;
         }
@@ -750,13 +748,13 @@ fn paren(
     source: &[u8],
     tape: &[u8],
     config: FormatConfig,
-    errors: bool,
+    facts: &[u8],
     out: &mut [u8],
     left: usize,
     at: usize,
     c: FormatterContext,
 ) -> Walk
-    requires { ⌜ NodeReady (now source) (now tape) config errors left at c ⌝ }
+    requires { ⌜ NodeReady (now source) (now tape) (now facts) config left at c ⌝ }
     ensures { λ r. ⌜ RoutineDone (now (source .entry)) (now (tape .entry)) config at (always formatParenList) c (now (out .entry)) r (now (out .exit)) ⌝ }
 {
     let mut i = at + 11;
@@ -767,7 +765,7 @@ fn paren(
             ctx = paren_list_token(source, config, out, ctx, h);
             i += 11;
         } else {
-            let w = node(source, tape, config, errors, out, left - 1, i, h.kind, ctx);
+            let w = node(source, tape, config, facts, out, left - 1, i, h.kind, ctx);
             ctx = w.context;
             i = w.at;
         }
@@ -783,13 +781,13 @@ fn bracket(
     source: &[u8],
     tape: &[u8],
     config: FormatConfig,
-    errors: bool,
+    facts: &[u8],
     out: &mut [u8],
     left: usize,
     at: usize,
     c: FormatterContext,
 ) -> Walk
-    requires { ⌜ NodeReady (now source) (now tape) config errors left at c ⌝ }
+    requires { ⌜ NodeReady (now source) (now tape) (now facts) config left at c ⌝ }
     ensures { λ r. ⌜ RoutineDone (now (source .entry)) (now (tape .entry)) config at (always formatBracketList) c (now (out .entry)) r (now (out .exit)) ⌝ }
 {
     let mut i = at + 11;
@@ -800,7 +798,7 @@ fn bracket(
             ctx = bracket_list_token(source, config, out, ctx, h);
             i += 11;
         } else {
-            let w = node(source, tape, config, errors, out, left - 1, i, h.kind, ctx);
+            let w = node(source, tape, config, facts, out, left - 1, i, h.kind, ctx);
             ctx = w.context;
             i = w.at;
         }
@@ -816,13 +814,13 @@ fn brace(
     source: &[u8],
     tape: &[u8],
     config: FormatConfig,
-    errors: bool,
+    facts: &[u8],
     out: &mut [u8],
     left: usize,
     at: usize,
     c: FormatterContext,
 ) -> Walk
-    requires { ⌜ NodeReady (now source) (now tape) config errors left at c ⌝ }
+    requires { ⌜ NodeReady (now source) (now tape) (now facts) config left at c ⌝ }
     ensures { λ r. ⌜ RoutineDone (now (source .entry)) (now (tape .entry)) config at (always formatBraceList) c (now (out .entry)) r (now (out .exit)) ⌝ }
 {
     let mut i = at + 11;
@@ -833,7 +831,7 @@ fn brace(
             ctx = brace_list_token(source, config, out, ctx, h);
             i += 11;
         } else {
-            let w = node(source, tape, config, errors, out, left - 1, i, h.kind, ctx);
+            let w = node(source, tape, config, facts, out, left - 1, i, h.kind, ctx);
             ctx = w.context;
             i = w.at;
         }
@@ -849,13 +847,13 @@ fn dtype(
     source: &[u8],
     tape: &[u8],
     config: FormatConfig,
-    errors: bool,
+    facts: &[u8],
     out: &mut [u8],
     left: usize,
     at: usize,
     c: FormatterContext,
 ) -> Walk
-    requires { ⌜ NodeReady (now source) (now tape) config errors left at c ⌝ }
+    requires { ⌜ NodeReady (now source) (now tape) (now facts) config left at c ⌝ }
     ensures { λ r. ⌜ RoutineDone (now (source .entry)) (now (tape .entry)) config at (always formatDataType) c (now (out .entry)) r (now (out .exit)) ⌝ }
 {
     let mut i = at + 11;
@@ -866,7 +864,7 @@ fn dtype(
             ctx = data_type_token(source, config, out, ctx, h);
             i += 11;
         } else {
-            let w = node(source, tape, config, errors, out, left - 1, i, h.kind, ctx);
+            let w = node(source, tape, config, facts, out, left - 1, i, h.kind, ctx);
             ctx = w.context;
             i = w.at;
         }
@@ -882,13 +880,13 @@ fn tight_paren(
     source: &[u8],
     tape: &[u8],
     config: FormatConfig,
-    errors: bool,
+    facts: &[u8],
     out: &mut [u8],
     left: usize,
     at: usize,
     c: FormatterContext,
 ) -> Walk
-    requires { ⌜ NodeReady (now source) (now tape) config errors left at c ⌝ }
+    requires { ⌜ NodeReady (now source) (now tape) (now facts) config left at c ⌝ }
     ensures { λ r. ⌜ RoutineDone (now (source .entry)) (now (tape .entry)) config at (always formatInlineTightParens) c (now (out .entry)) r (now (out .exit)) ⌝ }
 {
     let mut i = at + 11;
@@ -907,7 +905,7 @@ fn tight_paren(
         } else {
             let prev = local.prev;
             let a = space_if(ctx, space_after(prev));
-            let w = node(source, tape, config, errors, out, left - 1, i, h.kind, a);
+            let w = node(source, tape, config, facts, out, left - 1, i, h.kind, a);
             ctx = w.context;
             local = Local {
                 flag: false,
@@ -927,13 +925,13 @@ fn inline(
     source: &[u8],
     tape: &[u8],
     config: FormatConfig,
-    errors: bool,
+    facts: &[u8],
     out: &mut [u8],
     left: usize,
     at: usize,
     c: FormatterContext,
 ) -> Walk
-    requires { ⌜ NodeReady (now source) (now tape) config errors left at c ⌝ }
+    requires { ⌜ NodeReady (now source) (now tape) (now facts) config left at c ⌝ }
     ensures { λ r. ⌜ RoutineDone (now (source .entry)) (now (tape .entry)) config at (always formatInline) c (now (out .entry)) r (now (out .exit)) ⌝ }
 {
     let mut i = at + 11;
@@ -952,7 +950,7 @@ fn inline(
         } else {
             let prev = local.prev;
             let a = space_if(ctx, space_after(prev));
-            let w = node(source, tape, config, errors, out, left - 1, i, h.kind, a);
+            let w = node(source, tape, config, facts, out, left - 1, i, h.kind, a);
             ctx = w.context;
             local = Local {
                 flag: false,
@@ -972,13 +970,13 @@ fn no_spaces(
     source: &[u8],
     tape: &[u8],
     config: FormatConfig,
-    errors: bool,
+    facts: &[u8],
     out: &mut [u8],
     left: usize,
     at: usize,
     c: FormatterContext,
 ) -> Walk
-    requires { ⌜ NodeReady (now source) (now tape) config errors left at c ⌝ }
+    requires { ⌜ NodeReady (now source) (now tape) (now facts) config left at c ⌝ }
     ensures { λ r. ⌜ RoutineDone (now (source .entry)) (now (tape .entry)) config at (always formatInlineNoSpaces) c (now (out .entry)) r (now (out .exit)) ⌝ }
 {
     let mut i = at + 11;
@@ -989,7 +987,7 @@ fn no_spaces(
             ctx = emit_other(source, config, out, ctx, h);
             i += 11;
         } else {
-            let w = node(source, tape, config, errors, out, left - 1, i, h.kind, ctx);
+            let w = node(source, tape, config, facts, out, left - 1, i, h.kind, ctx);
             ctx = w.context;
             i = w.at;
         }
@@ -1005,13 +1003,13 @@ fn pass(
     source: &[u8],
     tape: &[u8],
     config: FormatConfig,
-    errors: bool,
+    facts: &[u8],
     out: &mut [u8],
     left: usize,
     at: usize,
     c: FormatterContext,
 ) -> Walk
-    requires { ⌜ NodeReady (now source) (now tape) config errors left at c ⌝ }
+    requires { ⌜ NodeReady (now source) (now tape) (now facts) config left at c ⌝ }
     ensures { λ r. ⌜ RoutineDone (now (source .entry)) (now (tape .entry)) config at (always formatPassthrough) c (now (out .entry)) r (now (out .exit)) ⌝ }
 {
     let mut i = at + 11;
@@ -1022,7 +1020,7 @@ fn pass(
             ctx = passthrough_token(source, config, out, ctx, h);
             i += 11;
         } else {
-            let w = node(source, tape, config, errors, out, left - 1, i, h.kind, ctx);
+            let w = node(source, tape, config, facts, out, left - 1, i, h.kind, ctx);
             ctx = w.context;
             i = w.at;
         }
@@ -1038,13 +1036,13 @@ fn alter(
     source: &[u8],
     tape: &[u8],
     config: FormatConfig,
-    errors: bool,
+    facts: &[u8],
     out: &mut [u8],
     left: usize,
     at: usize,
     c: FormatterContext,
 ) -> Walk
-    requires { ⌜ NodeReady (now source) (now tape) config errors left at c ⌝ }
+    requires { ⌜ NodeReady (now source) (now tape) (now facts) config left at c ⌝ }
     ensures { λ r. ⌜ RoutineDone (now (source .entry)) (now (tape .entry)) config at (always formatAlterCommandList) c (now (out .entry)) r (now (out .exit)) ⌝ }
 {
     let mut i = at + 11;
@@ -1055,7 +1053,7 @@ fn alter(
             ctx = alter_command_list_token(source, config, out, ctx, h);
             i += 11;
         } else {
-            let w = node(source, tape, config, errors, out, left - 1, i, h.kind, ctx);
+            let w = node(source, tape, config, facts, out, left - 1, i, h.kind, ctx);
             ctx = w.context;
             i = w.at;
         }
@@ -1071,13 +1069,13 @@ fn union(
     source: &[u8],
     tape: &[u8],
     config: FormatConfig,
-    errors: bool,
+    facts: &[u8],
     out: &mut [u8],
     left: usize,
     at: usize,
     c: FormatterContext,
 ) -> Walk
-    requires { ⌜ NodeReady (now source) (now tape) config errors left at c ⌝ }
+    requires { ⌜ NodeReady (now source) (now tape) (now facts) config left at c ⌝ }
     ensures { λ r. ⌜ RoutineDone (now (source .entry)) (now (tape .entry)) config at (always formatUnionClause) c (now (out .entry)) r (now (out .exit)) ⌝ }
 {
     let mut i = at + 11;
@@ -1093,7 +1091,7 @@ fn union(
             i += 11;
         } else {
             let a = union_clause_before(out, ctx, local, h.kind);
-            let w = node(source, tape, config, errors, out, left - 1, i, h.kind, a);
+            let w = node(source, tape, config, facts, out, left - 1, i, h.kind, a);
             ctx = w.context;
             local = union_clause_local(local, h.kind);
             i = w.at;
@@ -1105,38 +1103,24 @@ fn union(
     }
 }
 
-// Whether a node is copied as typed.
-fn is_copied(tape: &[u8], at: usize, kind: u16) -> bool
-    requires { ⌜ NodeAt (now tape) at ⌝ }
-    ensures { λ r. ⌜ Scanned (copied kind) (now (tape .entry)) at r ⌝ }
-{
-    if kind == syntax_kind::ERROR {
-        return true;
-    }
-    if kind == syntax_kind::QUERY_LIST {
-        return false;
-    }
-    has_error_child(tape, at)
-}
-
-// format_node. The caller has read the node's kind. Where the check found no Error node, none is looked for; the two tests stand apart,
-// so that the compiler takes a call of a routine for likely enough to put each routine's loop in here.
+// format_node. The caller has read the node's kind. The two tests stand apart, so that the compiler takes a call of a routine for likely enough
+// to put each routine's loop in here.
 pub(crate) fn node(
     source: &[u8],
     tape: &[u8],
     config: FormatConfig,
-    errors: bool,
+    facts: &[u8],
     out: &mut [u8],
     left: usize,
     at: usize,
     kind: u16,
     c: FormatterContext,
 ) -> Walk
-    requires { ⌜ NodeReady (now source) (now tape) config errors left at c × (kind ≡ headAt (now tape) at .kind) ⌝ }
+    requires { ⌜ NodeReady (now source) (now tape) (now facts) config left at c × (kind ≡ headAt (now tape) at .kind) ⌝ }
     ensures { λ r. ⌜ NodeDone (now (source .entry)) (now (tape .entry)) config at c (now (out .entry)) r (now (out .exit)) ⌝ }
 {
-    if errors {
-        if is_copied(tape, at, kind) {
+    if has_error(facts, at) {
+        if kind != syntax_kind::QUERY_LIST {
             let h = head_at(tape, at);
             let end = skip(tape, at);
             let ctx = format_error_verbatim(source, config, out, c, h);
@@ -1148,32 +1132,32 @@ pub(crate) fn node(
     }
     let r = routine_of(kind);
     match r {
-        Routine::File => file(source, tape, config, errors, out, left, at, c),
-        Routine::QueryList => queries(source, tape, config, errors, out, left, at, c),
-        Routine::SelectStatement => sel_stmt(source, tape, config, errors, out, left, at, c),
-        Routine::SelectClause => select(source, tape, config, errors, out, left, at, c),
-        Routine::SimpleClause => simple(source, tape, config, errors, out, left, at, c),
-        Routine::ListClause(list) => list_by(source, tape, config, errors, out, left, at, c, list),
-        Routine::SettingsClause => settings(source, tape, config, errors, out, left, at, c),
-        Routine::WithClause => with(source, tape, config, errors, out, left, at, c),
-        Routine::JoinClause => join(source, tape, config, errors, out, left, at, c),
-        Routine::Inline => inline(source, tape, config, errors, out, left, at, c),
-        Routine::CommaList => comma(source, tape, config, errors, out, left, at, c),
-        Routine::InlineCommaList => inl_list(source, tape, config, errors, out, left, at, c),
-        Routine::BinaryExpression => binary(source, tape, config, errors, out, left, at, c),
-        Routine::UnaryExpression => unary(source, tape, config, errors, out, left, at, c),
-        Routine::FunctionCall => call(source, tape, config, errors, out, left, at, c),
-        Routine::CaseExpression => case(source, tape, config, errors, out, left, at, c),
-        Routine::WhenClause => when(source, tape, config, errors, out, left, at, c),
-        Routine::Subquery => subquery(source, tape, config, errors, out, left, at, c),
-        Routine::ParenList => paren(source, tape, config, errors, out, left, at, c),
-        Routine::BracketList => bracket(source, tape, config, errors, out, left, at, c),
-        Routine::InlineNoSpaces => no_spaces(source, tape, config, errors, out, left, at, c),
-        Routine::BraceList => brace(source, tape, config, errors, out, left, at, c),
-        Routine::DataType => dtype(source, tape, config, errors, out, left, at, c),
-        Routine::InlineTightParens => tight_paren(source, tape, config, errors, out, left, at, c),
-        Routine::AlterCommandList => alter(source, tape, config, errors, out, left, at, c),
-        Routine::UnionClause => union(source, tape, config, errors, out, left, at, c),
-        Routine::Passthrough => pass(source, tape, config, errors, out, left, at, c),
+        Routine::File => file(source, tape, config, facts, out, left, at, c),
+        Routine::QueryList => queries(source, tape, config, facts, out, left, at, c),
+        Routine::SelectStatement => sel_stmt(source, tape, config, facts, out, left, at, c),
+        Routine::SelectClause => select(source, tape, config, facts, out, left, at, c),
+        Routine::SimpleClause => simple(source, tape, config, facts, out, left, at, c),
+        Routine::ListClause(list) => list_by(source, tape, config, facts, out, left, at, c, list),
+        Routine::SettingsClause => settings(source, tape, config, facts, out, left, at, c),
+        Routine::WithClause => with(source, tape, config, facts, out, left, at, c),
+        Routine::JoinClause => join(source, tape, config, facts, out, left, at, c),
+        Routine::Inline => inline(source, tape, config, facts, out, left, at, c),
+        Routine::CommaList => comma(source, tape, config, facts, out, left, at, c),
+        Routine::InlineCommaList => inl_list(source, tape, config, facts, out, left, at, c),
+        Routine::BinaryExpression => binary(source, tape, config, facts, out, left, at, c),
+        Routine::UnaryExpression => unary(source, tape, config, facts, out, left, at, c),
+        Routine::FunctionCall => call(source, tape, config, facts, out, left, at, c),
+        Routine::CaseExpression => case(source, tape, config, facts, out, left, at, c),
+        Routine::WhenClause => when(source, tape, config, facts, out, left, at, c),
+        Routine::Subquery => subquery(source, tape, config, facts, out, left, at, c),
+        Routine::ParenList => paren(source, tape, config, facts, out, left, at, c),
+        Routine::BracketList => bracket(source, tape, config, facts, out, left, at, c),
+        Routine::InlineNoSpaces => no_spaces(source, tape, config, facts, out, left, at, c),
+        Routine::BraceList => brace(source, tape, config, facts, out, left, at, c),
+        Routine::DataType => dtype(source, tape, config, facts, out, left, at, c),
+        Routine::InlineTightParens => tight_paren(source, tape, config, facts, out, left, at, c),
+        Routine::AlterCommandList => alter(source, tape, config, facts, out, left, at, c),
+        Routine::UnionClause => union(source, tape, config, facts, out, left, at, c),
+        Routine::Passthrough => pass(source, tape, config, facts, out, left, at, c),
     }
 }

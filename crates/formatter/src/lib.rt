@@ -12,7 +12,7 @@ use tape::check::number;
 use tape::commands::head_at;
 ghost use mathlib.Core.Path.{_≡_};
 ghost use mathlib.Core.List.{_++_};
-ghost use Prim.Native.Nat.{_≤_, _<_};
+ghost use Prim.Native.Nat.{_*_, _≤_, _<_};
 ghost use lib.ListN.{drop, length, set, take};
 ghost use Rattle.context.specs.Splice.{splice};
 ghost use Rattle.layout.specs.Layout.{original};
@@ -30,10 +30,10 @@ fn walk_tree(
     text: &[u8],
     tape: &[u8],
     config: FormatConfig,
-    errors: bool,
+    facts: &[u8],
     space: &mut [u8],
 ) -> usize
-    requires { ⌜ Ready (now text) (now tape) config errors ⌝ }
+    requires { ⌜ Ready (now text) (now tape) (now facts) config ⌝ }
     ensures { λ r. ⌜ WalkedInto (now (text .entry)) (now (tape .entry)) config (now (space .entry)) r (now (space .exit)) ⌝ }
 {
     let root = head_at(tape, 0);
@@ -41,7 +41,7 @@ fn walk_tree(
         text,
         tape,
         config,
-        errors,
+        facts,
         space,
         63,
         0,
@@ -58,15 +58,15 @@ fn write_layout(
     text: &[u8],
     tape: &[u8],
     config: FormatConfig,
-    errors: bool,
+    facts: &[u8],
     out: &mut [u8],
     k: usize,
 )
-    requires { ⌜ Ready (now text) (now tape) config errors ⌝ }
+    requires { ⌜ Ready (now text) (now tape) (now facts) config ⌝ }
     requires { ⌜ Trims (now text) (now tape) config k × (0 < k) × (k < length (now out)) ⌝ }
     ensures { λ _. ⌜ Fills (now (text .entry)) (now (tape .entry)) config (now (out .entry)) (now (out .exit)) ⌝ }
 {
-    walk_tree(text, tape, config, errors, &mut out[..k]);
+    walk_tree(text, tape, config, facts, &mut out[..k]);
     out[k] = 10;
 }
 
@@ -79,12 +79,12 @@ fn copy_layout(written: &[u8], out: &mut [u8], k: usize)
     out[k] = 10;
 }
 
-fn measure_accepted(text: &[u8], tape: &[u8], config: FormatConfig, errors: bool) -> Answer
-    requires { ⌜ Ready (now text) (now tape) config errors ⌝ }
+fn measure_accepted(text: &[u8], tape: &[u8], config: FormatConfig, facts: &[u8]) -> Answer
+    requires { ⌜ Ready (now text) (now tape) (now facts) config ⌝ }
     ensures { λ r. ⌜ Measures (now (text .entry)) (now (tape .entry)) config r ⌝ }
 {
     let mut none = [0u8; 1];
-    let k = walk_tree(text, tape, config, errors, &mut none[..0]);
+    let k = walk_tree(text, tape, config, facts, &mut none[..0]);
     if k == 0 {
         return Answer {
             number: 0,
@@ -97,19 +97,19 @@ fn measure_accepted(text: &[u8], tape: &[u8], config: FormatConfig, errors: bool
     }
 }
 
-// Most layouts fit into a space on the stack: one walk, and a copy once 13 is decided.
+// What fits into the lent space needs one walk, and a copy once 13 is decided.
 fn layout_accepted(
     text: &[u8],
     tape: &[u8],
     config: FormatConfig,
-    errors: bool,
+    facts: &[u8],
+    space: &mut [u8],
     out: &mut [u8],
 ) -> Answer
-    requires { ⌜ Ready (now text) (now tape) config errors ⌝ }
+    requires { ⌜ Ready (now text) (now tape) (now facts) config ⌝ }
     ensures { λ r. ⌜ LaysOut (now (text .entry)) (now (tape .entry)) config (now (out .entry)) r (now (out .exit)) ⌝ }
 {
-    let mut space = [0u8; 4096];
-    let k = walk_tree(text, tape, config, errors, &mut space);
+    let k = walk_tree(text, tape, config, facts, space);
     if k == 0 {
         return Answer {
             number: 0,
@@ -122,14 +122,14 @@ fn layout_accepted(
             value: k as u64 + 1,
         };
     }
-    if k <= 4096 {
-        copy_layout(&space, out, k);
+    if k <= space.len() {
+        copy_layout(space, out, k);
         return Answer {
             number: 0,
             value: k as u64 + 1,
         };
     }
-    write_layout(text, tape, config, errors, out, k);
+    write_layout(text, tape, config, facts, out, k);
     Answer {
         number: 0,
         value: k as u64 + 1,
@@ -145,38 +145,94 @@ fn config_of(width: u64, case: u64) -> FormatConfig
     }
 }
 
-// The needed length, or the refusal.
-pub fn measure(text: &[u8], tape: &[u8], width: u64, case: u64) -> Answer
+// The needed length, or the refusal. `facts` has room for what the check notes of each node.
+fn measure_in(text: &[u8], tape: &[u8], width: u64, case: u64, facts: &mut [u8]) -> Answer
+    requires { ⌜ (length (now tape) ≤ 262144 → length (now tape) ≤ 11 * length (now facts)) ⌝ }
     ensures { λ r. ⌜ r ≡ measured (outcome original width case (now (text .entry)) (now (tape .entry))) ⌝ }
 {
-    let checked = check_call(width, case, text, tape);
+    let checked = check_call(width, case, text, tape, facts);
     match checked {
         Checked::Refused(fault, place) => Answer {
             number: number(fault),
             value: place as u64,
         },
-        Checked::Accepted(errors) => measure_accepted(text, tape, config_of(width, case), errors),
+        Checked::Accepted => measure_accepted(text, tape, config_of(width, case), facts),
     }
 }
 
-// The same, and the layout in `out`.
-pub fn layout(text: &[u8], tape: &[u8], width: u64, case: u64, out: &mut [u8]) -> Answer
+// The same, and the layout in `out`. What is walked first goes into `space`.
+fn layout_in(
+    text: &[u8],
+    tape: &[u8],
+    width: u64,
+    case: u64,
+    facts: &mut [u8],
+    space: &mut [u8],
+    out: &mut [u8],
+) -> Answer
+    requires { ⌜ (length (now tape) ≤ 262144 → length (now tape) ≤ 11 * length (now facts)) ⌝ }
     ensures { λ r. ⌜ _≡_ {A = Result} (record { answer = r; space = now (out .exit) }) (laidOut (outcome original width case (now (text .entry)) (now (tape .entry))) (now (out .entry))) ⌝ }
 {
-    let checked = check_call(width, case, text, tape);
+    let checked = check_call(width, case, text, tape, facts);
     match checked {
         Checked::Refused(fault, place) => Answer {
             number: number(fault),
             value: place as u64,
         },
-        Checked::Accepted(errors) => layout_accepted(
-            text,
-            tape,
-            config_of(width, case),
-            errors,
-            out,
-        ),
+        Checked::Accepted => layout_accepted(text, tape, config_of(width, case), facts, space, out),
     }
+}
+
+// Most tapes are short: the spaces on the stack are filled with zeros at each call, so there are two sizes. 746 bytes of facts are enough for
+// a tape of 8,206 bytes, and 23,832 for any tape that 5 lets pass.
+fn measure_short(text: &[u8], tape: &[u8], width: u64, case: u64) -> Answer
+    requires { ⌜ length (now tape) ≤ 8206 ⌝ }
+    ensures { λ r. ⌜ r ≡ measured (outcome original width case (now (text .entry)) (now (tape .entry))) ⌝ }
+{
+    let mut facts = [0u8; 746];
+    measure_in(text, tape, width, case, &mut facts)
+}
+
+fn measure_long(text: &[u8], tape: &[u8], width: u64, case: u64) -> Answer
+    ensures { λ r. ⌜ r ≡ measured (outcome original width case (now (text .entry)) (now (tape .entry))) ⌝ }
+{
+    let mut facts = [0u8; 23832];
+    measure_in(text, tape, width, case, &mut facts)
+}
+
+fn layout_short(text: &[u8], tape: &[u8], width: u64, case: u64, out: &mut [u8]) -> Answer
+    requires { ⌜ length (now tape) ≤ 8206 ⌝ }
+    ensures { λ r. ⌜ _≡_ {A = Result} (record { answer = r; space = now (out .exit) }) (laidOut (outcome original width case (now (text .entry)) (now (tape .entry))) (now (out .entry))) ⌝ }
+{
+    let mut facts = [0u8; 746];
+    let mut space = [0u8; 4096];
+    layout_in(text, tape, width, case, &mut facts, &mut space, out)
+}
+
+fn layout_long(text: &[u8], tape: &[u8], width: u64, case: u64, out: &mut [u8]) -> Answer
+    ensures { λ r. ⌜ _≡_ {A = Result} (record { answer = r; space = now (out .exit) }) (laidOut (outcome original width case (now (text .entry)) (now (tape .entry))) (now (out .entry))) ⌝ }
+{
+    let mut facts = [0u8; 23832];
+    let mut space = [0u8; 16384];
+    layout_in(text, tape, width, case, &mut facts, &mut space, out)
+}
+
+pub fn measure(text: &[u8], tape: &[u8], width: u64, case: u64) -> Answer
+    ensures { λ r. ⌜ r ≡ measured (outcome original width case (now (text .entry)) (now (tape .entry))) ⌝ }
+{
+    if tape.len() <= 8206 {
+        return measure_short(text, tape, width, case);
+    }
+    measure_long(text, tape, width, case)
+}
+
+pub fn layout(text: &[u8], tape: &[u8], width: u64, case: u64, out: &mut [u8]) -> Answer
+    ensures { λ r. ⌜ _≡_ {A = Result} (record { answer = r; space = now (out .exit) }) (laidOut (outcome original width case (now (text .entry)) (now (tape .entry))) (now (out .entry))) ⌝ }
+{
+    if tape.len() <= 8206 {
+        return layout_short(text, tape, width, case, out);
+    }
+    layout_long(text, tape, width, case, out)
 }
 
 #[no_mangle]

@@ -174,9 +174,11 @@ module _ (len : ℕ) (tape : List ℕ) where
       go (refused g q) k w = absurd (no-got (sym w))
       go (got t q) k w =
           let a = accepted-tape len tape (ap verdict k) in
-          let b : a .tree ≡ t = same-tree (sym (a .read) ∙ k) in
-          (refl, subst (λ (x : List ℕ). Noted x t) (same-facts w)
-          (subst (λ (u : Tree). Noted (fillTree u fs₀) u) b (tree-noted len tape (a .tree) fs₀ (a .root) (a .kids) (omega (arith, a .whole)) l)))
+          let b : a .tree ≡ t = same-tree (sym (a .read) ∙ k) in (
+            refl,
+            subst (λ (x : List ℕ). Noted x t) (same-facts w)
+                (subst (λ (u : Tree). Noted (fillTree u fs₀) u) b (tree-noted len tape (a .tree) fs₀ (a .root) (a .kids) (omega (arith, a .whole)) l)),
+          )
 
   -- ── the steps
 

@@ -155,13 +155,7 @@ fn check_input(text: &[u8], tape: &[u8], facts: &mut [u8]) -> Checked
 }
 
 // 1 to 12: settings, text and tape; and in `facts`, which has room for each node, what is to be known of them.
-pub fn check_call(
-    width: u64,
-    case: u64,
-    text: &[u8],
-    tape: &[u8],
-    facts: &mut [u8],
-) -> Checked
+pub fn check_call(width: u64, case: u64, text: &[u8], tape: &[u8], facts: &mut [u8]) -> Checked
     requires { ⌜ (length (now tape) ≤ 262144 → length (now tape) ≤ 11 * length (now facts)) ⌝ }
     ensures { λ r. ⌜ (r ≡ verdict (readCall width case (now (text .entry)) (now (tape .entry)))) × NotedOf (readCall width case (now (text .entry)) (now (tape .entry))) (now (facts .exit)) ⌝ }
 {

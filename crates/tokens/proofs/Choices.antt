@@ -1,9 +1,9 @@
 -- What the routines' definitions come to in each arm, and spacing that may be none.
 use Prim.Native.Nat.{ℕ}
 use mathlib.Core.Path.{_≡_, refl, sym, ap, _∙_}
-use mathlib.Core.Bool.{Bool, true, false, cond, not, _||_, false≢true}
+use mathlib.Core.Bool.{Bool, true, false, cond, _||_, false≢true}
 use mathlib.Core.List.{List, [], _∷_, _++_, map}
-use lib.Dec.{eqb, ltb}
+use lib.Dec.{eqb}
 use native.Mathlib.Omega.{arith}
 use borrow.Author.Tests.{ne-eqb}
 use Rattle.basics.specs.Match.{among}
@@ -14,11 +14,10 @@ use Rattle.context.proofs.Writes.{spent-none}
 use Rattle.context.specs.Cells.{Text, tokenText}
 use Rattle.tape.specs.Kinds.{Whitespace, Comment, BareWord, SelectStatement, UnionClause}
 use Rattle.tape.specs.declared.Head.{Head}
-use Rattle.tape.specs.Tree.{Children, hasChild, countListItems, severalListItems}
 use Rattle.layout.specs.declared.Local.{Local}
 use Rattle.layout.specs.Arms.{Spacing, newline, space, indent, dedent, Act, spacing, writeText, writeKeyword, Seen, seen}
 use Rattle.layout.specs.Tokens.{noteSkippedWhitespace, emitComment, emitOther, emitToken, isOperator}
-use Rattle.layout.specs.Routines.{flagged, keywordSpace, spaceIf, spaced, orElse, binaryToken, listClauseNode, formatUnionClause, multiItem, caseWord, whenWord}
+use Rattle.layout.specs.Routines.{flagged, keywordSpace, spaceIf, spaced, orElse, binaryToken, listClauseNode, formatUnionClause, caseWord, whenWord}
 use Rattle.tokens.specs.declared.Arm.{Arm}
 use Rattle.tokens.specs.TokenPromises.{SpacedUnwritten, Spaced, Acted, TokenDone, TriviaDone, emitTrivia, isTrivia}
 use Rattle.tokens.proofs.Runs.{acted}
@@ -166,21 +165,3 @@ unfolding whenWord
 when-acts b p q e f =
     ap (λ (t : Bool). cond t keywordSpace (cond (isWord "THEN" b) (spacing space ∷ keywordSpace) keywordSpace)) e
     ∙ ap (λ (t : Bool). cond p keywordSpace (cond t (spacing space ∷ keywordSpace) keywordSpace)) f
-
--- ── look-ahead
-
-pub multi-few : (list : ℕ) (kids : Children) → severalListItems kids ≡ false → multiItem list kids ≡ false
-unfolding multiItem
-multi-few list kids e = go (hasChild list kids)
-  where
-    go : (b : Bool) → ltb 1 (cond (not b) (countListItems kids) 0) ≡ false
-    go true = refl
-    go false = e
-
-pub multi-several : (list : ℕ) (kids : Children) → severalListItems kids ≡ true → multiItem list kids ≡ not (hasChild list kids)
-unfolding multiItem
-multi-several list kids e = go (hasChild list kids)
-  where
-    go : (b : Bool) → ltb 1 (cond (not b) (countListItems kids) 0) ≡ not b
-    go true = refl
-    go false = e

@@ -7,25 +7,25 @@ use Rattle.layout.specs.Layout.{format}
 use Rattle.formatter.proofs.layout_accepted.Statement.{statement}
 use Rattle.formatter.proofs.layout_accepted.Tie as tie
 
-slice-aggregate-walk-tree : tie.Need-slice-aggregate-walk-tree
-slice-aggregate-walk-tree c = search needs
-
 walk-tree-requires : tie.Need-walk-tree-requires
 walk-tree-requires c κs = search needs
 
+same-length : tie.Need-same-length
+same-length c = search needs
+
 returns : tie.Need-returns
 unfolding format
-returns c = let a = c .before .before .before .before .before .before .before .args in record { all = λ t p q. laid-none (allCells (a .config) (a .text .now) t) (c .before .before .walk-tree .result) (c .before .before .walk-tree .ensures .trims .all t p q) (a .out .now) (c .if1 .taken) }
+returns c = let a = c .before .before .before .before .before .before .before .before .before .before .args in record { all = λ t p q. laid-none (allCells (a .config) (a .text .now) t) (c .before .before .before .walk-tree .result) (c .before .before .before .walk-tree .ensures .trims .all t p q) (a .out .now) (c .if1 .taken) }
 
 add-t13 : tie.Need-add-t13
 add-t13 c = search needs
 
+same-length-2 : tie.Need-same-length-2
+same-length-2 c = search needs
+
 returns-2 : tie.Need-returns-2
 unfolding format
-returns-2 c = let a = c .before .before .before .before .before .before .before .before .args in record { all = λ t p q. laid-short (allCells (a .config) (a .text .now) t) (c .before .before .before .walk-tree .result) (c .before .before .before .walk-tree .ensures .trims .all t p q) (a .out .now) (c .before .if1 .left) (c .if2 .taken) }
-
-slice-aggregate-copy-layout : tie.Need-slice-aggregate-copy-layout
-slice-aggregate-copy-layout c = search needs
+returns-2 c = let a = c .before .before .before .before .before .before .before .before .before .before .before .args in record { all = λ t p q. laid-short (allCells (a .config) (a .text .now) t) (c .before .before .before .before .walk-tree .result) (c .before .before .before .before .walk-tree .ensures .trims .all t p q) (a .out .now) (c .before .if1 .left) (c .if2 .taken) }
 
 copy-layout-requires : tie.Need-copy-layout-requires
 copy-layout-requires c κs = search needs
@@ -33,36 +33,40 @@ copy-layout-requires c κs = search needs
 add-t20 : tie.Need-add-t20
 add-t20 c = search needs
 
-same-length : tie.Need-same-length
-same-length c = search needs
+same-length-3 : tie.Need-same-length-3
+same-length-3 c = search needs
+
+same-length-4 : tie.Need-same-length-4
+same-length-4 c = search needs
 
 returns-3 : tie.Need-returns-3
 unfolding format
 returns-3 c =
-    let a = c .before .before .before .before .before .before .before .before .before .before .before .before .before .before .args in
-    let w = c .before .before .before .before .before .before .before .before .before .walk-tree in
+    let a = c .before .before .before .before .before .before .before .before .before .before .before .before .before .before .before .before .before .args in
+    let w = c .before .before .before .before .before .before .before .before .before .before .walk-tree in
     let k = w .result in
-    let some = c .before .before .before .before .before .before .before .if1 .left in
-    let fits = c .before .before .before .before .before .before .if2 .left in
-    record { all = λ t p q. laid-done (allCells (a .config) (a .text .now) t) k (w .ensures .trims .all t p q) (a .out .now) _ some (omega arith) (copied k (w .ensures .trims) (omega arith) (omega arith) (w .ensures) (omega (arith, c .before .before .before .before .before .if3 .taken)) (c .before .before .copy-layout .ensures) .all t p q) }
+    record { all = λ t p q. laid-done (allCells (a .config) (a .text .now) t) k (w .ensures .trims .all t p q) (a .out .now) _ (c .before .before .before .before .before .before .before .if1 .left) (omega (arith, c .before .before .before .before .before .before .if2 .left)) (copied k (w .ensures .trims) (omega (arith, c .before .before .before .before .before .before .before .if1 .left)) (omega (arith, c .before .before .before .before .before .before .if2 .left)) (w .ensures) (omega (arith, c .before .before .before .before .before .if3 .taken, w .kept .1 .1 .1 .1 .0)) (c .before .before .copy-layout .ensures) .all t p q) }
 
 write-layout-requires : tie.Need-write-layout-requires
-write-layout-requires c κs = (c .before .before .before .before .before .before .before .before .before .before .pre, (c .before .before .before .before .before .walk-tree .ensures .trims, omega (arith, c .before .before .before .if1 .left), omega (arith, c .before .before .if2 .left)))
+write-layout-requires c κs = (c .before .before .before .before .before .before .before .before .before .before .before .before .before .pre, (c .before .before .before .before .before .before .walk-tree .ensures .trims, omega (arith, c .before .before .before .if1 .left), omega (arith, c .before .before .if2 .left)))
 
 add-t25 : tie.Need-add-t25
 add-t25 c = search needs
 
-same-length-2 : tie.Need-same-length-2
-same-length-2 c = search needs
+same-length-5 : tie.Need-same-length-5
+same-length-5 c = search needs
+
+same-length-6 : tie.Need-same-length-6
+same-length-6 c = search needs
 
 returns-4 : tie.Need-returns-4
 unfolding format
 returns-4 c =
-    let a = c .before .before .before .before .before .before .before .before .before .before .before .before .before .args in
-    let w = c .before .before .before .before .before .before .before .before .walk-tree in
+    let a = c .before .before .before .before .before .before .before .before .before .before .before .before .before .before .before .before .args in
+    let w = c .before .before .before .before .before .before .before .before .before .walk-tree in
     record { all = λ t p q. laid-done (allCells (a .config) (a .text .now) t) (w .result) (w .ensures .trims .all t p q) (a .out .now) _ (c .before .before .before .before .before .before .if1 .left) (omega (arith, c .before .before .before .before .before .if2 .left)) (c .before .before .write-layout .ensures .all t p q) }
 
 pub layout-accepted-spec : {M : Type 1} → statement M
 layout-accepted-spec =
     tie.close
-    (tie.spec slice-aggregate-walk-tree walk-tree-requires returns add-t13 returns-2 slice-aggregate-copy-layout copy-layout-requires add-t20 same-length returns-3 write-layout-requires add-t25 same-length-2 returns-4)
+    (tie.spec walk-tree-requires same-length returns add-t13 same-length-2 returns-2 copy-layout-requires add-t20 same-length-3 same-length-4 returns-3 write-layout-requires add-t25 same-length-5 same-length-6 returns-4)

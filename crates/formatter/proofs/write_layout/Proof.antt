@@ -11,7 +11,7 @@ slice-relend-prefix-walk-tree : tie.Need-slice-relend-prefix-walk-tree
 slice-relend-prefix-walk-tree c = search needs
 
 slice-aggregate-walk-tree : tie.Need-slice-aggregate-walk-tree
-slice-aggregate-walk-tree c = let s = c .before .before .before .before in sym (length-take-le (s .args .k) (s .args .out .now) (omega (arith, s .pre .1 .2)))
+slice-aggregate-walk-tree c = sym (length-take-le (c .before .before .before .before .before .args .k) (c .before .before .before .before .before .args .out .now) (omega (arith, c .before .before .before .before .before .pre .1 .2)))
 
 walk-tree-requires : tie.Need-walk-tree-requires
 walk-tree-requires c κs = search needs
@@ -23,7 +23,7 @@ same-length : tie.Need-same-length
 same-length c = search needs
 
 returns : tie.Need-returns
-returns c = let s = c .before .before .before .before .before .before .before in fills (s .args .k) (s .pre .1 .0) (s .pre .1 .1) (s .pre .1 .2) (c .before .before .walk-tree .ensures)
+returns c = fills (c .before .before .before .before .before .before .before .before .args .k) (c .before .before .before .before .before .before .before .before .pre .1 .0) (c .before .before .before .before .before .before .before .before .pre .1 .1) (c .before .before .before .before .before .before .before .before .pre .1 .2) (c .before .before .walk-tree .ensures)
 
 pub write-layout-spec : {M : Type 1} → statement M
 write-layout-spec = tie.close (tie.spec slice-relend-prefix-walk-tree slice-aggregate-walk-tree walk-tree-requires slice-write-out same-length returns)

@@ -4,14 +4,15 @@
 use borrow.Author.Needs.{needs}
 use Prim.Native.Nat.{_*_, _+_, _-_}
 use native.Mathlib.Omega.{arith}
-use mathlib.Core.Bool.{false}
+use mathlib.Core.Bool.{Bool, false, _&&_}
 use mathlib.Core.Logic.{⊎-elim}
 use mathlib.Core.Path.{_∙_, ap, refl, sym}
+use lib.Dec.{eqb}
 use lib.ListN.{length}
 use Rattle.tokens.proofs.Choices.{as-spaced}
 use Rattle.tokens.proofs.Runs.{no-spacing, spaced}
-use Rattle.formatter.proofs.RoutineLaws.{case-after, case-kept, list-known, list-node, listNode, select-kept, settings-kept, union-after}
-use Rattle.formatter.proofs.Walks.{Loop, child-at, clean-node, copy-ready, left-pos, loop-first, loop-fits, loop-last, node-by, node-copied, node-next, node-ready, opened-at, scanned-as, side-ready, token-next, token-ready}
+use Rattle.formatter.proofs.RoutineLaws.{case-after, case-kept, is-list, list-known, list-node, listNode, multi-noted, select-kept, settings-kept, union-after}
+use Rattle.formatter.proofs.Walks.{Loop, child-noted, copy-ready, decided-clean, decided-copied, decided-list, fact-fits, left-pos, loop-first, loop-fits, loop-last, node-by, node-copied, node-next, node-noted, node-ready, opened-at, side-ready, token-next, token-ready}
 use Rattle.formatter.specs.RoutinePromises.{always}
 use Rattle.layout.specs.FormatNode.{armsOf}
 use Rattle.layout.specs.Routines.{flagged, formatAlterCommandList, formatBinaryExpression, formatBraceList, formatBracketList, formatCaseExpression, formatCommaList, formatDataType, formatFile, formatFunctionCall, formatInline, formatInlineCommaList, formatInlineNoSpaces, formatInlineTightParens, formatJoinClause, formatListClause, formatParenList, formatPassthrough, formatQueryList, formatSelectClause, formatSelectStatement, formatSettingsClause, formatSimpleClause, formatSubquery, formatUnaryExpression, formatUnionClause, formatWhenClause, formatWithClause, inlineNode, listClauseArms, spaceAfter, spaceIf, unionToken}
@@ -146,8 +147,8 @@ use Rattle.expressions.proofs.passthrough_token.Reads as passthrough-token-read
 use Rattle.expressions.proofs.subquery_token.Reads as subquery-token-reads
 use Rattle.expressions.proofs.unary_expression_token.Reads as unary-expression-token-reads
 use Rattle.expressions.proofs.when_clause_token.Reads as when-clause-token-reads
-use Rattle.formatter.proofs.format.is_copied.Reads as is-copied-reads
 use Rattle.tape.proofs.commands.head_at.Reads as head-at-reads
+use Rattle.tape.proofs.facts.has_error.Reads as has-error-reads
 use Rattle.tape.proofs.scan.skip.Reads as skip-reads
 use Rattle.tokens.proofs.emit_other.Reads as emit-other-reads
 use Rattle.tokens.proofs.format_error_verbatim.Reads as format-error-verbatim-reads
@@ -156,270 +157,270 @@ use Rattle.tokens.proofs.space_if.Reads as space-if-reads
 use Rattle.formatter.proofs.format.+alter+binary+brace+bracket+call+case+comma+dtype+file+inl_list+inline+join+list_by+no_spaces+node+paren+pass+queries+sel_stmt+select+settings+simple+subquery+tight_paren+unary+union+when+with.{statement}
 use Rattle.formatter.proofs.format.+alter+binary+brace+bracket+call+case+comma+dtype+file+inl_list+inline+join+list_by+no_spaces+node+paren+pass+queries+sel_stmt+select+settings+simple+subquery+tight_paren+unary+union+when+with.Tie.{close}
 
-abbrev μ-alter : Measures 3 alter-kinds.ps ℕ
+abbrev μ-alter : Measures 4 alter-kinds.ps ℕ
 μ-alter κs a = 2 * a .1 .1 .1 .1 .1 .0
 
-abbrev μ-binary : Measures 3 binary-kinds.ps ℕ
+abbrev μ-binary : Measures 4 binary-kinds.ps ℕ
 μ-binary κs a = 2 * a .1 .1 .1 .1 .1 .0
 
-abbrev μ-brace : Measures 3 brace-kinds.ps ℕ
+abbrev μ-brace : Measures 4 brace-kinds.ps ℕ
 μ-brace κs a = 2 * a .1 .1 .1 .1 .1 .0
 
-abbrev μ-bracket : Measures 3 bracket-kinds.ps ℕ
+abbrev μ-bracket : Measures 4 bracket-kinds.ps ℕ
 μ-bracket κs a = 2 * a .1 .1 .1 .1 .1 .0
 
-abbrev μ-call : Measures 3 call-kinds.ps ℕ
+abbrev μ-call : Measures 4 call-kinds.ps ℕ
 μ-call κs a = 2 * a .1 .1 .1 .1 .1 .0
 
-abbrev μ-case : Measures 3 case-kinds.ps ℕ
+abbrev μ-case : Measures 4 case-kinds.ps ℕ
 μ-case κs a = 2 * a .1 .1 .1 .1 .1 .0
 
-abbrev μ-comma : Measures 3 comma-kinds.ps ℕ
+abbrev μ-comma : Measures 4 comma-kinds.ps ℕ
 μ-comma κs a = 2 * a .1 .1 .1 .1 .1 .0
 
-abbrev μ-dtype : Measures 3 dtype-kinds.ps ℕ
+abbrev μ-dtype : Measures 4 dtype-kinds.ps ℕ
 μ-dtype κs a = 2 * a .1 .1 .1 .1 .1 .0
 
-abbrev μ-file : Measures 3 file-kinds.ps ℕ
+abbrev μ-file : Measures 4 file-kinds.ps ℕ
 μ-file κs a = 2 * a .1 .1 .1 .1 .1 .0
 
-abbrev μ-inl-list : Measures 3 inl-list-kinds.ps ℕ
+abbrev μ-inl-list : Measures 4 inl-list-kinds.ps ℕ
 μ-inl-list κs a = 2 * a .1 .1 .1 .1 .1 .0
 
-abbrev μ-inline : Measures 3 inline-kinds.ps ℕ
+abbrev μ-inline : Measures 4 inline-kinds.ps ℕ
 μ-inline κs a = 2 * a .1 .1 .1 .1 .1 .0
 
-abbrev μ-join : Measures 3 join-kinds.ps ℕ
+abbrev μ-join : Measures 4 join-kinds.ps ℕ
 μ-join κs a = 2 * a .1 .1 .1 .1 .1 .0
 
-abbrev μ-list-by : Measures 3 list-by-kinds.ps ℕ
+abbrev μ-list-by : Measures 4 list-by-kinds.ps ℕ
 μ-list-by κs a = 2 * a .1 .1 .1 .1 .1 .0
 
-abbrev μ-no-spaces : Measures 3 no-spaces-kinds.ps ℕ
+abbrev μ-no-spaces : Measures 4 no-spaces-kinds.ps ℕ
 μ-no-spaces κs a = 2 * a .1 .1 .1 .1 .1 .0
 
-abbrev μ-node : Measures 3 node-kinds.ps ℕ
+abbrev μ-node : Measures 4 node-kinds.ps ℕ
 μ-node κs a = 2 * a .1 .1 .1 .1 .1 .0 + 1
 
-abbrev μ-paren : Measures 3 paren-kinds.ps ℕ
+abbrev μ-paren : Measures 4 paren-kinds.ps ℕ
 μ-paren κs a = 2 * a .1 .1 .1 .1 .1 .0
 
-abbrev μ-pass : Measures 3 pass-kinds.ps ℕ
+abbrev μ-pass : Measures 4 pass-kinds.ps ℕ
 μ-pass κs a = 2 * a .1 .1 .1 .1 .1 .0
 
-abbrev μ-queries : Measures 3 queries-kinds.ps ℕ
+abbrev μ-queries : Measures 4 queries-kinds.ps ℕ
 μ-queries κs a = 2 * a .1 .1 .1 .1 .1 .0
 
-abbrev μ-sel-stmt : Measures 3 sel-stmt-kinds.ps ℕ
+abbrev μ-sel-stmt : Measures 4 sel-stmt-kinds.ps ℕ
 μ-sel-stmt κs a = 2 * a .1 .1 .1 .1 .1 .0
 
-abbrev μ-select : Measures 3 select-kinds.ps ℕ
+abbrev μ-select : Measures 4 select-kinds.ps ℕ
 μ-select κs a = 2 * a .1 .1 .1 .1 .1 .0
 
-abbrev μ-settings : Measures 3 settings-kinds.ps ℕ
+abbrev μ-settings : Measures 4 settings-kinds.ps ℕ
 μ-settings κs a = 2 * a .1 .1 .1 .1 .1 .0
 
-abbrev μ-simple : Measures 3 simple-kinds.ps ℕ
+abbrev μ-simple : Measures 4 simple-kinds.ps ℕ
 μ-simple κs a = 2 * a .1 .1 .1 .1 .1 .0
 
-abbrev μ-subquery : Measures 3 subquery-kinds.ps ℕ
+abbrev μ-subquery : Measures 4 subquery-kinds.ps ℕ
 μ-subquery κs a = 2 * a .1 .1 .1 .1 .1 .0
 
-abbrev μ-tight-paren : Measures 3 tight-paren-kinds.ps ℕ
+abbrev μ-tight-paren : Measures 4 tight-paren-kinds.ps ℕ
 μ-tight-paren κs a = 2 * a .1 .1 .1 .1 .1 .0
 
-abbrev μ-unary : Measures 3 unary-kinds.ps ℕ
+abbrev μ-unary : Measures 4 unary-kinds.ps ℕ
 μ-unary κs a = 2 * a .1 .1 .1 .1 .1 .0
 
-abbrev μ-union : Measures 3 union-kinds.ps ℕ
+abbrev μ-union : Measures 4 union-kinds.ps ℕ
 μ-union κs a = 2 * a .1 .1 .1 .1 .1 .0
 
-abbrev μ-when : Measures 3 when-kinds.ps ℕ
+abbrev μ-when : Measures 4 when-kinds.ps ℕ
 μ-when κs a = 2 * a .1 .1 .1 .1 .1 .0
 
-abbrev μ-with : Measures 3 with-kinds.ps ℕ
+abbrev μ-with : Measures 4 with-kinds.ps ℕ
 μ-with κs a = 2 * a .1 .1 .1 .1 .1 .0
 
-abbrev alter-at : ℕ → In 3 alter-kinds.ps
-alter-at t = and 3 alter-kinds.ps (is 3 alter-kinds.ps μ-alter t) alter.Pre
+abbrev alter-at : ℕ → In 4 alter-kinds.ps
+alter-at t = and 4 alter-kinds.ps (is 4 alter-kinds.ps μ-alter t) alter.Pre
 
-abbrev alter-below : ℕ → In 3 alter-kinds.ps
-alter-below t = and 3 alter-kinds.ps (falls 3 alter-kinds.ps _<_ μ-alter t) alter.Pre
+abbrev alter-below : ℕ → In 4 alter-kinds.ps
+alter-below t = and 4 alter-kinds.ps (falls 4 alter-kinds.ps _<_ μ-alter t) alter.Pre
 
-abbrev binary-at : ℕ → In 3 binary-kinds.ps
-binary-at t = and 3 binary-kinds.ps (is 3 binary-kinds.ps μ-binary t) binary.Pre
+abbrev binary-at : ℕ → In 4 binary-kinds.ps
+binary-at t = and 4 binary-kinds.ps (is 4 binary-kinds.ps μ-binary t) binary.Pre
 
-abbrev binary-below : ℕ → In 3 binary-kinds.ps
-binary-below t = and 3 binary-kinds.ps (falls 3 binary-kinds.ps _<_ μ-binary t) binary.Pre
+abbrev binary-below : ℕ → In 4 binary-kinds.ps
+binary-below t = and 4 binary-kinds.ps (falls 4 binary-kinds.ps _<_ μ-binary t) binary.Pre
 
-abbrev brace-at : ℕ → In 3 brace-kinds.ps
-brace-at t = and 3 brace-kinds.ps (is 3 brace-kinds.ps μ-brace t) brace.Pre
+abbrev brace-at : ℕ → In 4 brace-kinds.ps
+brace-at t = and 4 brace-kinds.ps (is 4 brace-kinds.ps μ-brace t) brace.Pre
 
-abbrev brace-below : ℕ → In 3 brace-kinds.ps
-brace-below t = and 3 brace-kinds.ps (falls 3 brace-kinds.ps _<_ μ-brace t) brace.Pre
+abbrev brace-below : ℕ → In 4 brace-kinds.ps
+brace-below t = and 4 brace-kinds.ps (falls 4 brace-kinds.ps _<_ μ-brace t) brace.Pre
 
-abbrev bracket-at : ℕ → In 3 bracket-kinds.ps
-bracket-at t = and 3 bracket-kinds.ps (is 3 bracket-kinds.ps μ-bracket t) bracket.Pre
+abbrev bracket-at : ℕ → In 4 bracket-kinds.ps
+bracket-at t = and 4 bracket-kinds.ps (is 4 bracket-kinds.ps μ-bracket t) bracket.Pre
 
-abbrev bracket-below : ℕ → In 3 bracket-kinds.ps
-bracket-below t = and 3 bracket-kinds.ps (falls 3 bracket-kinds.ps _<_ μ-bracket t) bracket.Pre
+abbrev bracket-below : ℕ → In 4 bracket-kinds.ps
+bracket-below t = and 4 bracket-kinds.ps (falls 4 bracket-kinds.ps _<_ μ-bracket t) bracket.Pre
 
-abbrev call-at : ℕ → In 3 call-kinds.ps
-call-at t = and 3 call-kinds.ps (is 3 call-kinds.ps μ-call t) call.Pre
+abbrev call-at : ℕ → In 4 call-kinds.ps
+call-at t = and 4 call-kinds.ps (is 4 call-kinds.ps μ-call t) call.Pre
 
-abbrev call-below : ℕ → In 3 call-kinds.ps
-call-below t = and 3 call-kinds.ps (falls 3 call-kinds.ps _<_ μ-call t) call.Pre
+abbrev call-below : ℕ → In 4 call-kinds.ps
+call-below t = and 4 call-kinds.ps (falls 4 call-kinds.ps _<_ μ-call t) call.Pre
 
-abbrev case-at : ℕ → In 3 case-kinds.ps
-case-at t = and 3 case-kinds.ps (is 3 case-kinds.ps μ-case t) case.Pre
+abbrev case-at : ℕ → In 4 case-kinds.ps
+case-at t = and 4 case-kinds.ps (is 4 case-kinds.ps μ-case t) case.Pre
 
-abbrev case-below : ℕ → In 3 case-kinds.ps
-case-below t = and 3 case-kinds.ps (falls 3 case-kinds.ps _<_ μ-case t) case.Pre
+abbrev case-below : ℕ → In 4 case-kinds.ps
+case-below t = and 4 case-kinds.ps (falls 4 case-kinds.ps _<_ μ-case t) case.Pre
 
-abbrev comma-at : ℕ → In 3 comma-kinds.ps
-comma-at t = and 3 comma-kinds.ps (is 3 comma-kinds.ps μ-comma t) comma.Pre
+abbrev comma-at : ℕ → In 4 comma-kinds.ps
+comma-at t = and 4 comma-kinds.ps (is 4 comma-kinds.ps μ-comma t) comma.Pre
 
-abbrev comma-below : ℕ → In 3 comma-kinds.ps
-comma-below t = and 3 comma-kinds.ps (falls 3 comma-kinds.ps _<_ μ-comma t) comma.Pre
+abbrev comma-below : ℕ → In 4 comma-kinds.ps
+comma-below t = and 4 comma-kinds.ps (falls 4 comma-kinds.ps _<_ μ-comma t) comma.Pre
 
-abbrev dtype-at : ℕ → In 3 dtype-kinds.ps
-dtype-at t = and 3 dtype-kinds.ps (is 3 dtype-kinds.ps μ-dtype t) dtype.Pre
+abbrev dtype-at : ℕ → In 4 dtype-kinds.ps
+dtype-at t = and 4 dtype-kinds.ps (is 4 dtype-kinds.ps μ-dtype t) dtype.Pre
 
-abbrev dtype-below : ℕ → In 3 dtype-kinds.ps
-dtype-below t = and 3 dtype-kinds.ps (falls 3 dtype-kinds.ps _<_ μ-dtype t) dtype.Pre
+abbrev dtype-below : ℕ → In 4 dtype-kinds.ps
+dtype-below t = and 4 dtype-kinds.ps (falls 4 dtype-kinds.ps _<_ μ-dtype t) dtype.Pre
 
-abbrev file-at : ℕ → In 3 file-kinds.ps
-file-at t = and 3 file-kinds.ps (is 3 file-kinds.ps μ-file t) file.Pre
+abbrev file-at : ℕ → In 4 file-kinds.ps
+file-at t = and 4 file-kinds.ps (is 4 file-kinds.ps μ-file t) file.Pre
 
-abbrev file-below : ℕ → In 3 file-kinds.ps
-file-below t = and 3 file-kinds.ps (falls 3 file-kinds.ps _<_ μ-file t) file.Pre
+abbrev file-below : ℕ → In 4 file-kinds.ps
+file-below t = and 4 file-kinds.ps (falls 4 file-kinds.ps _<_ μ-file t) file.Pre
 
-abbrev inl-list-at : ℕ → In 3 inl-list-kinds.ps
-inl-list-at t = and 3 inl-list-kinds.ps (is 3 inl-list-kinds.ps μ-inl-list t) inl-list.Pre
+abbrev inl-list-at : ℕ → In 4 inl-list-kinds.ps
+inl-list-at t = and 4 inl-list-kinds.ps (is 4 inl-list-kinds.ps μ-inl-list t) inl-list.Pre
 
-abbrev inl-list-below : ℕ → In 3 inl-list-kinds.ps
+abbrev inl-list-below : ℕ → In 4 inl-list-kinds.ps
 inl-list-below t =
-    and 3 inl-list-kinds.ps (falls 3 inl-list-kinds.ps _<_ μ-inl-list t) inl-list.Pre
+    and 4 inl-list-kinds.ps (falls 4 inl-list-kinds.ps _<_ μ-inl-list t) inl-list.Pre
 
-abbrev inline-at : ℕ → In 3 inline-kinds.ps
-inline-at t = and 3 inline-kinds.ps (is 3 inline-kinds.ps μ-inline t) inline.Pre
+abbrev inline-at : ℕ → In 4 inline-kinds.ps
+inline-at t = and 4 inline-kinds.ps (is 4 inline-kinds.ps μ-inline t) inline.Pre
 
-abbrev inline-below : ℕ → In 3 inline-kinds.ps
-inline-below t = and 3 inline-kinds.ps (falls 3 inline-kinds.ps _<_ μ-inline t) inline.Pre
+abbrev inline-below : ℕ → In 4 inline-kinds.ps
+inline-below t = and 4 inline-kinds.ps (falls 4 inline-kinds.ps _<_ μ-inline t) inline.Pre
 
-abbrev join-at : ℕ → In 3 join-kinds.ps
-join-at t = and 3 join-kinds.ps (is 3 join-kinds.ps μ-join t) join.Pre
+abbrev join-at : ℕ → In 4 join-kinds.ps
+join-at t = and 4 join-kinds.ps (is 4 join-kinds.ps μ-join t) join.Pre
 
-abbrev join-below : ℕ → In 3 join-kinds.ps
-join-below t = and 3 join-kinds.ps (falls 3 join-kinds.ps _<_ μ-join t) join.Pre
+abbrev join-below : ℕ → In 4 join-kinds.ps
+join-below t = and 4 join-kinds.ps (falls 4 join-kinds.ps _<_ μ-join t) join.Pre
 
-abbrev list-by-at : ℕ → In 3 list-by-kinds.ps
-list-by-at t = and 3 list-by-kinds.ps (is 3 list-by-kinds.ps μ-list-by t) list-by.Pre
+abbrev list-by-at : ℕ → In 4 list-by-kinds.ps
+list-by-at t = and 4 list-by-kinds.ps (is 4 list-by-kinds.ps μ-list-by t) list-by.Pre
 
-abbrev list-by-below : ℕ → In 3 list-by-kinds.ps
-list-by-below t = and 3 list-by-kinds.ps (falls 3 list-by-kinds.ps _<_ μ-list-by t) list-by.Pre
+abbrev list-by-below : ℕ → In 4 list-by-kinds.ps
+list-by-below t = and 4 list-by-kinds.ps (falls 4 list-by-kinds.ps _<_ μ-list-by t) list-by.Pre
 
-abbrev no-spaces-at : ℕ → In 3 no-spaces-kinds.ps
-no-spaces-at t = and 3 no-spaces-kinds.ps (is 3 no-spaces-kinds.ps μ-no-spaces t) no-spaces.Pre
+abbrev no-spaces-at : ℕ → In 4 no-spaces-kinds.ps
+no-spaces-at t = and 4 no-spaces-kinds.ps (is 4 no-spaces-kinds.ps μ-no-spaces t) no-spaces.Pre
 
-abbrev no-spaces-below : ℕ → In 3 no-spaces-kinds.ps
+abbrev no-spaces-below : ℕ → In 4 no-spaces-kinds.ps
 no-spaces-below t =
-    and 3 no-spaces-kinds.ps (falls 3 no-spaces-kinds.ps _<_ μ-no-spaces t) no-spaces.Pre
+    and 4 no-spaces-kinds.ps (falls 4 no-spaces-kinds.ps _<_ μ-no-spaces t) no-spaces.Pre
 
-abbrev node-at : ℕ → In 3 node-kinds.ps
-node-at t = and 3 node-kinds.ps (is 3 node-kinds.ps μ-node t) node.Pre
+abbrev node-at : ℕ → In 4 node-kinds.ps
+node-at t = and 4 node-kinds.ps (is 4 node-kinds.ps μ-node t) node.Pre
 
-abbrev node-below : ℕ → In 3 node-kinds.ps
-node-below t = and 3 node-kinds.ps (falls 3 node-kinds.ps _<_ μ-node t) node.Pre
+abbrev node-below : ℕ → In 4 node-kinds.ps
+node-below t = and 4 node-kinds.ps (falls 4 node-kinds.ps _<_ μ-node t) node.Pre
 
-abbrev paren-at : ℕ → In 3 paren-kinds.ps
-paren-at t = and 3 paren-kinds.ps (is 3 paren-kinds.ps μ-paren t) paren.Pre
+abbrev paren-at : ℕ → In 4 paren-kinds.ps
+paren-at t = and 4 paren-kinds.ps (is 4 paren-kinds.ps μ-paren t) paren.Pre
 
-abbrev paren-below : ℕ → In 3 paren-kinds.ps
-paren-below t = and 3 paren-kinds.ps (falls 3 paren-kinds.ps _<_ μ-paren t) paren.Pre
+abbrev paren-below : ℕ → In 4 paren-kinds.ps
+paren-below t = and 4 paren-kinds.ps (falls 4 paren-kinds.ps _<_ μ-paren t) paren.Pre
 
-abbrev pass-at : ℕ → In 3 pass-kinds.ps
-pass-at t = and 3 pass-kinds.ps (is 3 pass-kinds.ps μ-pass t) pass.Pre
+abbrev pass-at : ℕ → In 4 pass-kinds.ps
+pass-at t = and 4 pass-kinds.ps (is 4 pass-kinds.ps μ-pass t) pass.Pre
 
-abbrev pass-below : ℕ → In 3 pass-kinds.ps
-pass-below t = and 3 pass-kinds.ps (falls 3 pass-kinds.ps _<_ μ-pass t) pass.Pre
+abbrev pass-below : ℕ → In 4 pass-kinds.ps
+pass-below t = and 4 pass-kinds.ps (falls 4 pass-kinds.ps _<_ μ-pass t) pass.Pre
 
-abbrev queries-at : ℕ → In 3 queries-kinds.ps
-queries-at t = and 3 queries-kinds.ps (is 3 queries-kinds.ps μ-queries t) queries.Pre
+abbrev queries-at : ℕ → In 4 queries-kinds.ps
+queries-at t = and 4 queries-kinds.ps (is 4 queries-kinds.ps μ-queries t) queries.Pre
 
-abbrev queries-below : ℕ → In 3 queries-kinds.ps
-queries-below t = and 3 queries-kinds.ps (falls 3 queries-kinds.ps _<_ μ-queries t) queries.Pre
+abbrev queries-below : ℕ → In 4 queries-kinds.ps
+queries-below t = and 4 queries-kinds.ps (falls 4 queries-kinds.ps _<_ μ-queries t) queries.Pre
 
-abbrev sel-stmt-at : ℕ → In 3 sel-stmt-kinds.ps
-sel-stmt-at t = and 3 sel-stmt-kinds.ps (is 3 sel-stmt-kinds.ps μ-sel-stmt t) sel-stmt.Pre
+abbrev sel-stmt-at : ℕ → In 4 sel-stmt-kinds.ps
+sel-stmt-at t = and 4 sel-stmt-kinds.ps (is 4 sel-stmt-kinds.ps μ-sel-stmt t) sel-stmt.Pre
 
-abbrev sel-stmt-below : ℕ → In 3 sel-stmt-kinds.ps
+abbrev sel-stmt-below : ℕ → In 4 sel-stmt-kinds.ps
 sel-stmt-below t =
-    and 3 sel-stmt-kinds.ps (falls 3 sel-stmt-kinds.ps _<_ μ-sel-stmt t) sel-stmt.Pre
+    and 4 sel-stmt-kinds.ps (falls 4 sel-stmt-kinds.ps _<_ μ-sel-stmt t) sel-stmt.Pre
 
-abbrev select-at : ℕ → In 3 select-kinds.ps
-select-at t = and 3 select-kinds.ps (is 3 select-kinds.ps μ-select t) select.Pre
+abbrev select-at : ℕ → In 4 select-kinds.ps
+select-at t = and 4 select-kinds.ps (is 4 select-kinds.ps μ-select t) select.Pre
 
-abbrev select-below : ℕ → In 3 select-kinds.ps
-select-below t = and 3 select-kinds.ps (falls 3 select-kinds.ps _<_ μ-select t) select.Pre
+abbrev select-below : ℕ → In 4 select-kinds.ps
+select-below t = and 4 select-kinds.ps (falls 4 select-kinds.ps _<_ μ-select t) select.Pre
 
-abbrev settings-at : ℕ → In 3 settings-kinds.ps
-settings-at t = and 3 settings-kinds.ps (is 3 settings-kinds.ps μ-settings t) settings.Pre
+abbrev settings-at : ℕ → In 4 settings-kinds.ps
+settings-at t = and 4 settings-kinds.ps (is 4 settings-kinds.ps μ-settings t) settings.Pre
 
-abbrev settings-below : ℕ → In 3 settings-kinds.ps
+abbrev settings-below : ℕ → In 4 settings-kinds.ps
 settings-below t =
-    and 3 settings-kinds.ps (falls 3 settings-kinds.ps _<_ μ-settings t) settings.Pre
+    and 4 settings-kinds.ps (falls 4 settings-kinds.ps _<_ μ-settings t) settings.Pre
 
-abbrev simple-at : ℕ → In 3 simple-kinds.ps
-simple-at t = and 3 simple-kinds.ps (is 3 simple-kinds.ps μ-simple t) simple.Pre
+abbrev simple-at : ℕ → In 4 simple-kinds.ps
+simple-at t = and 4 simple-kinds.ps (is 4 simple-kinds.ps μ-simple t) simple.Pre
 
-abbrev simple-below : ℕ → In 3 simple-kinds.ps
-simple-below t = and 3 simple-kinds.ps (falls 3 simple-kinds.ps _<_ μ-simple t) simple.Pre
+abbrev simple-below : ℕ → In 4 simple-kinds.ps
+simple-below t = and 4 simple-kinds.ps (falls 4 simple-kinds.ps _<_ μ-simple t) simple.Pre
 
-abbrev subquery-at : ℕ → In 3 subquery-kinds.ps
-subquery-at t = and 3 subquery-kinds.ps (is 3 subquery-kinds.ps μ-subquery t) subquery.Pre
+abbrev subquery-at : ℕ → In 4 subquery-kinds.ps
+subquery-at t = and 4 subquery-kinds.ps (is 4 subquery-kinds.ps μ-subquery t) subquery.Pre
 
-abbrev subquery-below : ℕ → In 3 subquery-kinds.ps
+abbrev subquery-below : ℕ → In 4 subquery-kinds.ps
 subquery-below t =
-    and 3 subquery-kinds.ps (falls 3 subquery-kinds.ps _<_ μ-subquery t) subquery.Pre
+    and 4 subquery-kinds.ps (falls 4 subquery-kinds.ps _<_ μ-subquery t) subquery.Pre
 
-abbrev tight-paren-at : ℕ → In 3 tight-paren-kinds.ps
+abbrev tight-paren-at : ℕ → In 4 tight-paren-kinds.ps
 tight-paren-at t =
-    and 3 tight-paren-kinds.ps (is 3 tight-paren-kinds.ps μ-tight-paren t) tight-paren.Pre
+    and 4 tight-paren-kinds.ps (is 4 tight-paren-kinds.ps μ-tight-paren t) tight-paren.Pre
 
-abbrev tight-paren-below : ℕ → In 3 tight-paren-kinds.ps
+abbrev tight-paren-below : ℕ → In 4 tight-paren-kinds.ps
 tight-paren-below t =
-    and 3 tight-paren-kinds.ps (falls 3 tight-paren-kinds.ps _<_ μ-tight-paren t) tight-paren.Pre
+    and 4 tight-paren-kinds.ps (falls 4 tight-paren-kinds.ps _<_ μ-tight-paren t) tight-paren.Pre
 
-abbrev unary-at : ℕ → In 3 unary-kinds.ps
-unary-at t = and 3 unary-kinds.ps (is 3 unary-kinds.ps μ-unary t) unary.Pre
+abbrev unary-at : ℕ → In 4 unary-kinds.ps
+unary-at t = and 4 unary-kinds.ps (is 4 unary-kinds.ps μ-unary t) unary.Pre
 
-abbrev unary-below : ℕ → In 3 unary-kinds.ps
-unary-below t = and 3 unary-kinds.ps (falls 3 unary-kinds.ps _<_ μ-unary t) unary.Pre
+abbrev unary-below : ℕ → In 4 unary-kinds.ps
+unary-below t = and 4 unary-kinds.ps (falls 4 unary-kinds.ps _<_ μ-unary t) unary.Pre
 
-abbrev union-at : ℕ → In 3 union-kinds.ps
-union-at t = and 3 union-kinds.ps (is 3 union-kinds.ps μ-union t) union.Pre
+abbrev union-at : ℕ → In 4 union-kinds.ps
+union-at t = and 4 union-kinds.ps (is 4 union-kinds.ps μ-union t) union.Pre
 
-abbrev union-below : ℕ → In 3 union-kinds.ps
-union-below t = and 3 union-kinds.ps (falls 3 union-kinds.ps _<_ μ-union t) union.Pre
+abbrev union-below : ℕ → In 4 union-kinds.ps
+union-below t = and 4 union-kinds.ps (falls 4 union-kinds.ps _<_ μ-union t) union.Pre
 
-abbrev when-at : ℕ → In 3 when-kinds.ps
-when-at t = and 3 when-kinds.ps (is 3 when-kinds.ps μ-when t) when.Pre
+abbrev when-at : ℕ → In 4 when-kinds.ps
+when-at t = and 4 when-kinds.ps (is 4 when-kinds.ps μ-when t) when.Pre
 
-abbrev when-below : ℕ → In 3 when-kinds.ps
-when-below t = and 3 when-kinds.ps (falls 3 when-kinds.ps _<_ μ-when t) when.Pre
+abbrev when-below : ℕ → In 4 when-kinds.ps
+when-below t = and 4 when-kinds.ps (falls 4 when-kinds.ps _<_ μ-when t) when.Pre
 
-abbrev with-at : ℕ → In 3 with-kinds.ps
-with-at t = and 3 with-kinds.ps (is 3 with-kinds.ps μ-with t) with.Pre
+abbrev with-at : ℕ → In 4 with-kinds.ps
+with-at t = and 4 with-kinds.ps (is 4 with-kinds.ps μ-with t) with.Pre
 
-abbrev with-below : ℕ → In 3 with-kinds.ps
-with-below t = and 3 with-kinds.ps (falls 3 with-kinds.ps _<_ μ-with t) with.Pre
+abbrev with-below : ℕ → In 4 with-kinds.ps
+with-below t = and 4 with-kinds.ps (falls 4 with-kinds.ps _<_ μ-with t) with.Pre
 
 abbrev alter-Inv-loop : alter-lts.InvT-loop
-alter-Inv-loop source tape config errors out₀ left at i₀ ctx₀ out i ctx = Loop source tape config errors left at (always formatAlterCommandList) formatAlterCommandList ctx₀ out₀ out i ctx (flagged false)
+alter-Inv-loop source tape config facts out₀ left at i₀ ctx₀ out i ctx = Loop source tape facts config left at (always formatAlterCommandList) formatAlterCommandList ctx₀ out₀ out i ctx (flagged false)
 
 abbrev alter-μ-loop : alter-lts.MeasureT-loop
-alter-μ-loop source tape config errors out₀ left at i₀ ctx₀ out i ctx = length tape - i
+alter-μ-loop source tape config facts out₀ left at i₀ ctx₀ out i ctx = length tape - i
 
 alter-add-i : (t : ℕ) → alter-lts.Need-add-i (
   head-at-reads.Asked,
@@ -429,7 +430,7 @@ alter-add-i : (t : ℕ) → alter-lts.Need-add-i (
   node-below t,
   node.Post,
 ) (alter-at t) alter.Post alter-Inv-loop alter-μ-loop
-alter-add-i t c = omega (arith, c .before .before .before .pre .1 .inside, c .before .before .before .pre .1 .sizes .tape-fits)
+alter-add-i t c = omega (arith, c .before .before .before .before .pre .1 .inside, c .before .before .before .before .pre .1 .sizes .tape-fits)
 
 alter-loop-holds : (t : ℕ) → alter-lts.Need-loop-holds (
   head-at-reads.Asked,
@@ -440,7 +441,7 @@ alter-loop-holds : (t : ℕ) → alter-lts.Need-loop-holds (
   node.Post,
 ) (alter-at t) alter.Post alter-Inv-loop alter-μ-loop
 unfolding formatAlterCommandList
-alter-loop-holds t c = loop-first (always formatAlterCommandList) formatAlterCommandList _ (c .before .before .before .pre .1) (λ all z. refl)
+alter-loop-holds t c = loop-first (always formatAlterCommandList) formatAlterCommandList _ (c .before .before .before .before .pre .1) (λ all z. refl)
 
 alter-shared-slice-read-if1 : (t : ℕ) → alter-lts.Need-shared-slice-read-if1 (
   head-at-reads.Asked,
@@ -460,7 +461,7 @@ alter-head-at-requires : (t : ℕ) → alter-lts.Need-head-at-requires (
   node-below t,
   node.Post,
 ) (alter-at t) alter.Post alter-Inv-loop alter-μ-loop
-alter-head-at-requires t c κs = loop-fits (c .before .before .before .before .before .before .pre .1) (c .before .before .loop .inv) (c .if1 .taken)
+alter-head-at-requires t c κs = loop-fits (c .before .before .before .before .before .before .before .pre .1) (c .before .before .loop .inv) (c .if1 .taken)
 
 alter-shared-slice-read-if2 : (t : ℕ) → alter-lts.Need-shared-slice-read-if2 (
   head-at-reads.Asked,
@@ -481,7 +482,7 @@ alter-alter-command-list-token-requires :
       node-below t,
       node.Post,
     ) (alter-at t) alter.Post alter-Inv-loop alter-μ-loop
-alter-alter-command-list-token-requires t c κs = token-ready (c .before .before .before .before .before .before .before .before .before .before .pre .1) (c .before .before .before .before .before .before .loop .inv) _ (c .before .if2 .taken) (c .before .before .before .head-at .ensures)
+alter-alter-command-list-token-requires t c κs = token-ready (c .before .before .before .before .before .before .before .before .before .before .before .pre .1) (c .before .before .before .before .before .before .loop .inv) _ (c .before .if2 .taken) (c .before .before .before .head-at .ensures)
 
 alter-add-i-2 : (t : ℕ) → alter-lts.Need-add-i-2 (
   head-at-reads.Asked,
@@ -491,7 +492,7 @@ alter-add-i-2 : (t : ℕ) → alter-lts.Need-add-i-2 (
   node-below t,
   node.Post,
 ) (alter-at t) alter.Post alter-Inv-loop alter-μ-loop
-alter-add-i-2 t c = omega (arith, loop-fits (c .before .before .before .before .before .before .before .before .before .before .before .before .before .pre .1) (c .before .before .before .before .before .before .before .before .before .loop .inv) (c .before .before .before .before .before .before .before .if1 .taken), c .before .before .before .before .before .before .before .before .before .before .before .before .before .pre .1 .sizes .tape-fits)
+alter-add-i-2 t c = omega (arith, loop-fits (c .before .before .before .before .before .before .before .before .before .before .before .before .before .before .pre .1) (c .before .before .before .before .before .before .before .before .before .loop .inv) (c .before .before .before .before .before .before .before .if1 .taken), c .before .before .before .before .before .before .before .before .before .before .before .before .before .before .pre .1 .sizes .tape-fits)
 
 alter-loop-less : (t : ℕ) → alter-lts.Need-loop-less (
   head-at-reads.Asked,
@@ -512,7 +513,7 @@ alter-loop-again : (t : ℕ) → alter-lts.Need-loop-again (
   node.Post,
 ) (alter-at t) alter.Post alter-Inv-loop alter-μ-loop
 unfolding formatAlterCommandList
-alter-loop-again t c = token-next (c .before .before .before .before .before .before .before .before .before .before .before .before .before .pre .1) (c .before .before .before .before .before .before .before .before .before .loop .inv) (c .before .before .before .before .if2 .taken) (c .before .before .before .before .before .before .head-at .ensures) (c .before .before .alter-command-list-token .ensures) refl (c .before .before .alter-command-list-token .kept .1 .1 .0)
+alter-loop-again t c = token-next (c .before .before .before .before .before .before .before .before .before .before .before .before .before .before .pre .1) (c .before .before .before .before .before .before .before .before .before .loop .inv) (c .before .before .before .before .if2 .taken) (c .before .before .before .before .before .before .head-at .ensures) (c .before .before .alter-command-list-token .ensures) refl (c .before .before .alter-command-list-token .kept .1 .1 .0)
 
 alter-sub-node : (t : ℕ) → alter-lts.Need-sub-node (
   head-at-reads.Asked,
@@ -522,7 +523,7 @@ alter-sub-node : (t : ℕ) → alter-lts.Need-sub-node (
   node-below t,
   node.Post,
 ) (alter-at t) alter.Post alter-Inv-loop alter-μ-loop
-alter-sub-node t c = left-pos (c .before .before .before .before .before .before .before .before .before .before .pre .1) (c .before .before .before .before .before .before .loop .inv) (c .before .before .before .before .if1 .taken) (c .before .if2 .left)
+alter-sub-node t c = left-pos (c .before .before .before .before .before .before .before .before .before .before .before .pre .1) (c .before .before .before .before .before .before .loop .inv) (c .before .before .before .before .if1 .taken) (c .before .if2 .left)
 
 alter-node-requires : (t : ℕ) → alter-lts.Need-node-requires (
   head-at-reads.Asked,
@@ -532,7 +533,7 @@ alter-node-requires : (t : ℕ) → alter-lts.Need-node-requires (
   node-below t,
   node.Post,
 ) (alter-at t) alter.Post alter-Inv-loop alter-μ-loop
-alter-node-requires t c κs = (omega (arith, c .before .before .before .before .before .before .before .before .before .before .pre .0, left-pos (c .before .before .before .before .before .before .before .before .before .before .pre .1) (c .before .before .before .before .before .before .loop .inv) (c .before .before .before .before .if1 .taken) (c .before .if2 .left)), node-ready (c .before .before .before .before .before .before .before .before .before .before .pre .1) (c .before .before .before .before .before .before .loop .inv) (c .before .before .before .before .if1 .taken) (c .before .if2 .left) (c .before .before .before .head-at .ensures) (no-spacing {xs = c .before .before .before .before .before .before .loop .out}) (omega arith))
+alter-node-requires t c κs = (omega (arith, c .before .before .before .before .before .before .before .before .before .before .before .pre .0, left-pos (c .before .before .before .before .before .before .before .before .before .before .before .pre .1) (c .before .before .before .before .before .before .loop .inv) (c .before .before .before .before .if1 .taken) (c .before .if2 .left)), node-ready (c .before .before .before .before .before .before .before .before .before .before .before .pre .1) (c .before .before .before .before .before .before .loop .inv) (c .before .before .before .before .if1 .taken) (c .before .if2 .left) (c .before .before .before .head-at .ensures) (no-spacing {xs = c .before .before .before .before .before .before .loop .out}) (omega arith))
 
 alter-loop-less-2 : (t : ℕ) → alter-lts.Need-loop-less-2 (
   head-at-reads.Asked,
@@ -553,7 +554,7 @@ alter-loop-again-2 : (t : ℕ) → alter-lts.Need-loop-again-2 (
   node.Post,
 ) (alter-at t) alter.Post alter-Inv-loop alter-μ-loop
 unfolding formatAlterCommandList
-alter-loop-again-2 t c = node-next (c .before .before .before .before .before .before .before .before .before .before .before .before .before .before .pre .1) (c .before .before .before .before .before .before .before .before .before .before .loop .inv) (formatAlterCommandList .atNode (flagged false) (c .before .before .before .before .before .before .before .head-at .result .kind) 0) (c .before .before .before .before .before .before .before .before .if1 .taken) (c .before .before .before .before .before .if2 .left) (c .before .before .before .before .before .before .before .head-at .ensures) (λ k z. refl) (no-spacing {xs = c .before .before .before .before .before .before .before .before .before .before .loop .out}) (c .before .before .before .node .ensures) refl no-spacing (omega arith) (omega arith) (c .before .before .before .node .kept .1 .1 .1 .1 .0)
+alter-loop-again-2 t c = node-next (c .before .before .before .before .before .before .before .before .before .before .before .before .before .before .before .pre .1) (c .before .before .before .before .before .before .before .before .before .before .loop .inv) (formatAlterCommandList .atNode (flagged false) (c .before .before .before .before .before .before .before .head-at .result .kind) 0) (c .before .before .before .before .before .before .before .before .if1 .taken) (c .before .before .before .before .before .if2 .left) (c .before .before .before .before .before .before .before .head-at .ensures) (λ k z. refl) (no-spacing {xs = c .before .before .before .before .before .before .before .before .before .before .loop .out}) (c .before .before .before .node .ensures) refl no-spacing (omega arith) (omega arith) (c .before .before .before .node .kept .1 .1 .1 .1 .0)
 
 alter-add-t22 : (t : ℕ) → alter-lts.Need-add-t22 (
   head-at-reads.Asked,
@@ -563,7 +564,7 @@ alter-add-t22 : (t : ℕ) → alter-lts.Need-add-t22 (
   node-below t,
   node.Post,
 ) (alter-at t) alter.Post alter-Inv-loop alter-μ-loop
-alter-add-t22 t c = omega (arith, c .before .before .loop .inv .inside, c .before .before .before .before .before .before .pre .1 .sizes .tape-fits)
+alter-add-t22 t c = omega (arith, c .before .before .loop .inv .inside, c .before .before .before .before .before .before .before .pre .1 .sizes .tape-fits)
 
 alter-same-length : (t : ℕ) → alter-lts.Need-same-length (
   head-at-reads.Asked,
@@ -584,13 +585,13 @@ alter-returns : (t : ℕ) → alter-lts.Need-returns (
   node.Post,
 ) (alter-at t) alter.Post alter-Inv-loop alter-μ-loop
 unfolding formatAlterCommandList
-alter-returns t c = loop-last (c .before .before .before .before .before .before .pre .1) (c .before .before .loop .inv) (c .if1 .left) no-spacing (omega arith)
+alter-returns t c = loop-last (c .before .before .before .before .before .before .before .pre .1) (c .before .before .loop .inv) (c .if1 .left) no-spacing (omega arith)
 
 abbrev binary-Inv-loop : binary-lts.InvT-loop
-binary-Inv-loop source tape config errors out₀ left at i₀ ctx₀ out i ctx = Loop source tape config errors left at (always formatBinaryExpression) formatBinaryExpression ctx₀ out₀ out i ctx (flagged false)
+binary-Inv-loop source tape config facts out₀ left at i₀ ctx₀ out i ctx = Loop source tape facts config left at (always formatBinaryExpression) formatBinaryExpression ctx₀ out₀ out i ctx (flagged false)
 
 abbrev binary-μ-loop : binary-lts.MeasureT-loop
-binary-μ-loop source tape config errors out₀ left at i₀ ctx₀ out i ctx = length tape - i
+binary-μ-loop source tape config facts out₀ left at i₀ ctx₀ out i ctx = length tape - i
 
 binary-add-i : (t : ℕ) → binary-lts.Need-add-i (
   head-at-reads.Asked,
@@ -600,7 +601,7 @@ binary-add-i : (t : ℕ) → binary-lts.Need-add-i (
   node-below t,
   node.Post,
 ) (binary-at t) binary.Post binary-Inv-loop binary-μ-loop
-binary-add-i t c = omega (arith, c .before .before .before .pre .1 .inside, c .before .before .before .pre .1 .sizes .tape-fits)
+binary-add-i t c = omega (arith, c .before .before .before .before .pre .1 .inside, c .before .before .before .before .pre .1 .sizes .tape-fits)
 
 binary-loop-holds : (t : ℕ) → binary-lts.Need-loop-holds (
   head-at-reads.Asked,
@@ -611,7 +612,7 @@ binary-loop-holds : (t : ℕ) → binary-lts.Need-loop-holds (
   node.Post,
 ) (binary-at t) binary.Post binary-Inv-loop binary-μ-loop
 unfolding formatBinaryExpression
-binary-loop-holds t c = loop-first (always formatBinaryExpression) formatBinaryExpression _ (c .before .before .before .pre .1) (λ all z. refl)
+binary-loop-holds t c = loop-first (always formatBinaryExpression) formatBinaryExpression _ (c .before .before .before .before .pre .1) (λ all z. refl)
 
 binary-shared-slice-read-if1 : (t : ℕ) → binary-lts.Need-shared-slice-read-if1 (
   head-at-reads.Asked,
@@ -631,7 +632,7 @@ binary-head-at-requires : (t : ℕ) → binary-lts.Need-head-at-requires (
   node-below t,
   node.Post,
 ) (binary-at t) binary.Post binary-Inv-loop binary-μ-loop
-binary-head-at-requires t c κs = loop-fits (c .before .before .before .before .before .before .pre .1) (c .before .before .loop .inv) (c .if1 .taken)
+binary-head-at-requires t c κs = loop-fits (c .before .before .before .before .before .before .before .pre .1) (c .before .before .loop .inv) (c .if1 .taken)
 
 binary-shared-slice-read-if2 : (t : ℕ) → binary-lts.Need-shared-slice-read-if2 (
   head-at-reads.Asked,
@@ -652,7 +653,7 @@ binary-binary-expression-token-requires :
       node-below t,
       node.Post,
     ) (binary-at t) binary.Post binary-Inv-loop binary-μ-loop
-binary-binary-expression-token-requires t c κs = token-ready (c .before .before .before .before .before .before .before .before .before .before .pre .1) (c .before .before .before .before .before .before .loop .inv) _ (c .before .if2 .taken) (c .before .before .before .head-at .ensures)
+binary-binary-expression-token-requires t c κs = token-ready (c .before .before .before .before .before .before .before .before .before .before .before .pre .1) (c .before .before .before .before .before .before .loop .inv) _ (c .before .if2 .taken) (c .before .before .before .head-at .ensures)
 
 binary-add-i-2 : (t : ℕ) → binary-lts.Need-add-i-2 (
   head-at-reads.Asked,
@@ -662,7 +663,7 @@ binary-add-i-2 : (t : ℕ) → binary-lts.Need-add-i-2 (
   node-below t,
   node.Post,
 ) (binary-at t) binary.Post binary-Inv-loop binary-μ-loop
-binary-add-i-2 t c = omega (arith, loop-fits (c .before .before .before .before .before .before .before .before .before .before .before .before .before .pre .1) (c .before .before .before .before .before .before .before .before .before .loop .inv) (c .before .before .before .before .before .before .before .if1 .taken), c .before .before .before .before .before .before .before .before .before .before .before .before .before .pre .1 .sizes .tape-fits)
+binary-add-i-2 t c = omega (arith, loop-fits (c .before .before .before .before .before .before .before .before .before .before .before .before .before .before .pre .1) (c .before .before .before .before .before .before .before .before .before .loop .inv) (c .before .before .before .before .before .before .before .if1 .taken), c .before .before .before .before .before .before .before .before .before .before .before .before .before .before .pre .1 .sizes .tape-fits)
 
 binary-loop-less : (t : ℕ) → binary-lts.Need-loop-less (
   head-at-reads.Asked,
@@ -683,7 +684,7 @@ binary-loop-again : (t : ℕ) → binary-lts.Need-loop-again (
   node.Post,
 ) (binary-at t) binary.Post binary-Inv-loop binary-μ-loop
 unfolding formatBinaryExpression
-binary-loop-again t c = token-next (c .before .before .before .before .before .before .before .before .before .before .before .before .before .pre .1) (c .before .before .before .before .before .before .before .before .before .loop .inv) (c .before .before .before .before .if2 .taken) (c .before .before .before .before .before .before .head-at .ensures) (c .before .before .binary-expression-token .ensures) refl (c .before .before .binary-expression-token .kept .1 .1 .0)
+binary-loop-again t c = token-next (c .before .before .before .before .before .before .before .before .before .before .before .before .before .before .pre .1) (c .before .before .before .before .before .before .before .before .before .loop .inv) (c .before .before .before .before .if2 .taken) (c .before .before .before .before .before .before .head-at .ensures) (c .before .before .binary-expression-token .ensures) refl (c .before .before .binary-expression-token .kept .1 .1 .0)
 
 binary-sub-node : (t : ℕ) → binary-lts.Need-sub-node (
   head-at-reads.Asked,
@@ -693,7 +694,7 @@ binary-sub-node : (t : ℕ) → binary-lts.Need-sub-node (
   node-below t,
   node.Post,
 ) (binary-at t) binary.Post binary-Inv-loop binary-μ-loop
-binary-sub-node t c = left-pos (c .before .before .before .before .before .before .before .before .before .before .pre .1) (c .before .before .before .before .before .before .loop .inv) (c .before .before .before .before .if1 .taken) (c .before .if2 .left)
+binary-sub-node t c = left-pos (c .before .before .before .before .before .before .before .before .before .before .before .pre .1) (c .before .before .before .before .before .before .loop .inv) (c .before .before .before .before .if1 .taken) (c .before .if2 .left)
 
 binary-node-requires : (t : ℕ) → binary-lts.Need-node-requires (
   head-at-reads.Asked,
@@ -703,7 +704,7 @@ binary-node-requires : (t : ℕ) → binary-lts.Need-node-requires (
   node-below t,
   node.Post,
 ) (binary-at t) binary.Post binary-Inv-loop binary-μ-loop
-binary-node-requires t c κs = (omega (arith, c .before .before .before .before .before .before .before .before .before .before .pre .0, left-pos (c .before .before .before .before .before .before .before .before .before .before .pre .1) (c .before .before .before .before .before .before .loop .inv) (c .before .before .before .before .if1 .taken) (c .before .if2 .left)), node-ready (c .before .before .before .before .before .before .before .before .before .before .pre .1) (c .before .before .before .before .before .before .loop .inv) (c .before .before .before .before .if1 .taken) (c .before .if2 .left) (c .before .before .before .head-at .ensures) (no-spacing {xs = c .before .before .before .before .before .before .loop .out}) (omega arith))
+binary-node-requires t c κs = (omega (arith, c .before .before .before .before .before .before .before .before .before .before .before .pre .0, left-pos (c .before .before .before .before .before .before .before .before .before .before .before .pre .1) (c .before .before .before .before .before .before .loop .inv) (c .before .before .before .before .if1 .taken) (c .before .if2 .left)), node-ready (c .before .before .before .before .before .before .before .before .before .before .before .pre .1) (c .before .before .before .before .before .before .loop .inv) (c .before .before .before .before .if1 .taken) (c .before .if2 .left) (c .before .before .before .head-at .ensures) (no-spacing {xs = c .before .before .before .before .before .before .loop .out}) (omega arith))
 
 binary-loop-less-2 : (t : ℕ) → binary-lts.Need-loop-less-2 (
   head-at-reads.Asked,
@@ -724,7 +725,7 @@ binary-loop-again-2 : (t : ℕ) → binary-lts.Need-loop-again-2 (
   node.Post,
 ) (binary-at t) binary.Post binary-Inv-loop binary-μ-loop
 unfolding formatBinaryExpression
-binary-loop-again-2 t c = node-next (c .before .before .before .before .before .before .before .before .before .before .before .before .before .before .pre .1) (c .before .before .before .before .before .before .before .before .before .before .loop .inv) (formatBinaryExpression .atNode (flagged false) (c .before .before .before .before .before .before .before .head-at .result .kind) 0) (c .before .before .before .before .before .before .before .before .if1 .taken) (c .before .before .before .before .before .if2 .left) (c .before .before .before .before .before .before .before .head-at .ensures) (λ k z. refl) (no-spacing {xs = c .before .before .before .before .before .before .before .before .before .before .loop .out}) (c .before .before .before .node .ensures) refl no-spacing (omega arith) (omega arith) (c .before .before .before .node .kept .1 .1 .1 .1 .0)
+binary-loop-again-2 t c = node-next (c .before .before .before .before .before .before .before .before .before .before .before .before .before .before .before .pre .1) (c .before .before .before .before .before .before .before .before .before .before .loop .inv) (formatBinaryExpression .atNode (flagged false) (c .before .before .before .before .before .before .before .head-at .result .kind) 0) (c .before .before .before .before .before .before .before .before .if1 .taken) (c .before .before .before .before .before .if2 .left) (c .before .before .before .before .before .before .before .head-at .ensures) (λ k z. refl) (no-spacing {xs = c .before .before .before .before .before .before .before .before .before .before .loop .out}) (c .before .before .before .node .ensures) refl no-spacing (omega arith) (omega arith) (c .before .before .before .node .kept .1 .1 .1 .1 .0)
 
 binary-add-t22 : (t : ℕ) → binary-lts.Need-add-t22 (
   head-at-reads.Asked,
@@ -734,7 +735,7 @@ binary-add-t22 : (t : ℕ) → binary-lts.Need-add-t22 (
   node-below t,
   node.Post,
 ) (binary-at t) binary.Post binary-Inv-loop binary-μ-loop
-binary-add-t22 t c = omega (arith, c .before .before .loop .inv .inside, c .before .before .before .before .before .before .pre .1 .sizes .tape-fits)
+binary-add-t22 t c = omega (arith, c .before .before .loop .inv .inside, c .before .before .before .before .before .before .before .pre .1 .sizes .tape-fits)
 
 binary-same-length : (t : ℕ) → binary-lts.Need-same-length (
   head-at-reads.Asked,
@@ -755,13 +756,13 @@ binary-returns : (t : ℕ) → binary-lts.Need-returns (
   node.Post,
 ) (binary-at t) binary.Post binary-Inv-loop binary-μ-loop
 unfolding formatBinaryExpression
-binary-returns t c = loop-last (c .before .before .before .before .before .before .pre .1) (c .before .before .loop .inv) (c .if1 .left) no-spacing (omega arith)
+binary-returns t c = loop-last (c .before .before .before .before .before .before .before .pre .1) (c .before .before .loop .inv) (c .if1 .left) no-spacing (omega arith)
 
 abbrev brace-Inv-loop : brace-lts.InvT-loop
-brace-Inv-loop source tape config errors out₀ left at i₀ ctx₀ out i ctx = Loop source tape config errors left at (always formatBraceList) formatBraceList ctx₀ out₀ out i ctx (flagged false)
+brace-Inv-loop source tape config facts out₀ left at i₀ ctx₀ out i ctx = Loop source tape facts config left at (always formatBraceList) formatBraceList ctx₀ out₀ out i ctx (flagged false)
 
 abbrev brace-μ-loop : brace-lts.MeasureT-loop
-brace-μ-loop source tape config errors out₀ left at i₀ ctx₀ out i ctx = length tape - i
+brace-μ-loop source tape config facts out₀ left at i₀ ctx₀ out i ctx = length tape - i
 
 brace-add-i : (t : ℕ) → brace-lts.Need-add-i (
   head-at-reads.Asked,
@@ -771,7 +772,7 @@ brace-add-i : (t : ℕ) → brace-lts.Need-add-i (
   node-below t,
   node.Post,
 ) (brace-at t) brace.Post brace-Inv-loop brace-μ-loop
-brace-add-i t c = omega (arith, c .before .before .before .pre .1 .inside, c .before .before .before .pre .1 .sizes .tape-fits)
+brace-add-i t c = omega (arith, c .before .before .before .before .pre .1 .inside, c .before .before .before .before .pre .1 .sizes .tape-fits)
 
 brace-loop-holds : (t : ℕ) → brace-lts.Need-loop-holds (
   head-at-reads.Asked,
@@ -782,7 +783,7 @@ brace-loop-holds : (t : ℕ) → brace-lts.Need-loop-holds (
   node.Post,
 ) (brace-at t) brace.Post brace-Inv-loop brace-μ-loop
 unfolding formatBraceList
-brace-loop-holds t c = loop-first (always formatBraceList) formatBraceList _ (c .before .before .before .pre .1) (λ all z. refl)
+brace-loop-holds t c = loop-first (always formatBraceList) formatBraceList _ (c .before .before .before .before .pre .1) (λ all z. refl)
 
 brace-shared-slice-read-if1 : (t : ℕ) → brace-lts.Need-shared-slice-read-if1 (
   head-at-reads.Asked,
@@ -802,7 +803,7 @@ brace-head-at-requires : (t : ℕ) → brace-lts.Need-head-at-requires (
   node-below t,
   node.Post,
 ) (brace-at t) brace.Post brace-Inv-loop brace-μ-loop
-brace-head-at-requires t c κs = loop-fits (c .before .before .before .before .before .before .pre .1) (c .before .before .loop .inv) (c .if1 .taken)
+brace-head-at-requires t c κs = loop-fits (c .before .before .before .before .before .before .before .pre .1) (c .before .before .loop .inv) (c .if1 .taken)
 
 brace-shared-slice-read-if2 : (t : ℕ) → brace-lts.Need-shared-slice-read-if2 (
   head-at-reads.Asked,
@@ -822,7 +823,7 @@ brace-brace-list-token-requires : (t : ℕ) → brace-lts.Need-brace-list-token-
   node-below t,
   node.Post,
 ) (brace-at t) brace.Post brace-Inv-loop brace-μ-loop
-brace-brace-list-token-requires t c κs = token-ready (c .before .before .before .before .before .before .before .before .before .before .pre .1) (c .before .before .before .before .before .before .loop .inv) _ (c .before .if2 .taken) (c .before .before .before .head-at .ensures)
+brace-brace-list-token-requires t c κs = token-ready (c .before .before .before .before .before .before .before .before .before .before .before .pre .1) (c .before .before .before .before .before .before .loop .inv) _ (c .before .if2 .taken) (c .before .before .before .head-at .ensures)
 
 brace-add-i-2 : (t : ℕ) → brace-lts.Need-add-i-2 (
   head-at-reads.Asked,
@@ -832,7 +833,7 @@ brace-add-i-2 : (t : ℕ) → brace-lts.Need-add-i-2 (
   node-below t,
   node.Post,
 ) (brace-at t) brace.Post brace-Inv-loop brace-μ-loop
-brace-add-i-2 t c = omega (arith, loop-fits (c .before .before .before .before .before .before .before .before .before .before .before .before .before .pre .1) (c .before .before .before .before .before .before .before .before .before .loop .inv) (c .before .before .before .before .before .before .before .if1 .taken), c .before .before .before .before .before .before .before .before .before .before .before .before .before .pre .1 .sizes .tape-fits)
+brace-add-i-2 t c = omega (arith, loop-fits (c .before .before .before .before .before .before .before .before .before .before .before .before .before .before .pre .1) (c .before .before .before .before .before .before .before .before .before .loop .inv) (c .before .before .before .before .before .before .before .if1 .taken), c .before .before .before .before .before .before .before .before .before .before .before .before .before .before .pre .1 .sizes .tape-fits)
 
 brace-loop-less : (t : ℕ) → brace-lts.Need-loop-less (
   head-at-reads.Asked,
@@ -853,7 +854,7 @@ brace-loop-again : (t : ℕ) → brace-lts.Need-loop-again (
   node.Post,
 ) (brace-at t) brace.Post brace-Inv-loop brace-μ-loop
 unfolding formatBraceList
-brace-loop-again t c = token-next (c .before .before .before .before .before .before .before .before .before .before .before .before .before .pre .1) (c .before .before .before .before .before .before .before .before .before .loop .inv) (c .before .before .before .before .if2 .taken) (c .before .before .before .before .before .before .head-at .ensures) (c .before .before .brace-list-token .ensures) refl (c .before .before .brace-list-token .kept .1 .1 .0)
+brace-loop-again t c = token-next (c .before .before .before .before .before .before .before .before .before .before .before .before .before .before .pre .1) (c .before .before .before .before .before .before .before .before .before .loop .inv) (c .before .before .before .before .if2 .taken) (c .before .before .before .before .before .before .head-at .ensures) (c .before .before .brace-list-token .ensures) refl (c .before .before .brace-list-token .kept .1 .1 .0)
 
 brace-sub-node : (t : ℕ) → brace-lts.Need-sub-node (
   head-at-reads.Asked,
@@ -863,7 +864,7 @@ brace-sub-node : (t : ℕ) → brace-lts.Need-sub-node (
   node-below t,
   node.Post,
 ) (brace-at t) brace.Post brace-Inv-loop brace-μ-loop
-brace-sub-node t c = left-pos (c .before .before .before .before .before .before .before .before .before .before .pre .1) (c .before .before .before .before .before .before .loop .inv) (c .before .before .before .before .if1 .taken) (c .before .if2 .left)
+brace-sub-node t c = left-pos (c .before .before .before .before .before .before .before .before .before .before .before .pre .1) (c .before .before .before .before .before .before .loop .inv) (c .before .before .before .before .if1 .taken) (c .before .if2 .left)
 
 brace-node-requires : (t : ℕ) → brace-lts.Need-node-requires (
   head-at-reads.Asked,
@@ -873,7 +874,7 @@ brace-node-requires : (t : ℕ) → brace-lts.Need-node-requires (
   node-below t,
   node.Post,
 ) (brace-at t) brace.Post brace-Inv-loop brace-μ-loop
-brace-node-requires t c κs = (omega (arith, c .before .before .before .before .before .before .before .before .before .before .pre .0, left-pos (c .before .before .before .before .before .before .before .before .before .before .pre .1) (c .before .before .before .before .before .before .loop .inv) (c .before .before .before .before .if1 .taken) (c .before .if2 .left)), node-ready (c .before .before .before .before .before .before .before .before .before .before .pre .1) (c .before .before .before .before .before .before .loop .inv) (c .before .before .before .before .if1 .taken) (c .before .if2 .left) (c .before .before .before .head-at .ensures) (no-spacing {xs = c .before .before .before .before .before .before .loop .out}) (omega arith))
+brace-node-requires t c κs = (omega (arith, c .before .before .before .before .before .before .before .before .before .before .before .pre .0, left-pos (c .before .before .before .before .before .before .before .before .before .before .before .pre .1) (c .before .before .before .before .before .before .loop .inv) (c .before .before .before .before .if1 .taken) (c .before .if2 .left)), node-ready (c .before .before .before .before .before .before .before .before .before .before .before .pre .1) (c .before .before .before .before .before .before .loop .inv) (c .before .before .before .before .if1 .taken) (c .before .if2 .left) (c .before .before .before .head-at .ensures) (no-spacing {xs = c .before .before .before .before .before .before .loop .out}) (omega arith))
 
 brace-loop-less-2 : (t : ℕ) → brace-lts.Need-loop-less-2 (
   head-at-reads.Asked,
@@ -894,7 +895,7 @@ brace-loop-again-2 : (t : ℕ) → brace-lts.Need-loop-again-2 (
   node.Post,
 ) (brace-at t) brace.Post brace-Inv-loop brace-μ-loop
 unfolding formatBraceList
-brace-loop-again-2 t c = node-next (c .before .before .before .before .before .before .before .before .before .before .before .before .before .before .pre .1) (c .before .before .before .before .before .before .before .before .before .before .loop .inv) (formatBraceList .atNode (flagged false) (c .before .before .before .before .before .before .before .head-at .result .kind) 0) (c .before .before .before .before .before .before .before .before .if1 .taken) (c .before .before .before .before .before .if2 .left) (c .before .before .before .before .before .before .before .head-at .ensures) (λ k z. refl) (no-spacing {xs = c .before .before .before .before .before .before .before .before .before .before .loop .out}) (c .before .before .before .node .ensures) refl no-spacing (omega arith) (omega arith) (c .before .before .before .node .kept .1 .1 .1 .1 .0)
+brace-loop-again-2 t c = node-next (c .before .before .before .before .before .before .before .before .before .before .before .before .before .before .before .pre .1) (c .before .before .before .before .before .before .before .before .before .before .loop .inv) (formatBraceList .atNode (flagged false) (c .before .before .before .before .before .before .before .head-at .result .kind) 0) (c .before .before .before .before .before .before .before .before .if1 .taken) (c .before .before .before .before .before .if2 .left) (c .before .before .before .before .before .before .before .head-at .ensures) (λ k z. refl) (no-spacing {xs = c .before .before .before .before .before .before .before .before .before .before .loop .out}) (c .before .before .before .node .ensures) refl no-spacing (omega arith) (omega arith) (c .before .before .before .node .kept .1 .1 .1 .1 .0)
 
 brace-add-t22 : (t : ℕ) → brace-lts.Need-add-t22 (
   head-at-reads.Asked,
@@ -904,7 +905,7 @@ brace-add-t22 : (t : ℕ) → brace-lts.Need-add-t22 (
   node-below t,
   node.Post,
 ) (brace-at t) brace.Post brace-Inv-loop brace-μ-loop
-brace-add-t22 t c = omega (arith, c .before .before .loop .inv .inside, c .before .before .before .before .before .before .pre .1 .sizes .tape-fits)
+brace-add-t22 t c = omega (arith, c .before .before .loop .inv .inside, c .before .before .before .before .before .before .before .pre .1 .sizes .tape-fits)
 
 brace-same-length : (t : ℕ) → brace-lts.Need-same-length (
   head-at-reads.Asked,
@@ -925,13 +926,13 @@ brace-returns : (t : ℕ) → brace-lts.Need-returns (
   node.Post,
 ) (brace-at t) brace.Post brace-Inv-loop brace-μ-loop
 unfolding formatBraceList
-brace-returns t c = loop-last (c .before .before .before .before .before .before .pre .1) (c .before .before .loop .inv) (c .if1 .left) no-spacing (omega arith)
+brace-returns t c = loop-last (c .before .before .before .before .before .before .before .pre .1) (c .before .before .loop .inv) (c .if1 .left) no-spacing (omega arith)
 
 abbrev bracket-Inv-loop : bracket-lts.InvT-loop
-bracket-Inv-loop source tape config errors out₀ left at i₀ ctx₀ out i ctx = Loop source tape config errors left at (always formatBracketList) formatBracketList ctx₀ out₀ out i ctx (flagged false)
+bracket-Inv-loop source tape config facts out₀ left at i₀ ctx₀ out i ctx = Loop source tape facts config left at (always formatBracketList) formatBracketList ctx₀ out₀ out i ctx (flagged false)
 
 abbrev bracket-μ-loop : bracket-lts.MeasureT-loop
-bracket-μ-loop source tape config errors out₀ left at i₀ ctx₀ out i ctx = length tape - i
+bracket-μ-loop source tape config facts out₀ left at i₀ ctx₀ out i ctx = length tape - i
 
 bracket-add-i : (t : ℕ) → bracket-lts.Need-add-i (
   head-at-reads.Asked,
@@ -941,7 +942,7 @@ bracket-add-i : (t : ℕ) → bracket-lts.Need-add-i (
   node-below t,
   node.Post,
 ) (bracket-at t) bracket.Post bracket-Inv-loop bracket-μ-loop
-bracket-add-i t c = omega (arith, c .before .before .before .pre .1 .inside, c .before .before .before .pre .1 .sizes .tape-fits)
+bracket-add-i t c = omega (arith, c .before .before .before .before .pre .1 .inside, c .before .before .before .before .pre .1 .sizes .tape-fits)
 
 bracket-loop-holds : (t : ℕ) → bracket-lts.Need-loop-holds (
   head-at-reads.Asked,
@@ -952,7 +953,7 @@ bracket-loop-holds : (t : ℕ) → bracket-lts.Need-loop-holds (
   node.Post,
 ) (bracket-at t) bracket.Post bracket-Inv-loop bracket-μ-loop
 unfolding formatBracketList
-bracket-loop-holds t c = loop-first (always formatBracketList) formatBracketList _ (c .before .before .before .pre .1) (λ all z. refl)
+bracket-loop-holds t c = loop-first (always formatBracketList) formatBracketList _ (c .before .before .before .before .pre .1) (λ all z. refl)
 
 bracket-shared-slice-read-if1 : (t : ℕ) → bracket-lts.Need-shared-slice-read-if1 (
   head-at-reads.Asked,
@@ -972,7 +973,7 @@ bracket-head-at-requires : (t : ℕ) → bracket-lts.Need-head-at-requires (
   node-below t,
   node.Post,
 ) (bracket-at t) bracket.Post bracket-Inv-loop bracket-μ-loop
-bracket-head-at-requires t c κs = loop-fits (c .before .before .before .before .before .before .pre .1) (c .before .before .loop .inv) (c .if1 .taken)
+bracket-head-at-requires t c κs = loop-fits (c .before .before .before .before .before .before .before .pre .1) (c .before .before .loop .inv) (c .if1 .taken)
 
 bracket-shared-slice-read-if2 : (t : ℕ) → bracket-lts.Need-shared-slice-read-if2 (
   head-at-reads.Asked,
@@ -992,7 +993,7 @@ bracket-bracket-list-token-requires : (t : ℕ) → bracket-lts.Need-bracket-lis
   node-below t,
   node.Post,
 ) (bracket-at t) bracket.Post bracket-Inv-loop bracket-μ-loop
-bracket-bracket-list-token-requires t c κs = token-ready (c .before .before .before .before .before .before .before .before .before .before .pre .1) (c .before .before .before .before .before .before .loop .inv) _ (c .before .if2 .taken) (c .before .before .before .head-at .ensures)
+bracket-bracket-list-token-requires t c κs = token-ready (c .before .before .before .before .before .before .before .before .before .before .before .pre .1) (c .before .before .before .before .before .before .loop .inv) _ (c .before .if2 .taken) (c .before .before .before .head-at .ensures)
 
 bracket-add-i-2 : (t : ℕ) → bracket-lts.Need-add-i-2 (
   head-at-reads.Asked,
@@ -1002,7 +1003,7 @@ bracket-add-i-2 : (t : ℕ) → bracket-lts.Need-add-i-2 (
   node-below t,
   node.Post,
 ) (bracket-at t) bracket.Post bracket-Inv-loop bracket-μ-loop
-bracket-add-i-2 t c = omega (arith, loop-fits (c .before .before .before .before .before .before .before .before .before .before .before .before .before .pre .1) (c .before .before .before .before .before .before .before .before .before .loop .inv) (c .before .before .before .before .before .before .before .if1 .taken), c .before .before .before .before .before .before .before .before .before .before .before .before .before .pre .1 .sizes .tape-fits)
+bracket-add-i-2 t c = omega (arith, loop-fits (c .before .before .before .before .before .before .before .before .before .before .before .before .before .before .pre .1) (c .before .before .before .before .before .before .before .before .before .loop .inv) (c .before .before .before .before .before .before .before .if1 .taken), c .before .before .before .before .before .before .before .before .before .before .before .before .before .before .pre .1 .sizes .tape-fits)
 
 bracket-loop-less : (t : ℕ) → bracket-lts.Need-loop-less (
   head-at-reads.Asked,
@@ -1023,7 +1024,7 @@ bracket-loop-again : (t : ℕ) → bracket-lts.Need-loop-again (
   node.Post,
 ) (bracket-at t) bracket.Post bracket-Inv-loop bracket-μ-loop
 unfolding formatBracketList
-bracket-loop-again t c = token-next (c .before .before .before .before .before .before .before .before .before .before .before .before .before .pre .1) (c .before .before .before .before .before .before .before .before .before .loop .inv) (c .before .before .before .before .if2 .taken) (c .before .before .before .before .before .before .head-at .ensures) (c .before .before .bracket-list-token .ensures) refl (c .before .before .bracket-list-token .kept .1 .1 .0)
+bracket-loop-again t c = token-next (c .before .before .before .before .before .before .before .before .before .before .before .before .before .before .pre .1) (c .before .before .before .before .before .before .before .before .before .loop .inv) (c .before .before .before .before .if2 .taken) (c .before .before .before .before .before .before .head-at .ensures) (c .before .before .bracket-list-token .ensures) refl (c .before .before .bracket-list-token .kept .1 .1 .0)
 
 bracket-sub-node : (t : ℕ) → bracket-lts.Need-sub-node (
   head-at-reads.Asked,
@@ -1033,7 +1034,7 @@ bracket-sub-node : (t : ℕ) → bracket-lts.Need-sub-node (
   node-below t,
   node.Post,
 ) (bracket-at t) bracket.Post bracket-Inv-loop bracket-μ-loop
-bracket-sub-node t c = left-pos (c .before .before .before .before .before .before .before .before .before .before .pre .1) (c .before .before .before .before .before .before .loop .inv) (c .before .before .before .before .if1 .taken) (c .before .if2 .left)
+bracket-sub-node t c = left-pos (c .before .before .before .before .before .before .before .before .before .before .before .pre .1) (c .before .before .before .before .before .before .loop .inv) (c .before .before .before .before .if1 .taken) (c .before .if2 .left)
 
 bracket-node-requires : (t : ℕ) → bracket-lts.Need-node-requires (
   head-at-reads.Asked,
@@ -1043,7 +1044,7 @@ bracket-node-requires : (t : ℕ) → bracket-lts.Need-node-requires (
   node-below t,
   node.Post,
 ) (bracket-at t) bracket.Post bracket-Inv-loop bracket-μ-loop
-bracket-node-requires t c κs = (omega (arith, c .before .before .before .before .before .before .before .before .before .before .pre .0, left-pos (c .before .before .before .before .before .before .before .before .before .before .pre .1) (c .before .before .before .before .before .before .loop .inv) (c .before .before .before .before .if1 .taken) (c .before .if2 .left)), node-ready (c .before .before .before .before .before .before .before .before .before .before .pre .1) (c .before .before .before .before .before .before .loop .inv) (c .before .before .before .before .if1 .taken) (c .before .if2 .left) (c .before .before .before .head-at .ensures) (no-spacing {xs = c .before .before .before .before .before .before .loop .out}) (omega arith))
+bracket-node-requires t c κs = (omega (arith, c .before .before .before .before .before .before .before .before .before .before .before .pre .0, left-pos (c .before .before .before .before .before .before .before .before .before .before .before .pre .1) (c .before .before .before .before .before .before .loop .inv) (c .before .before .before .before .if1 .taken) (c .before .if2 .left)), node-ready (c .before .before .before .before .before .before .before .before .before .before .before .pre .1) (c .before .before .before .before .before .before .loop .inv) (c .before .before .before .before .if1 .taken) (c .before .if2 .left) (c .before .before .before .head-at .ensures) (no-spacing {xs = c .before .before .before .before .before .before .loop .out}) (omega arith))
 
 bracket-loop-less-2 : (t : ℕ) → bracket-lts.Need-loop-less-2 (
   head-at-reads.Asked,
@@ -1064,7 +1065,7 @@ bracket-loop-again-2 : (t : ℕ) → bracket-lts.Need-loop-again-2 (
   node.Post,
 ) (bracket-at t) bracket.Post bracket-Inv-loop bracket-μ-loop
 unfolding formatBracketList
-bracket-loop-again-2 t c = node-next (c .before .before .before .before .before .before .before .before .before .before .before .before .before .before .pre .1) (c .before .before .before .before .before .before .before .before .before .before .loop .inv) (formatBracketList .atNode (flagged false) (c .before .before .before .before .before .before .before .head-at .result .kind) 0) (c .before .before .before .before .before .before .before .before .if1 .taken) (c .before .before .before .before .before .if2 .left) (c .before .before .before .before .before .before .before .head-at .ensures) (λ k z. refl) (no-spacing {xs = c .before .before .before .before .before .before .before .before .before .before .loop .out}) (c .before .before .before .node .ensures) refl no-spacing (omega arith) (omega arith) (c .before .before .before .node .kept .1 .1 .1 .1 .0)
+bracket-loop-again-2 t c = node-next (c .before .before .before .before .before .before .before .before .before .before .before .before .before .before .before .pre .1) (c .before .before .before .before .before .before .before .before .before .before .loop .inv) (formatBracketList .atNode (flagged false) (c .before .before .before .before .before .before .before .head-at .result .kind) 0) (c .before .before .before .before .before .before .before .before .if1 .taken) (c .before .before .before .before .before .if2 .left) (c .before .before .before .before .before .before .before .head-at .ensures) (λ k z. refl) (no-spacing {xs = c .before .before .before .before .before .before .before .before .before .before .loop .out}) (c .before .before .before .node .ensures) refl no-spacing (omega arith) (omega arith) (c .before .before .before .node .kept .1 .1 .1 .1 .0)
 
 bracket-add-t22 : (t : ℕ) → bracket-lts.Need-add-t22 (
   head-at-reads.Asked,
@@ -1074,7 +1075,7 @@ bracket-add-t22 : (t : ℕ) → bracket-lts.Need-add-t22 (
   node-below t,
   node.Post,
 ) (bracket-at t) bracket.Post bracket-Inv-loop bracket-μ-loop
-bracket-add-t22 t c = omega (arith, c .before .before .loop .inv .inside, c .before .before .before .before .before .before .pre .1 .sizes .tape-fits)
+bracket-add-t22 t c = omega (arith, c .before .before .loop .inv .inside, c .before .before .before .before .before .before .before .pre .1 .sizes .tape-fits)
 
 bracket-same-length : (t : ℕ) → bracket-lts.Need-same-length (
   head-at-reads.Asked,
@@ -1095,13 +1096,13 @@ bracket-returns : (t : ℕ) → bracket-lts.Need-returns (
   node.Post,
 ) (bracket-at t) bracket.Post bracket-Inv-loop bracket-μ-loop
 unfolding formatBracketList
-bracket-returns t c = loop-last (c .before .before .before .before .before .before .pre .1) (c .before .before .loop .inv) (c .if1 .left) no-spacing (omega arith)
+bracket-returns t c = loop-last (c .before .before .before .before .before .before .before .pre .1) (c .before .before .loop .inv) (c .if1 .left) no-spacing (omega arith)
 
 abbrev call-Inv-loop : call-lts.InvT-loop
-call-Inv-loop source tape config errors out₀ left at i₀ ctx₀ out i ctx = Loop source tape config errors left at (always formatFunctionCall) formatFunctionCall ctx₀ out₀ out i ctx (flagged false)
+call-Inv-loop source tape config facts out₀ left at i₀ ctx₀ out i ctx = Loop source tape facts config left at (always formatFunctionCall) formatFunctionCall ctx₀ out₀ out i ctx (flagged false)
 
 abbrev call-μ-loop : call-lts.MeasureT-loop
-call-μ-loop source tape config errors out₀ left at i₀ ctx₀ out i ctx = length tape - i
+call-μ-loop source tape config facts out₀ left at i₀ ctx₀ out i ctx = length tape - i
 
 call-add-i : (t : ℕ) → call-lts.Need-add-i (
   head-at-reads.Asked,
@@ -1111,7 +1112,7 @@ call-add-i : (t : ℕ) → call-lts.Need-add-i (
   node-below t,
   node.Post,
 ) (call-at t) call.Post call-Inv-loop call-μ-loop
-call-add-i t c = omega (arith, c .before .before .before .pre .1 .inside, c .before .before .before .pre .1 .sizes .tape-fits)
+call-add-i t c = omega (arith, c .before .before .before .before .pre .1 .inside, c .before .before .before .before .pre .1 .sizes .tape-fits)
 
 call-loop-holds : (t : ℕ) → call-lts.Need-loop-holds (
   head-at-reads.Asked,
@@ -1122,7 +1123,7 @@ call-loop-holds : (t : ℕ) → call-lts.Need-loop-holds (
   node.Post,
 ) (call-at t) call.Post call-Inv-loop call-μ-loop
 unfolding formatFunctionCall
-call-loop-holds t c = loop-first (always formatFunctionCall) formatFunctionCall _ (c .before .before .before .pre .1) (λ all z. refl)
+call-loop-holds t c = loop-first (always formatFunctionCall) formatFunctionCall _ (c .before .before .before .before .pre .1) (λ all z. refl)
 
 call-shared-slice-read-if1 : (t : ℕ) → call-lts.Need-shared-slice-read-if1 (
   head-at-reads.Asked,
@@ -1142,7 +1143,7 @@ call-head-at-requires : (t : ℕ) → call-lts.Need-head-at-requires (
   node-below t,
   node.Post,
 ) (call-at t) call.Post call-Inv-loop call-μ-loop
-call-head-at-requires t c κs = loop-fits (c .before .before .before .before .before .before .pre .1) (c .before .before .loop .inv) (c .if1 .taken)
+call-head-at-requires t c κs = loop-fits (c .before .before .before .before .before .before .before .pre .1) (c .before .before .loop .inv) (c .if1 .taken)
 
 call-shared-slice-read-if2 : (t : ℕ) → call-lts.Need-shared-slice-read-if2 (
   head-at-reads.Asked,
@@ -1162,7 +1163,7 @@ call-function-call-token-requires : (t : ℕ) → call-lts.Need-function-call-to
   node-below t,
   node.Post,
 ) (call-at t) call.Post call-Inv-loop call-μ-loop
-call-function-call-token-requires t c κs = token-ready (c .before .before .before .before .before .before .before .before .before .before .pre .1) (c .before .before .before .before .before .before .loop .inv) _ (c .before .if2 .taken) (c .before .before .before .head-at .ensures)
+call-function-call-token-requires t c κs = token-ready (c .before .before .before .before .before .before .before .before .before .before .before .pre .1) (c .before .before .before .before .before .before .loop .inv) _ (c .before .if2 .taken) (c .before .before .before .head-at .ensures)
 
 call-add-i-2 : (t : ℕ) → call-lts.Need-add-i-2 (
   head-at-reads.Asked,
@@ -1172,7 +1173,7 @@ call-add-i-2 : (t : ℕ) → call-lts.Need-add-i-2 (
   node-below t,
   node.Post,
 ) (call-at t) call.Post call-Inv-loop call-μ-loop
-call-add-i-2 t c = omega (arith, loop-fits (c .before .before .before .before .before .before .before .before .before .before .before .before .before .pre .1) (c .before .before .before .before .before .before .before .before .before .loop .inv) (c .before .before .before .before .before .before .before .if1 .taken), c .before .before .before .before .before .before .before .before .before .before .before .before .before .pre .1 .sizes .tape-fits)
+call-add-i-2 t c = omega (arith, loop-fits (c .before .before .before .before .before .before .before .before .before .before .before .before .before .before .pre .1) (c .before .before .before .before .before .before .before .before .before .loop .inv) (c .before .before .before .before .before .before .before .if1 .taken), c .before .before .before .before .before .before .before .before .before .before .before .before .before .before .pre .1 .sizes .tape-fits)
 
 call-loop-less : (t : ℕ) → call-lts.Need-loop-less (
   head-at-reads.Asked,
@@ -1193,7 +1194,7 @@ call-loop-again : (t : ℕ) → call-lts.Need-loop-again (
   node.Post,
 ) (call-at t) call.Post call-Inv-loop call-μ-loop
 unfolding formatFunctionCall
-call-loop-again t c = token-next (c .before .before .before .before .before .before .before .before .before .before .before .before .before .pre .1) (c .before .before .before .before .before .before .before .before .before .loop .inv) (c .before .before .before .before .if2 .taken) (c .before .before .before .before .before .before .head-at .ensures) (c .before .before .function-call-token .ensures) refl (c .before .before .function-call-token .kept .1 .1 .0)
+call-loop-again t c = token-next (c .before .before .before .before .before .before .before .before .before .before .before .before .before .before .pre .1) (c .before .before .before .before .before .before .before .before .before .loop .inv) (c .before .before .before .before .if2 .taken) (c .before .before .before .before .before .before .head-at .ensures) (c .before .before .function-call-token .ensures) refl (c .before .before .function-call-token .kept .1 .1 .0)
 
 call-sub-node : (t : ℕ) → call-lts.Need-sub-node (
   head-at-reads.Asked,
@@ -1203,7 +1204,7 @@ call-sub-node : (t : ℕ) → call-lts.Need-sub-node (
   node-below t,
   node.Post,
 ) (call-at t) call.Post call-Inv-loop call-μ-loop
-call-sub-node t c = left-pos (c .before .before .before .before .before .before .before .before .before .before .pre .1) (c .before .before .before .before .before .before .loop .inv) (c .before .before .before .before .if1 .taken) (c .before .if2 .left)
+call-sub-node t c = left-pos (c .before .before .before .before .before .before .before .before .before .before .before .pre .1) (c .before .before .before .before .before .before .loop .inv) (c .before .before .before .before .if1 .taken) (c .before .if2 .left)
 
 call-node-requires : (t : ℕ) → call-lts.Need-node-requires (
   head-at-reads.Asked,
@@ -1213,7 +1214,7 @@ call-node-requires : (t : ℕ) → call-lts.Need-node-requires (
   node-below t,
   node.Post,
 ) (call-at t) call.Post call-Inv-loop call-μ-loop
-call-node-requires t c κs = (omega (arith, c .before .before .before .before .before .before .before .before .before .before .pre .0, left-pos (c .before .before .before .before .before .before .before .before .before .before .pre .1) (c .before .before .before .before .before .before .loop .inv) (c .before .before .before .before .if1 .taken) (c .before .if2 .left)), node-ready (c .before .before .before .before .before .before .before .before .before .before .pre .1) (c .before .before .before .before .before .before .loop .inv) (c .before .before .before .before .if1 .taken) (c .before .if2 .left) (c .before .before .before .head-at .ensures) (no-spacing {xs = c .before .before .before .before .before .before .loop .out}) (omega arith))
+call-node-requires t c κs = (omega (arith, c .before .before .before .before .before .before .before .before .before .before .before .pre .0, left-pos (c .before .before .before .before .before .before .before .before .before .before .before .pre .1) (c .before .before .before .before .before .before .loop .inv) (c .before .before .before .before .if1 .taken) (c .before .if2 .left)), node-ready (c .before .before .before .before .before .before .before .before .before .before .before .pre .1) (c .before .before .before .before .before .before .loop .inv) (c .before .before .before .before .if1 .taken) (c .before .if2 .left) (c .before .before .before .head-at .ensures) (no-spacing {xs = c .before .before .before .before .before .before .loop .out}) (omega arith))
 
 call-loop-less-2 : (t : ℕ) → call-lts.Need-loop-less-2 (
   head-at-reads.Asked,
@@ -1234,7 +1235,7 @@ call-loop-again-2 : (t : ℕ) → call-lts.Need-loop-again-2 (
   node.Post,
 ) (call-at t) call.Post call-Inv-loop call-μ-loop
 unfolding formatFunctionCall
-call-loop-again-2 t c = node-next (c .before .before .before .before .before .before .before .before .before .before .before .before .before .before .pre .1) (c .before .before .before .before .before .before .before .before .before .before .loop .inv) (formatFunctionCall .atNode (flagged false) (c .before .before .before .before .before .before .before .head-at .result .kind) 0) (c .before .before .before .before .before .before .before .before .if1 .taken) (c .before .before .before .before .before .if2 .left) (c .before .before .before .before .before .before .before .head-at .ensures) (λ k z. refl) (no-spacing {xs = c .before .before .before .before .before .before .before .before .before .before .loop .out}) (c .before .before .before .node .ensures) refl no-spacing (omega arith) (omega arith) (c .before .before .before .node .kept .1 .1 .1 .1 .0)
+call-loop-again-2 t c = node-next (c .before .before .before .before .before .before .before .before .before .before .before .before .before .before .before .pre .1) (c .before .before .before .before .before .before .before .before .before .before .loop .inv) (formatFunctionCall .atNode (flagged false) (c .before .before .before .before .before .before .before .head-at .result .kind) 0) (c .before .before .before .before .before .before .before .before .if1 .taken) (c .before .before .before .before .before .if2 .left) (c .before .before .before .before .before .before .before .head-at .ensures) (λ k z. refl) (no-spacing {xs = c .before .before .before .before .before .before .before .before .before .before .loop .out}) (c .before .before .before .node .ensures) refl no-spacing (omega arith) (omega arith) (c .before .before .before .node .kept .1 .1 .1 .1 .0)
 
 call-add-t22 : (t : ℕ) → call-lts.Need-add-t22 (
   head-at-reads.Asked,
@@ -1244,7 +1245,7 @@ call-add-t22 : (t : ℕ) → call-lts.Need-add-t22 (
   node-below t,
   node.Post,
 ) (call-at t) call.Post call-Inv-loop call-μ-loop
-call-add-t22 t c = omega (arith, c .before .before .loop .inv .inside, c .before .before .before .before .before .before .pre .1 .sizes .tape-fits)
+call-add-t22 t c = omega (arith, c .before .before .loop .inv .inside, c .before .before .before .before .before .before .before .pre .1 .sizes .tape-fits)
 
 call-same-length : (t : ℕ) → call-lts.Need-same-length (
   head-at-reads.Asked,
@@ -1265,13 +1266,13 @@ call-returns : (t : ℕ) → call-lts.Need-returns (
   node.Post,
 ) (call-at t) call.Post call-Inv-loop call-μ-loop
 unfolding formatFunctionCall
-call-returns t c = loop-last (c .before .before .before .before .before .before .pre .1) (c .before .before .loop .inv) (c .if1 .left) no-spacing (omega arith)
+call-returns t c = loop-last (c .before .before .before .before .before .before .before .pre .1) (c .before .before .loop .inv) (c .if1 .left) no-spacing (omega arith)
 
 abbrev case-Inv-loop : case-lts.InvT-loop
-case-Inv-loop source tape config errors out₀ left at i₀ ctx₀ local out i ctx = Loop source tape config errors left at (always formatCaseExpression) formatCaseExpression ctx₀ out₀ out i ctx (flagged false)
+case-Inv-loop source tape config facts out₀ left at i₀ ctx₀ local out i ctx = Loop source tape facts config left at (always formatCaseExpression) formatCaseExpression ctx₀ out₀ out i ctx (flagged false)
 
 abbrev case-μ-loop : case-lts.MeasureT-loop
-case-μ-loop source tape config errors out₀ left at i₀ ctx₀ local out i ctx = length tape - i
+case-μ-loop source tape config facts out₀ left at i₀ ctx₀ local out i ctx = length tape - i
 
 case-add-i : (t : ℕ) → case-lts.Need-add-i (
   head-at-reads.Asked,
@@ -1283,7 +1284,7 @@ case-add-i : (t : ℕ) → case-lts.Need-add-i (
   node-below t,
   node.Post,
 ) (case-at t) case.Post case-Inv-loop case-μ-loop
-case-add-i t c = omega (arith, c .before .before .before .pre .1 .inside, c .before .before .before .pre .1 .sizes .tape-fits)
+case-add-i t c = omega (arith, c .before .before .before .before .pre .1 .inside, c .before .before .before .before .pre .1 .sizes .tape-fits)
 
 case-loop-holds : (t : ℕ) → case-lts.Need-loop-holds (
   head-at-reads.Asked,
@@ -1296,7 +1297,7 @@ case-loop-holds : (t : ℕ) → case-lts.Need-loop-holds (
   node.Post,
 ) (case-at t) case.Post case-Inv-loop case-μ-loop
 unfolding formatCaseExpression
-case-loop-holds t c = loop-first (always formatCaseExpression) formatCaseExpression _ (c .before .before .before .pre .1) (λ all z. refl)
+case-loop-holds t c = loop-first (always formatCaseExpression) formatCaseExpression _ (c .before .before .before .before .pre .1) (λ all z. refl)
 
 case-shared-slice-read-if1 : (t : ℕ) → case-lts.Need-shared-slice-read-if1 (
   head-at-reads.Asked,
@@ -1320,7 +1321,7 @@ case-head-at-requires : (t : ℕ) → case-lts.Need-head-at-requires (
   node-below t,
   node.Post,
 ) (case-at t) case.Post case-Inv-loop case-μ-loop
-case-head-at-requires t c κs = loop-fits (c .before .before .before .before .before .before .pre .1) (c .before .before .loop .inv) (c .if1 .taken)
+case-head-at-requires t c κs = loop-fits (c .before .before .before .before .before .before .before .pre .1) (c .before .before .loop .inv) (c .if1 .taken)
 
 case-shared-slice-read-if2 : (t : ℕ) → case-lts.Need-shared-slice-read-if2 (
   head-at-reads.Asked,
@@ -1344,7 +1345,7 @@ case-case-expression-token-requires : (t : ℕ) → case-lts.Need-case-expressio
   node-below t,
   node.Post,
 ) (case-at t) case.Post case-Inv-loop case-μ-loop
-case-case-expression-token-requires t c κs = token-ready (c .before .before .before .before .before .before .before .before .before .before .pre .1) (c .before .before .before .before .before .before .loop .inv) _ (c .before .if2 .taken) (c .before .before .before .head-at .ensures)
+case-case-expression-token-requires t c κs = token-ready (c .before .before .before .before .before .before .before .before .before .before .before .pre .1) (c .before .before .before .before .before .before .loop .inv) _ (c .before .if2 .taken) (c .before .before .before .head-at .ensures)
 
 case-add-i-2 : (t : ℕ) → case-lts.Need-add-i-2 (
   head-at-reads.Asked,
@@ -1356,7 +1357,7 @@ case-add-i-2 : (t : ℕ) → case-lts.Need-add-i-2 (
   node-below t,
   node.Post,
 ) (case-at t) case.Post case-Inv-loop case-μ-loop
-case-add-i-2 t c = omega (arith, loop-fits (c .before .before .before .before .before .before .before .before .before .before .before .before .before .pre .1) (c .before .before .before .before .before .before .before .before .before .loop .inv) (c .before .before .before .before .before .before .before .if1 .taken), c .before .before .before .before .before .before .before .before .before .before .before .before .before .pre .1 .sizes .tape-fits)
+case-add-i-2 t c = omega (arith, loop-fits (c .before .before .before .before .before .before .before .before .before .before .before .before .before .before .pre .1) (c .before .before .before .before .before .before .before .before .before .loop .inv) (c .before .before .before .before .before .before .before .if1 .taken), c .before .before .before .before .before .before .before .before .before .before .before .before .before .before .pre .1 .sizes .tape-fits)
 
 case-loop-less : (t : ℕ) → case-lts.Need-loop-less (
   head-at-reads.Asked,
@@ -1381,7 +1382,7 @@ case-loop-again : (t : ℕ) → case-lts.Need-loop-again (
   node.Post,
 ) (case-at t) case.Post case-Inv-loop case-μ-loop
 unfolding formatCaseExpression
-case-loop-again t c = token-next (c .before .before .before .before .before .before .before .before .before .before .before .before .before .pre .1) (c .before .before .before .before .before .before .before .before .before .loop .inv) (c .before .before .before .before .if2 .taken) (c .before .before .before .before .before .before .head-at .ensures) (c .before .before .case-expression-token .ensures) refl (c .before .before .case-expression-token .kept .1 .1 .0)
+case-loop-again t c = token-next (c .before .before .before .before .before .before .before .before .before .before .before .before .before .before .pre .1) (c .before .before .before .before .before .before .before .before .before .loop .inv) (c .before .before .before .before .if2 .taken) (c .before .before .before .before .before .before .head-at .ensures) (c .before .before .case-expression-token .ensures) refl (c .before .before .case-expression-token .kept .1 .1 .0)
 
 case-case-expression-before-requires : (t : ℕ) → case-lts.Need-case-expression-before-requires (
   head-at-reads.Asked,
@@ -1393,7 +1394,7 @@ case-case-expression-before-requires : (t : ℕ) → case-lts.Need-case-expressi
   node-below t,
   node.Post,
 ) (case-at t) case.Post case-Inv-loop case-μ-loop
-case-case-expression-before-requires t c κs = let r = side-ready (c .before .before .before .before .before .before .before .before .before .before .pre .1) (c .before .before .before .before .before .before .loop .inv) in omega arith
+case-case-expression-before-requires t c κs = let r = side-ready (c .before .before .before .before .before .before .before .before .before .before .before .pre .1) (c .before .before .before .before .before .before .loop .inv) in omega arith
 
 case-sub-node : (t : ℕ) → case-lts.Need-sub-node (
   head-at-reads.Asked,
@@ -1405,7 +1406,7 @@ case-sub-node : (t : ℕ) → case-lts.Need-sub-node (
   node-below t,
   node.Post,
 ) (case-at t) case.Post case-Inv-loop case-μ-loop
-case-sub-node t c = left-pos (c .before .before .before .before .before .before .before .before .before .before .before .before .before .before .pre .1) (c .before .before .before .before .before .before .before .before .before .before .loop .inv) (c .before .before .before .before .before .before .before .before .if1 .taken) (c .before .before .before .before .before .if2 .left)
+case-sub-node t c = left-pos (c .before .before .before .before .before .before .before .before .before .before .before .before .before .before .before .pre .1) (c .before .before .before .before .before .before .before .before .before .before .loop .inv) (c .before .before .before .before .before .before .before .before .if1 .taken) (c .before .before .before .before .before .if2 .left)
 
 case-node-requires : (t : ℕ) → case-lts.Need-node-requires (
   head-at-reads.Asked,
@@ -1417,7 +1418,7 @@ case-node-requires : (t : ℕ) → case-lts.Need-node-requires (
   node-below t,
   node.Post,
 ) (case-at t) case.Post case-Inv-loop case-μ-loop
-case-node-requires t c κs = (omega (arith, c .before .before .before .before .before .before .before .before .before .before .before .before .before .before .pre .0, left-pos (c .before .before .before .before .before .before .before .before .before .before .before .before .before .before .pre .1) (c .before .before .before .before .before .before .before .before .before .before .loop .inv) (c .before .before .before .before .before .before .before .before .if1 .taken) (c .before .before .before .before .before .if2 .left)), node-ready (c .before .before .before .before .before .before .before .before .before .before .before .before .before .before .pre .1) (c .before .before .before .before .before .before .before .before .before .before .loop .inv) (c .before .before .before .before .before .before .before .before .if1 .taken) (c .before .before .before .before .before .if2 .left) (c .before .before .before .before .before .before .before .head-at .ensures) (c .before .before .before .case-expression-before .ensures) (omega arith))
+case-node-requires t c κs = (omega (arith, c .before .before .before .before .before .before .before .before .before .before .before .before .before .before .before .pre .0, left-pos (c .before .before .before .before .before .before .before .before .before .before .before .before .before .before .before .pre .1) (c .before .before .before .before .before .before .before .before .before .before .loop .inv) (c .before .before .before .before .before .before .before .before .if1 .taken) (c .before .before .before .before .before .if2 .left)), node-ready (c .before .before .before .before .before .before .before .before .before .before .before .before .before .before .before .pre .1) (c .before .before .before .before .before .before .before .before .before .before .loop .inv) (c .before .before .before .before .before .before .before .before .if1 .taken) (c .before .before .before .before .before .if2 .left) (c .before .before .before .before .before .before .before .head-at .ensures) (c .before .before .before .case-expression-before .ensures) (omega arith))
 
 case-loop-less-2 : (t : ℕ) → case-lts.Need-loop-less-2 (
   head-at-reads.Asked,
@@ -1442,7 +1443,7 @@ case-loop-again-2 : (t : ℕ) → case-lts.Need-loop-again-2 (
   node.Post,
 ) (case-at t) case.Post case-Inv-loop case-μ-loop
 unfolding formatCaseExpression
-case-loop-again-2 t c = node-next (c .before .before .before .before .before .before .before .before .before .before .before .before .before .before .before .before .before .before .pre .1) (c .before .before .before .before .before .before .before .before .before .before .before .before .before .before .loop .inv) (formatCaseExpression .atNode (flagged false) (c .before .before .before .before .before .before .before .before .before .before .before .head-at .result .kind) 0) (c .before .before .before .before .before .before .before .before .before .before .before .before .if1 .taken) (c .before .before .before .before .before .before .before .before .before .if2 .left) (c .before .before .before .before .before .before .before .before .before .before .before .head-at .ensures) (λ k z. refl) (c .before .before .before .before .before .before .before .case-expression-before .ensures) (c .before .before .before .node .ensures) (case-kept (flagged false) (c .before .before .before .before .before .before .before .before .before .before .before .head-at .result .kind)) (spaced 0 _ (omega arith) (sym (case-after (flagged false) (c .before .before .before .before .before .before .before .before .before .before .before .head-at .result .kind))) no-spacing) (omega arith) (omega arith) (c .before .before .before .node .kept .1 .1 .1 .1 .0 ∙ c .before .before .before .before .before .before .before .case-expression-before .kept .0)
+case-loop-again-2 t c = node-next (c .before .before .before .before .before .before .before .before .before .before .before .before .before .before .before .before .before .before .before .pre .1) (c .before .before .before .before .before .before .before .before .before .before .before .before .before .before .loop .inv) (formatCaseExpression .atNode (flagged false) (c .before .before .before .before .before .before .before .before .before .before .before .head-at .result .kind) 0) (c .before .before .before .before .before .before .before .before .before .before .before .before .if1 .taken) (c .before .before .before .before .before .before .before .before .before .if2 .left) (c .before .before .before .before .before .before .before .before .before .before .before .head-at .ensures) (λ k z. refl) (c .before .before .before .before .before .before .before .case-expression-before .ensures) (c .before .before .before .node .ensures) (case-kept (flagged false) (c .before .before .before .before .before .before .before .before .before .before .before .head-at .result .kind)) (spaced 0 _ (omega arith) (sym (case-after (flagged false) (c .before .before .before .before .before .before .before .before .before .before .before .head-at .result .kind))) no-spacing) (omega arith) (omega arith) (c .before .before .before .node .kept .1 .1 .1 .1 .0 ∙ c .before .before .before .before .before .before .before .case-expression-before .kept .0)
 
 case-add-t27 : (t : ℕ) → case-lts.Need-add-t27 (
   head-at-reads.Asked,
@@ -1454,7 +1455,7 @@ case-add-t27 : (t : ℕ) → case-lts.Need-add-t27 (
   node-below t,
   node.Post,
 ) (case-at t) case.Post case-Inv-loop case-μ-loop
-case-add-t27 t c = omega (arith, c .before .before .loop .inv .inside, c .before .before .before .before .before .before .pre .1 .sizes .tape-fits)
+case-add-t27 t c = omega (arith, c .before .before .loop .inv .inside, c .before .before .before .before .before .before .before .pre .1 .sizes .tape-fits)
 
 case-same-length : (t : ℕ) → case-lts.Need-same-length (
   head-at-reads.Asked,
@@ -1479,13 +1480,13 @@ case-returns : (t : ℕ) → case-lts.Need-returns (
   node.Post,
 ) (case-at t) case.Post case-Inv-loop case-μ-loop
 unfolding formatCaseExpression
-case-returns t c = loop-last (c .before .before .before .before .before .before .pre .1) (c .before .before .loop .inv) (c .if1 .left) no-spacing (omega arith)
+case-returns t c = loop-last (c .before .before .before .before .before .before .before .pre .1) (c .before .before .loop .inv) (c .if1 .left) no-spacing (omega arith)
 
 abbrev comma-Inv-loop : comma-lts.InvT-loop
-comma-Inv-loop source tape config errors out₀ left at i₀ ctx₀ local₀ out i ctx local = Loop source tape config errors left at (always formatCommaList) formatCommaList ctx₀ out₀ out i ctx local
+comma-Inv-loop source tape config facts out₀ left at i₀ ctx₀ local₀ out i ctx local = Loop source tape facts config left at (always formatCommaList) formatCommaList ctx₀ out₀ out i ctx local
 
 abbrev comma-μ-loop : comma-lts.MeasureT-loop
-comma-μ-loop source tape config errors out₀ left at i₀ ctx₀ local₀ out i ctx local = length tape - i
+comma-μ-loop source tape config facts out₀ left at i₀ ctx₀ local₀ out i ctx local = length tape - i
 
 comma-add-i : (t : ℕ) → comma-lts.Need-add-i (
   head-at-reads.Asked,
@@ -1497,7 +1498,7 @@ comma-add-i : (t : ℕ) → comma-lts.Need-add-i (
   node-below t,
   node.Post,
 ) (comma-at t) comma.Post comma-Inv-loop comma-μ-loop
-comma-add-i t c = omega (arith, c .before .before .before .pre .1 .inside, c .before .before .before .pre .1 .sizes .tape-fits)
+comma-add-i t c = omega (arith, c .before .before .before .before .pre .1 .inside, c .before .before .before .before .pre .1 .sizes .tape-fits)
 
 comma-loop-holds : (t : ℕ) → comma-lts.Need-loop-holds (
   head-at-reads.Asked,
@@ -1510,7 +1511,7 @@ comma-loop-holds : (t : ℕ) → comma-lts.Need-loop-holds (
   node.Post,
 ) (comma-at t) comma.Post comma-Inv-loop comma-μ-loop
 unfolding formatCommaList
-comma-loop-holds t c = loop-first (always formatCommaList) formatCommaList _ (c .before .before .before .pre .1) (λ all z. refl)
+comma-loop-holds t c = loop-first (always formatCommaList) formatCommaList _ (c .before .before .before .before .pre .1) (λ all z. refl)
 
 comma-shared-slice-read-if1 : (t : ℕ) → comma-lts.Need-shared-slice-read-if1 (
   head-at-reads.Asked,
@@ -1534,7 +1535,7 @@ comma-head-at-requires : (t : ℕ) → comma-lts.Need-head-at-requires (
   node-below t,
   node.Post,
 ) (comma-at t) comma.Post comma-Inv-loop comma-μ-loop
-comma-head-at-requires t c κs = loop-fits (c .before .before .before .before .before .before .pre .1) (c .before .before .loop .inv) (c .if1 .taken)
+comma-head-at-requires t c κs = loop-fits (c .before .before .before .before .before .before .before .pre .1) (c .before .before .loop .inv) (c .if1 .taken)
 
 comma-shared-slice-read-if2 : (t : ℕ) → comma-lts.Need-shared-slice-read-if2 (
   head-at-reads.Asked,
@@ -1558,7 +1559,7 @@ comma-comma-list-token-requires : (t : ℕ) → comma-lts.Need-comma-list-token-
   node-below t,
   node.Post,
 ) (comma-at t) comma.Post comma-Inv-loop comma-μ-loop
-comma-comma-list-token-requires t c κs = token-ready (c .before .before .before .before .before .before .before .before .before .before .pre .1) (c .before .before .before .before .before .before .loop .inv) _ (c .before .if2 .taken) (c .before .before .before .head-at .ensures)
+comma-comma-list-token-requires t c κs = token-ready (c .before .before .before .before .before .before .before .before .before .before .before .pre .1) (c .before .before .before .before .before .before .loop .inv) _ (c .before .if2 .taken) (c .before .before .before .head-at .ensures)
 
 comma-add-i-2 : (t : ℕ) → comma-lts.Need-add-i-2 (
   head-at-reads.Asked,
@@ -1570,7 +1571,7 @@ comma-add-i-2 : (t : ℕ) → comma-lts.Need-add-i-2 (
   node-below t,
   node.Post,
 ) (comma-at t) comma.Post comma-Inv-loop comma-μ-loop
-comma-add-i-2 t c = omega (arith, loop-fits (c .before .before .before .before .before .before .before .before .before .before .before .before .before .before .before .pre .1) (c .before .before .before .before .before .before .before .before .before .before .before .loop .inv) (c .before .before .before .before .before .before .before .before .before .if1 .taken), c .before .before .before .before .before .before .before .before .before .before .before .before .before .before .before .pre .1 .sizes .tape-fits)
+comma-add-i-2 t c = omega (arith, loop-fits (c .before .before .before .before .before .before .before .before .before .before .before .before .before .before .before .before .pre .1) (c .before .before .before .before .before .before .before .before .before .before .before .loop .inv) (c .before .before .before .before .before .before .before .before .before .if1 .taken), c .before .before .before .before .before .before .before .before .before .before .before .before .before .before .before .before .pre .1 .sizes .tape-fits)
 
 comma-loop-less : (t : ℕ) → comma-lts.Need-loop-less (
   head-at-reads.Asked,
@@ -1595,7 +1596,7 @@ comma-loop-again : (t : ℕ) → comma-lts.Need-loop-again (
   node.Post,
 ) (comma-at t) comma.Post comma-Inv-loop comma-μ-loop
 unfolding formatCommaList
-comma-loop-again t c = token-next (c .before .before .before .before .before .before .before .before .before .before .before .before .before .before .before .pre .1) (c .before .before .before .before .before .before .before .before .before .before .before .loop .inv) (c .before .before .before .before .before .before .if2 .taken) (c .before .before .before .before .before .before .before .before .head-at .ensures) (c .before .before .before .before .comma-list-token .ensures .acted) (c .before .before .before .before .comma-list-token .ensures .local) (c .before .before .before .before .comma-list-token .kept .1 .1 .0)
+comma-loop-again t c = token-next (c .before .before .before .before .before .before .before .before .before .before .before .before .before .before .before .before .pre .1) (c .before .before .before .before .before .before .before .before .before .before .before .loop .inv) (c .before .before .before .before .before .before .if2 .taken) (c .before .before .before .before .before .before .before .before .head-at .ensures) (c .before .before .before .before .comma-list-token .ensures .acted) (c .before .before .before .before .comma-list-token .ensures .local) (c .before .before .before .before .comma-list-token .kept .1 .1 .0)
 
 comma-space-if-requires : (t : ℕ) → comma-lts.Need-space-if-requires (
   head-at-reads.Asked,
@@ -1619,7 +1620,7 @@ comma-sub-node : (t : ℕ) → comma-lts.Need-sub-node (
   node-below t,
   node.Post,
 ) (comma-at t) comma.Post comma-Inv-loop comma-μ-loop
-comma-sub-node t c = left-pos (c .before .before .before .before .before .before .before .before .before .before .before .before .pre .1) (c .before .before .before .before .before .before .before .before .loop .inv) (c .before .before .before .before .before .before .if1 .taken) (c .before .before .before .if2 .left)
+comma-sub-node t c = left-pos (c .before .before .before .before .before .before .before .before .before .before .before .before .before .pre .1) (c .before .before .before .before .before .before .before .before .loop .inv) (c .before .before .before .before .before .before .if1 .taken) (c .before .before .before .if2 .left)
 
 comma-node-requires : (t : ℕ) → comma-lts.Need-node-requires (
   head-at-reads.Asked,
@@ -1631,7 +1632,7 @@ comma-node-requires : (t : ℕ) → comma-lts.Need-node-requires (
   node-below t,
   node.Post,
 ) (comma-at t) comma.Post comma-Inv-loop comma-μ-loop
-comma-node-requires t c κs = (omega (arith, c .before .before .before .before .before .before .before .before .before .before .before .before .pre .0, left-pos (c .before .before .before .before .before .before .before .before .before .before .before .before .pre .1) (c .before .before .before .before .before .before .before .before .loop .inv) (c .before .before .before .before .before .before .if1 .taken) (c .before .before .before .if2 .left)), node-ready (c .before .before .before .before .before .before .before .before .before .before .before .before .pre .1) (c .before .before .before .before .before .before .before .before .loop .inv) (c .before .before .before .before .before .before .if1 .taken) (c .before .before .before .if2 .left) (c .before .before .before .before .before .head-at .ensures) (as-spaced (c .before .space-if .ensures)) (omega arith))
+comma-node-requires t c κs = (omega (arith, c .before .before .before .before .before .before .before .before .before .before .before .before .before .pre .0, left-pos (c .before .before .before .before .before .before .before .before .before .before .before .before .before .pre .1) (c .before .before .before .before .before .before .before .before .loop .inv) (c .before .before .before .before .before .before .if1 .taken) (c .before .before .before .if2 .left)), node-ready (c .before .before .before .before .before .before .before .before .before .before .before .before .before .pre .1) (c .before .before .before .before .before .before .before .before .loop .inv) (c .before .before .before .before .before .before .if1 .taken) (c .before .before .before .if2 .left) (c .before .before .before .before .before .head-at .ensures) (as-spaced (c .before .space-if .ensures)) (omega arith))
 
 comma-loop-less-2 : (t : ℕ) → comma-lts.Need-loop-less-2 (
   head-at-reads.Asked,
@@ -1656,7 +1657,7 @@ comma-loop-again-2 : (t : ℕ) → comma-lts.Need-loop-again-2 (
   node.Post,
 ) (comma-at t) comma.Post comma-Inv-loop comma-μ-loop
 unfolding formatCommaList
-comma-loop-again-2 t c = node-next (c .before .before .before .before .before .before .before .before .before .before .before .before .before .before .before .before .pre .1) (c .before .before .before .before .before .before .before .before .before .before .before .before .loop .inv) (formatCommaList .atNode (c .before .before .before .before .before .before .before .before .before .before .before .before .loop .local) (c .before .before .before .before .before .before .before .before .before .head-at .result .kind) 0) (c .before .before .before .before .before .before .before .before .before .before .if1 .taken) (c .before .before .before .before .before .before .before .if2 .left) (c .before .before .before .before .before .before .before .before .before .head-at .ensures) (λ k z. refl) (as-spaced (c .before .before .before .before .before .space-if .ensures)) (c .before .before .before .node .ensures) refl no-spacing (omega arith) (omega arith) (c .before .before .before .node .kept .1 .1 .1 .1 .0)
+comma-loop-again-2 t c = node-next (c .before .before .before .before .before .before .before .before .before .before .before .before .before .before .before .before .before .pre .1) (c .before .before .before .before .before .before .before .before .before .before .before .before .loop .inv) (formatCommaList .atNode (c .before .before .before .before .before .before .before .before .before .before .before .before .loop .local) (c .before .before .before .before .before .before .before .before .before .head-at .result .kind) 0) (c .before .before .before .before .before .before .before .before .before .before .if1 .taken) (c .before .before .before .before .before .before .before .if2 .left) (c .before .before .before .before .before .before .before .before .before .head-at .ensures) (λ k z. refl) (as-spaced (c .before .before .before .before .before .space-if .ensures)) (c .before .before .before .node .ensures) refl no-spacing (omega arith) (omega arith) (c .before .before .before .node .kept .1 .1 .1 .1 .0)
 
 comma-add-t28 : (t : ℕ) → comma-lts.Need-add-t28 (
   head-at-reads.Asked,
@@ -1668,7 +1669,7 @@ comma-add-t28 : (t : ℕ) → comma-lts.Need-add-t28 (
   node-below t,
   node.Post,
 ) (comma-at t) comma.Post comma-Inv-loop comma-μ-loop
-comma-add-t28 t c = omega (arith, c .before .before .loop .inv .inside, c .before .before .before .before .before .before .pre .1 .sizes .tape-fits)
+comma-add-t28 t c = omega (arith, c .before .before .loop .inv .inside, c .before .before .before .before .before .before .before .pre .1 .sizes .tape-fits)
 
 comma-same-length : (t : ℕ) → comma-lts.Need-same-length (
   head-at-reads.Asked,
@@ -1693,13 +1694,13 @@ comma-returns : (t : ℕ) → comma-lts.Need-returns (
   node.Post,
 ) (comma-at t) comma.Post comma-Inv-loop comma-μ-loop
 unfolding formatCommaList
-comma-returns t c = loop-last (c .before .before .before .before .before .before .pre .1) (c .before .before .loop .inv) (c .if1 .left) no-spacing (omega arith)
+comma-returns t c = loop-last (c .before .before .before .before .before .before .before .pre .1) (c .before .before .loop .inv) (c .if1 .left) no-spacing (omega arith)
 
 abbrev dtype-Inv-loop : dtype-lts.InvT-loop
-dtype-Inv-loop source tape config errors out₀ left at i₀ ctx₀ out i ctx = Loop source tape config errors left at (always formatDataType) formatDataType ctx₀ out₀ out i ctx (flagged false)
+dtype-Inv-loop source tape config facts out₀ left at i₀ ctx₀ out i ctx = Loop source tape facts config left at (always formatDataType) formatDataType ctx₀ out₀ out i ctx (flagged false)
 
 abbrev dtype-μ-loop : dtype-lts.MeasureT-loop
-dtype-μ-loop source tape config errors out₀ left at i₀ ctx₀ out i ctx = length tape - i
+dtype-μ-loop source tape config facts out₀ left at i₀ ctx₀ out i ctx = length tape - i
 
 dtype-add-i : (t : ℕ) → dtype-lts.Need-add-i (
   head-at-reads.Asked,
@@ -1709,7 +1710,7 @@ dtype-add-i : (t : ℕ) → dtype-lts.Need-add-i (
   node-below t,
   node.Post,
 ) (dtype-at t) dtype.Post dtype-Inv-loop dtype-μ-loop
-dtype-add-i t c = omega (arith, c .before .before .before .pre .1 .inside, c .before .before .before .pre .1 .sizes .tape-fits)
+dtype-add-i t c = omega (arith, c .before .before .before .before .pre .1 .inside, c .before .before .before .before .pre .1 .sizes .tape-fits)
 
 dtype-loop-holds : (t : ℕ) → dtype-lts.Need-loop-holds (
   head-at-reads.Asked,
@@ -1720,7 +1721,7 @@ dtype-loop-holds : (t : ℕ) → dtype-lts.Need-loop-holds (
   node.Post,
 ) (dtype-at t) dtype.Post dtype-Inv-loop dtype-μ-loop
 unfolding formatDataType
-dtype-loop-holds t c = loop-first (always formatDataType) formatDataType _ (c .before .before .before .pre .1) (λ all z. refl)
+dtype-loop-holds t c = loop-first (always formatDataType) formatDataType _ (c .before .before .before .before .pre .1) (λ all z. refl)
 
 dtype-shared-slice-read-if1 : (t : ℕ) → dtype-lts.Need-shared-slice-read-if1 (
   head-at-reads.Asked,
@@ -1740,7 +1741,7 @@ dtype-head-at-requires : (t : ℕ) → dtype-lts.Need-head-at-requires (
   node-below t,
   node.Post,
 ) (dtype-at t) dtype.Post dtype-Inv-loop dtype-μ-loop
-dtype-head-at-requires t c κs = loop-fits (c .before .before .before .before .before .before .pre .1) (c .before .before .loop .inv) (c .if1 .taken)
+dtype-head-at-requires t c κs = loop-fits (c .before .before .before .before .before .before .before .pre .1) (c .before .before .loop .inv) (c .if1 .taken)
 
 dtype-shared-slice-read-if2 : (t : ℕ) → dtype-lts.Need-shared-slice-read-if2 (
   head-at-reads.Asked,
@@ -1760,7 +1761,7 @@ dtype-data-type-token-requires : (t : ℕ) → dtype-lts.Need-data-type-token-re
   node-below t,
   node.Post,
 ) (dtype-at t) dtype.Post dtype-Inv-loop dtype-μ-loop
-dtype-data-type-token-requires t c κs = token-ready (c .before .before .before .before .before .before .before .before .before .before .pre .1) (c .before .before .before .before .before .before .loop .inv) _ (c .before .if2 .taken) (c .before .before .before .head-at .ensures)
+dtype-data-type-token-requires t c κs = token-ready (c .before .before .before .before .before .before .before .before .before .before .before .pre .1) (c .before .before .before .before .before .before .loop .inv) _ (c .before .if2 .taken) (c .before .before .before .head-at .ensures)
 
 dtype-add-i-2 : (t : ℕ) → dtype-lts.Need-add-i-2 (
   head-at-reads.Asked,
@@ -1770,7 +1771,7 @@ dtype-add-i-2 : (t : ℕ) → dtype-lts.Need-add-i-2 (
   node-below t,
   node.Post,
 ) (dtype-at t) dtype.Post dtype-Inv-loop dtype-μ-loop
-dtype-add-i-2 t c = omega (arith, loop-fits (c .before .before .before .before .before .before .before .before .before .before .before .before .before .pre .1) (c .before .before .before .before .before .before .before .before .before .loop .inv) (c .before .before .before .before .before .before .before .if1 .taken), c .before .before .before .before .before .before .before .before .before .before .before .before .before .pre .1 .sizes .tape-fits)
+dtype-add-i-2 t c = omega (arith, loop-fits (c .before .before .before .before .before .before .before .before .before .before .before .before .before .before .pre .1) (c .before .before .before .before .before .before .before .before .before .loop .inv) (c .before .before .before .before .before .before .before .if1 .taken), c .before .before .before .before .before .before .before .before .before .before .before .before .before .before .pre .1 .sizes .tape-fits)
 
 dtype-loop-less : (t : ℕ) → dtype-lts.Need-loop-less (
   head-at-reads.Asked,
@@ -1791,7 +1792,7 @@ dtype-loop-again : (t : ℕ) → dtype-lts.Need-loop-again (
   node.Post,
 ) (dtype-at t) dtype.Post dtype-Inv-loop dtype-μ-loop
 unfolding formatDataType
-dtype-loop-again t c = token-next (c .before .before .before .before .before .before .before .before .before .before .before .before .before .pre .1) (c .before .before .before .before .before .before .before .before .before .loop .inv) (c .before .before .before .before .if2 .taken) (c .before .before .before .before .before .before .head-at .ensures) (c .before .before .data-type-token .ensures) refl (c .before .before .data-type-token .kept .1 .1 .0)
+dtype-loop-again t c = token-next (c .before .before .before .before .before .before .before .before .before .before .before .before .before .before .pre .1) (c .before .before .before .before .before .before .before .before .before .loop .inv) (c .before .before .before .before .if2 .taken) (c .before .before .before .before .before .before .head-at .ensures) (c .before .before .data-type-token .ensures) refl (c .before .before .data-type-token .kept .1 .1 .0)
 
 dtype-sub-node : (t : ℕ) → dtype-lts.Need-sub-node (
   head-at-reads.Asked,
@@ -1801,7 +1802,7 @@ dtype-sub-node : (t : ℕ) → dtype-lts.Need-sub-node (
   node-below t,
   node.Post,
 ) (dtype-at t) dtype.Post dtype-Inv-loop dtype-μ-loop
-dtype-sub-node t c = left-pos (c .before .before .before .before .before .before .before .before .before .before .pre .1) (c .before .before .before .before .before .before .loop .inv) (c .before .before .before .before .if1 .taken) (c .before .if2 .left)
+dtype-sub-node t c = left-pos (c .before .before .before .before .before .before .before .before .before .before .before .pre .1) (c .before .before .before .before .before .before .loop .inv) (c .before .before .before .before .if1 .taken) (c .before .if2 .left)
 
 dtype-node-requires : (t : ℕ) → dtype-lts.Need-node-requires (
   head-at-reads.Asked,
@@ -1811,7 +1812,7 @@ dtype-node-requires : (t : ℕ) → dtype-lts.Need-node-requires (
   node-below t,
   node.Post,
 ) (dtype-at t) dtype.Post dtype-Inv-loop dtype-μ-loop
-dtype-node-requires t c κs = (omega (arith, c .before .before .before .before .before .before .before .before .before .before .pre .0, left-pos (c .before .before .before .before .before .before .before .before .before .before .pre .1) (c .before .before .before .before .before .before .loop .inv) (c .before .before .before .before .if1 .taken) (c .before .if2 .left)), node-ready (c .before .before .before .before .before .before .before .before .before .before .pre .1) (c .before .before .before .before .before .before .loop .inv) (c .before .before .before .before .if1 .taken) (c .before .if2 .left) (c .before .before .before .head-at .ensures) (no-spacing {xs = c .before .before .before .before .before .before .loop .out}) (omega arith))
+dtype-node-requires t c κs = (omega (arith, c .before .before .before .before .before .before .before .before .before .before .before .pre .0, left-pos (c .before .before .before .before .before .before .before .before .before .before .before .pre .1) (c .before .before .before .before .before .before .loop .inv) (c .before .before .before .before .if1 .taken) (c .before .if2 .left)), node-ready (c .before .before .before .before .before .before .before .before .before .before .before .pre .1) (c .before .before .before .before .before .before .loop .inv) (c .before .before .before .before .if1 .taken) (c .before .if2 .left) (c .before .before .before .head-at .ensures) (no-spacing {xs = c .before .before .before .before .before .before .loop .out}) (omega arith))
 
 dtype-loop-less-2 : (t : ℕ) → dtype-lts.Need-loop-less-2 (
   head-at-reads.Asked,
@@ -1832,7 +1833,7 @@ dtype-loop-again-2 : (t : ℕ) → dtype-lts.Need-loop-again-2 (
   node.Post,
 ) (dtype-at t) dtype.Post dtype-Inv-loop dtype-μ-loop
 unfolding formatDataType
-dtype-loop-again-2 t c = node-next (c .before .before .before .before .before .before .before .before .before .before .before .before .before .before .pre .1) (c .before .before .before .before .before .before .before .before .before .before .loop .inv) (formatDataType .atNode (flagged false) (c .before .before .before .before .before .before .before .head-at .result .kind) 0) (c .before .before .before .before .before .before .before .before .if1 .taken) (c .before .before .before .before .before .if2 .left) (c .before .before .before .before .before .before .before .head-at .ensures) (λ k z. refl) (no-spacing {xs = c .before .before .before .before .before .before .before .before .before .before .loop .out}) (c .before .before .before .node .ensures) refl no-spacing (omega arith) (omega arith) (c .before .before .before .node .kept .1 .1 .1 .1 .0)
+dtype-loop-again-2 t c = node-next (c .before .before .before .before .before .before .before .before .before .before .before .before .before .before .before .pre .1) (c .before .before .before .before .before .before .before .before .before .before .loop .inv) (formatDataType .atNode (flagged false) (c .before .before .before .before .before .before .before .head-at .result .kind) 0) (c .before .before .before .before .before .before .before .before .if1 .taken) (c .before .before .before .before .before .if2 .left) (c .before .before .before .before .before .before .before .head-at .ensures) (λ k z. refl) (no-spacing {xs = c .before .before .before .before .before .before .before .before .before .before .loop .out}) (c .before .before .before .node .ensures) refl no-spacing (omega arith) (omega arith) (c .before .before .before .node .kept .1 .1 .1 .1 .0)
 
 dtype-add-t22 : (t : ℕ) → dtype-lts.Need-add-t22 (
   head-at-reads.Asked,
@@ -1842,7 +1843,7 @@ dtype-add-t22 : (t : ℕ) → dtype-lts.Need-add-t22 (
   node-below t,
   node.Post,
 ) (dtype-at t) dtype.Post dtype-Inv-loop dtype-μ-loop
-dtype-add-t22 t c = omega (arith, c .before .before .loop .inv .inside, c .before .before .before .before .before .before .pre .1 .sizes .tape-fits)
+dtype-add-t22 t c = omega (arith, c .before .before .loop .inv .inside, c .before .before .before .before .before .before .before .pre .1 .sizes .tape-fits)
 
 dtype-same-length : (t : ℕ) → dtype-lts.Need-same-length (
   head-at-reads.Asked,
@@ -1863,13 +1864,13 @@ dtype-returns : (t : ℕ) → dtype-lts.Need-returns (
   node.Post,
 ) (dtype-at t) dtype.Post dtype-Inv-loop dtype-μ-loop
 unfolding formatDataType
-dtype-returns t c = loop-last (c .before .before .before .before .before .before .pre .1) (c .before .before .loop .inv) (c .if1 .left) no-spacing (omega arith)
+dtype-returns t c = loop-last (c .before .before .before .before .before .before .before .pre .1) (c .before .before .loop .inv) (c .if1 .left) no-spacing (omega arith)
 
 abbrev file-Inv-loop : file-lts.InvT-loop
-file-Inv-loop source tape config errors out₀ left at i₀ ctx₀ local₀ out i ctx local = Loop source tape config errors left at (always formatFile) formatFile ctx₀ out₀ out i ctx local
+file-Inv-loop source tape config facts out₀ left at i₀ ctx₀ local₀ out i ctx local = Loop source tape facts config left at (always formatFile) formatFile ctx₀ out₀ out i ctx local
 
 abbrev file-μ-loop : file-lts.MeasureT-loop
-file-μ-loop source tape config errors out₀ left at i₀ ctx₀ local₀ out i ctx local = length tape - i
+file-μ-loop source tape config facts out₀ left at i₀ ctx₀ local₀ out i ctx local = length tape - i
 
 file-add-i : (t : ℕ) → file-lts.Need-add-i (
   head-at-reads.Asked,
@@ -1881,7 +1882,7 @@ file-add-i : (t : ℕ) → file-lts.Need-add-i (
   node-below t,
   node.Post,
 ) (file-at t) file.Post file-Inv-loop file-μ-loop
-file-add-i t c = omega (arith, c .before .before .before .pre .1 .inside, c .before .before .before .pre .1 .sizes .tape-fits)
+file-add-i t c = omega (arith, c .before .before .before .before .pre .1 .inside, c .before .before .before .before .pre .1 .sizes .tape-fits)
 
 file-loop-holds : (t : ℕ) → file-lts.Need-loop-holds (
   head-at-reads.Asked,
@@ -1894,7 +1895,7 @@ file-loop-holds : (t : ℕ) → file-lts.Need-loop-holds (
   node.Post,
 ) (file-at t) file.Post file-Inv-loop file-μ-loop
 unfolding formatFile
-file-loop-holds t c = loop-first (always formatFile) formatFile _ (c .before .before .before .pre .1) (λ all z. refl)
+file-loop-holds t c = loop-first (always formatFile) formatFile _ (c .before .before .before .before .pre .1) (λ all z. refl)
 
 file-shared-slice-read-if1 : (t : ℕ) → file-lts.Need-shared-slice-read-if1 (
   head-at-reads.Asked,
@@ -1918,7 +1919,7 @@ file-head-at-requires : (t : ℕ) → file-lts.Need-head-at-requires (
   node-below t,
   node.Post,
 ) (file-at t) file.Post file-Inv-loop file-μ-loop
-file-head-at-requires t c κs = loop-fits (c .before .before .before .before .before .before .pre .1) (c .before .before .loop .inv) (c .if1 .taken)
+file-head-at-requires t c κs = loop-fits (c .before .before .before .before .before .before .before .pre .1) (c .before .before .loop .inv) (c .if1 .taken)
 
 file-shared-slice-read-if2 : (t : ℕ) → file-lts.Need-shared-slice-read-if2 (
   head-at-reads.Asked,
@@ -1942,7 +1943,7 @@ file-file-token-requires : (t : ℕ) → file-lts.Need-file-token-requires (
   node-below t,
   node.Post,
 ) (file-at t) file.Post file-Inv-loop file-μ-loop
-file-file-token-requires t c κs = token-ready (c .before .before .before .before .before .before .before .before .before .before .pre .1) (c .before .before .before .before .before .before .loop .inv) _ (c .before .if2 .taken) (c .before .before .before .head-at .ensures)
+file-file-token-requires t c κs = token-ready (c .before .before .before .before .before .before .before .before .before .before .before .pre .1) (c .before .before .before .before .before .before .loop .inv) _ (c .before .if2 .taken) (c .before .before .before .head-at .ensures)
 
 file-add-i-2 : (t : ℕ) → file-lts.Need-add-i-2 (
   head-at-reads.Asked,
@@ -1954,7 +1955,7 @@ file-add-i-2 : (t : ℕ) → file-lts.Need-add-i-2 (
   node-below t,
   node.Post,
 ) (file-at t) file.Post file-Inv-loop file-μ-loop
-file-add-i-2 t c = omega (arith, loop-fits (c .before .before .before .before .before .before .before .before .before .before .before .before .before .pre .1) (c .before .before .before .before .before .before .before .before .before .loop .inv) (c .before .before .before .before .before .before .before .if1 .taken), c .before .before .before .before .before .before .before .before .before .before .before .before .before .pre .1 .sizes .tape-fits)
+file-add-i-2 t c = omega (arith, loop-fits (c .before .before .before .before .before .before .before .before .before .before .before .before .before .before .pre .1) (c .before .before .before .before .before .before .before .before .before .loop .inv) (c .before .before .before .before .before .before .before .if1 .taken), c .before .before .before .before .before .before .before .before .before .before .before .before .before .before .pre .1 .sizes .tape-fits)
 
 file-loop-less : (t : ℕ) → file-lts.Need-loop-less (
   head-at-reads.Asked,
@@ -1979,7 +1980,7 @@ file-loop-again : (t : ℕ) → file-lts.Need-loop-again (
   node.Post,
 ) (file-at t) file.Post file-Inv-loop file-μ-loop
 unfolding formatFile
-file-loop-again t c = token-next (c .before .before .before .before .before .before .before .before .before .before .before .before .before .pre .1) (c .before .before .before .before .before .before .before .before .before .loop .inv) (c .before .before .before .before .if2 .taken) (c .before .before .before .before .before .before .head-at .ensures) (c .before .before .file-token .ensures) refl (c .before .before .file-token .kept .1 .1 .0)
+file-loop-again t c = token-next (c .before .before .before .before .before .before .before .before .before .before .before .before .before .before .pre .1) (c .before .before .before .before .before .before .before .before .before .loop .inv) (c .before .before .before .before .if2 .taken) (c .before .before .before .before .before .before .head-at .ensures) (c .before .before .file-token .ensures) refl (c .before .before .file-token .kept .1 .1 .0)
 
 file-file-before-requires : (t : ℕ) → file-lts.Need-file-before-requires (
   head-at-reads.Asked,
@@ -1991,7 +1992,7 @@ file-file-before-requires : (t : ℕ) → file-lts.Need-file-before-requires (
   node-below t,
   node.Post,
 ) (file-at t) file.Post file-Inv-loop file-μ-loop
-file-file-before-requires t c κs = let r = side-ready (c .before .before .before .before .before .before .before .before .before .before .pre .1) (c .before .before .before .before .before .before .loop .inv) in omega arith
+file-file-before-requires t c κs = let r = side-ready (c .before .before .before .before .before .before .before .before .before .before .before .pre .1) (c .before .before .before .before .before .before .loop .inv) in omega arith
 
 file-sub-node : (t : ℕ) → file-lts.Need-sub-node (
   head-at-reads.Asked,
@@ -2003,7 +2004,7 @@ file-sub-node : (t : ℕ) → file-lts.Need-sub-node (
   node-below t,
   node.Post,
 ) (file-at t) file.Post file-Inv-loop file-μ-loop
-file-sub-node t c = left-pos (c .before .before .before .before .before .before .before .before .before .before .before .before .before .before .pre .1) (c .before .before .before .before .before .before .before .before .before .before .loop .inv) (c .before .before .before .before .before .before .before .before .if1 .taken) (c .before .before .before .before .before .if2 .left)
+file-sub-node t c = left-pos (c .before .before .before .before .before .before .before .before .before .before .before .before .before .before .before .pre .1) (c .before .before .before .before .before .before .before .before .before .before .loop .inv) (c .before .before .before .before .before .before .before .before .if1 .taken) (c .before .before .before .before .before .if2 .left)
 
 file-node-requires : (t : ℕ) → file-lts.Need-node-requires (
   head-at-reads.Asked,
@@ -2015,7 +2016,7 @@ file-node-requires : (t : ℕ) → file-lts.Need-node-requires (
   node-below t,
   node.Post,
 ) (file-at t) file.Post file-Inv-loop file-μ-loop
-file-node-requires t c κs = (omega (arith, c .before .before .before .before .before .before .before .before .before .before .before .before .before .before .pre .0, left-pos (c .before .before .before .before .before .before .before .before .before .before .before .before .before .before .pre .1) (c .before .before .before .before .before .before .before .before .before .before .loop .inv) (c .before .before .before .before .before .before .before .before .if1 .taken) (c .before .before .before .before .before .if2 .left)), node-ready (c .before .before .before .before .before .before .before .before .before .before .before .before .before .before .pre .1) (c .before .before .before .before .before .before .before .before .before .before .loop .inv) (c .before .before .before .before .before .before .before .before .if1 .taken) (c .before .before .before .before .before .if2 .left) (c .before .before .before .before .before .before .before .head-at .ensures) (c .before .before .before .file-before .ensures) (omega arith))
+file-node-requires t c κs = (omega (arith, c .before .before .before .before .before .before .before .before .before .before .before .before .before .before .before .pre .0, left-pos (c .before .before .before .before .before .before .before .before .before .before .before .before .before .before .before .pre .1) (c .before .before .before .before .before .before .before .before .before .before .loop .inv) (c .before .before .before .before .before .before .before .before .if1 .taken) (c .before .before .before .before .before .if2 .left)), node-ready (c .before .before .before .before .before .before .before .before .before .before .before .before .before .before .before .pre .1) (c .before .before .before .before .before .before .before .before .before .before .loop .inv) (c .before .before .before .before .before .before .before .before .if1 .taken) (c .before .before .before .before .before .if2 .left) (c .before .before .before .before .before .before .before .head-at .ensures) (c .before .before .before .file-before .ensures) (omega arith))
 
 file-loop-less-2 : (t : ℕ) → file-lts.Need-loop-less-2 (
   head-at-reads.Asked,
@@ -2040,7 +2041,7 @@ file-loop-again-2 : (t : ℕ) → file-lts.Need-loop-again-2 (
   node.Post,
 ) (file-at t) file.Post file-Inv-loop file-μ-loop
 unfolding formatFile
-file-loop-again-2 t c = node-next (c .before .before .before .before .before .before .before .before .before .before .before .before .before .before .before .before .before .before .pre .1) (c .before .before .before .before .before .before .before .before .before .before .before .before .before .before .loop .inv) (formatFile .atNode (c .before .before .before .before .before .before .before .before .before .before .before .before .before .before .loop .local) (c .before .before .before .before .before .before .before .before .before .before .before .head-at .result .kind) 0) (c .before .before .before .before .before .before .before .before .before .before .before .before .if1 .taken) (c .before .before .before .before .before .before .before .before .before .if2 .left) (c .before .before .before .before .before .before .before .before .before .before .before .head-at .ensures) (λ k z. refl) (c .before .before .before .before .before .before .before .file-before .ensures) (c .before .before .before .node .ensures) refl no-spacing (omega arith) (omega arith) (c .before .before .before .node .kept .1 .1 .1 .1 .0 ∙ c .before .before .before .before .before .before .before .file-before .kept .0)
+file-loop-again-2 t c = node-next (c .before .before .before .before .before .before .before .before .before .before .before .before .before .before .before .before .before .before .before .pre .1) (c .before .before .before .before .before .before .before .before .before .before .before .before .before .before .loop .inv) (formatFile .atNode (c .before .before .before .before .before .before .before .before .before .before .before .before .before .before .loop .local) (c .before .before .before .before .before .before .before .before .before .before .before .head-at .result .kind) 0) (c .before .before .before .before .before .before .before .before .before .before .before .before .if1 .taken) (c .before .before .before .before .before .before .before .before .before .if2 .left) (c .before .before .before .before .before .before .before .before .before .before .before .head-at .ensures) (λ k z. refl) (c .before .before .before .before .before .before .before .file-before .ensures) (c .before .before .before .node .ensures) refl no-spacing (omega arith) (omega arith) (c .before .before .before .node .kept .1 .1 .1 .1 .0 ∙ c .before .before .before .before .before .before .before .file-before .kept .0)
 
 file-add-t28 : (t : ℕ) → file-lts.Need-add-t28 (
   head-at-reads.Asked,
@@ -2052,7 +2053,7 @@ file-add-t28 : (t : ℕ) → file-lts.Need-add-t28 (
   node-below t,
   node.Post,
 ) (file-at t) file.Post file-Inv-loop file-μ-loop
-file-add-t28 t c = omega (arith, c .before .before .loop .inv .inside, c .before .before .before .before .before .before .pre .1 .sizes .tape-fits)
+file-add-t28 t c = omega (arith, c .before .before .loop .inv .inside, c .before .before .before .before .before .before .before .pre .1 .sizes .tape-fits)
 
 file-same-length : (t : ℕ) → file-lts.Need-same-length (
   head-at-reads.Asked,
@@ -2077,13 +2078,13 @@ file-returns : (t : ℕ) → file-lts.Need-returns (
   node.Post,
 ) (file-at t) file.Post file-Inv-loop file-μ-loop
 unfolding formatFile
-file-returns t c = loop-last (c .before .before .before .before .before .before .pre .1) (c .before .before .loop .inv) (c .if1 .left) no-spacing (omega arith)
+file-returns t c = loop-last (c .before .before .before .before .before .before .before .pre .1) (c .before .before .loop .inv) (c .if1 .left) no-spacing (omega arith)
 
 abbrev inl-list-Inv-loop : inl-list-lts.InvT-loop
-inl-list-Inv-loop source tape config errors out₀ left at i₀ ctx₀ out i ctx = Loop source tape config errors left at (always formatInlineCommaList) formatInlineCommaList ctx₀ out₀ out i ctx (flagged false)
+inl-list-Inv-loop source tape config facts out₀ left at i₀ ctx₀ out i ctx = Loop source tape facts config left at (always formatInlineCommaList) formatInlineCommaList ctx₀ out₀ out i ctx (flagged false)
 
 abbrev inl-list-μ-loop : inl-list-lts.MeasureT-loop
-inl-list-μ-loop source tape config errors out₀ left at i₀ ctx₀ out i ctx = length tape - i
+inl-list-μ-loop source tape config facts out₀ left at i₀ ctx₀ out i ctx = length tape - i
 
 inl-list-add-i : (t : ℕ) → inl-list-lts.Need-add-i (
   head-at-reads.Asked,
@@ -2093,7 +2094,7 @@ inl-list-add-i : (t : ℕ) → inl-list-lts.Need-add-i (
   node-below t,
   node.Post,
 ) (inl-list-at t) inl-list.Post inl-list-Inv-loop inl-list-μ-loop
-inl-list-add-i t c = omega (arith, c .before .before .before .pre .1 .inside, c .before .before .before .pre .1 .sizes .tape-fits)
+inl-list-add-i t c = omega (arith, c .before .before .before .before .pre .1 .inside, c .before .before .before .before .pre .1 .sizes .tape-fits)
 
 inl-list-loop-holds : (t : ℕ) → inl-list-lts.Need-loop-holds (
   head-at-reads.Asked,
@@ -2104,7 +2105,7 @@ inl-list-loop-holds : (t : ℕ) → inl-list-lts.Need-loop-holds (
   node.Post,
 ) (inl-list-at t) inl-list.Post inl-list-Inv-loop inl-list-μ-loop
 unfolding formatInlineCommaList
-inl-list-loop-holds t c = loop-first (always formatInlineCommaList) formatInlineCommaList _ (c .before .before .before .pre .1) (λ all z. refl)
+inl-list-loop-holds t c = loop-first (always formatInlineCommaList) formatInlineCommaList _ (c .before .before .before .before .pre .1) (λ all z. refl)
 
 inl-list-shared-slice-read-if1 : (t : ℕ) → inl-list-lts.Need-shared-slice-read-if1 (
   head-at-reads.Asked,
@@ -2124,7 +2125,7 @@ inl-list-head-at-requires : (t : ℕ) → inl-list-lts.Need-head-at-requires (
   node-below t,
   node.Post,
 ) (inl-list-at t) inl-list.Post inl-list-Inv-loop inl-list-μ-loop
-inl-list-head-at-requires t c κs = loop-fits (c .before .before .before .before .before .before .pre .1) (c .before .before .loop .inv) (c .if1 .taken)
+inl-list-head-at-requires t c κs = loop-fits (c .before .before .before .before .before .before .before .pre .1) (c .before .before .loop .inv) (c .if1 .taken)
 
 inl-list-shared-slice-read-if2 : (t : ℕ) → inl-list-lts.Need-shared-slice-read-if2 (
   head-at-reads.Asked,
@@ -2145,7 +2146,7 @@ inl-list-inline-comma-list-token-requires :
       node-below t,
       node.Post,
     ) (inl-list-at t) inl-list.Post inl-list-Inv-loop inl-list-μ-loop
-inl-list-inline-comma-list-token-requires t c κs = token-ready (c .before .before .before .before .before .before .before .before .before .before .pre .1) (c .before .before .before .before .before .before .loop .inv) _ (c .before .if2 .taken) (c .before .before .before .head-at .ensures)
+inl-list-inline-comma-list-token-requires t c κs = token-ready (c .before .before .before .before .before .before .before .before .before .before .before .pre .1) (c .before .before .before .before .before .before .loop .inv) _ (c .before .if2 .taken) (c .before .before .before .head-at .ensures)
 
 inl-list-add-i-2 : (t : ℕ) → inl-list-lts.Need-add-i-2 (
   head-at-reads.Asked,
@@ -2155,7 +2156,7 @@ inl-list-add-i-2 : (t : ℕ) → inl-list-lts.Need-add-i-2 (
   node-below t,
   node.Post,
 ) (inl-list-at t) inl-list.Post inl-list-Inv-loop inl-list-μ-loop
-inl-list-add-i-2 t c = omega (arith, loop-fits (c .before .before .before .before .before .before .before .before .before .before .before .before .before .pre .1) (c .before .before .before .before .before .before .before .before .before .loop .inv) (c .before .before .before .before .before .before .before .if1 .taken), c .before .before .before .before .before .before .before .before .before .before .before .before .before .pre .1 .sizes .tape-fits)
+inl-list-add-i-2 t c = omega (arith, loop-fits (c .before .before .before .before .before .before .before .before .before .before .before .before .before .before .pre .1) (c .before .before .before .before .before .before .before .before .before .loop .inv) (c .before .before .before .before .before .before .before .if1 .taken), c .before .before .before .before .before .before .before .before .before .before .before .before .before .before .pre .1 .sizes .tape-fits)
 
 inl-list-loop-less : (t : ℕ) → inl-list-lts.Need-loop-less (
   head-at-reads.Asked,
@@ -2176,7 +2177,7 @@ inl-list-loop-again : (t : ℕ) → inl-list-lts.Need-loop-again (
   node.Post,
 ) (inl-list-at t) inl-list.Post inl-list-Inv-loop inl-list-μ-loop
 unfolding formatInlineCommaList
-inl-list-loop-again t c = token-next (c .before .before .before .before .before .before .before .before .before .before .before .before .before .pre .1) (c .before .before .before .before .before .before .before .before .before .loop .inv) (c .before .before .before .before .if2 .taken) (c .before .before .before .before .before .before .head-at .ensures) (c .before .before .inline-comma-list-token .ensures) refl (c .before .before .inline-comma-list-token .kept .1 .1 .0)
+inl-list-loop-again t c = token-next (c .before .before .before .before .before .before .before .before .before .before .before .before .before .before .pre .1) (c .before .before .before .before .before .before .before .before .before .loop .inv) (c .before .before .before .before .if2 .taken) (c .before .before .before .before .before .before .head-at .ensures) (c .before .before .inline-comma-list-token .ensures) refl (c .before .before .inline-comma-list-token .kept .1 .1 .0)
 
 inl-list-sub-node : (t : ℕ) → inl-list-lts.Need-sub-node (
   head-at-reads.Asked,
@@ -2186,7 +2187,7 @@ inl-list-sub-node : (t : ℕ) → inl-list-lts.Need-sub-node (
   node-below t,
   node.Post,
 ) (inl-list-at t) inl-list.Post inl-list-Inv-loop inl-list-μ-loop
-inl-list-sub-node t c = left-pos (c .before .before .before .before .before .before .before .before .before .before .pre .1) (c .before .before .before .before .before .before .loop .inv) (c .before .before .before .before .if1 .taken) (c .before .if2 .left)
+inl-list-sub-node t c = left-pos (c .before .before .before .before .before .before .before .before .before .before .before .pre .1) (c .before .before .before .before .before .before .loop .inv) (c .before .before .before .before .if1 .taken) (c .before .if2 .left)
 
 inl-list-node-requires : (t : ℕ) → inl-list-lts.Need-node-requires (
   head-at-reads.Asked,
@@ -2196,7 +2197,7 @@ inl-list-node-requires : (t : ℕ) → inl-list-lts.Need-node-requires (
   node-below t,
   node.Post,
 ) (inl-list-at t) inl-list.Post inl-list-Inv-loop inl-list-μ-loop
-inl-list-node-requires t c κs = (omega (arith, c .before .before .before .before .before .before .before .before .before .before .pre .0, left-pos (c .before .before .before .before .before .before .before .before .before .before .pre .1) (c .before .before .before .before .before .before .loop .inv) (c .before .before .before .before .if1 .taken) (c .before .if2 .left)), node-ready (c .before .before .before .before .before .before .before .before .before .before .pre .1) (c .before .before .before .before .before .before .loop .inv) (c .before .before .before .before .if1 .taken) (c .before .if2 .left) (c .before .before .before .head-at .ensures) (no-spacing {xs = c .before .before .before .before .before .before .loop .out}) (omega arith))
+inl-list-node-requires t c κs = (omega (arith, c .before .before .before .before .before .before .before .before .before .before .before .pre .0, left-pos (c .before .before .before .before .before .before .before .before .before .before .before .pre .1) (c .before .before .before .before .before .before .loop .inv) (c .before .before .before .before .if1 .taken) (c .before .if2 .left)), node-ready (c .before .before .before .before .before .before .before .before .before .before .before .pre .1) (c .before .before .before .before .before .before .loop .inv) (c .before .before .before .before .if1 .taken) (c .before .if2 .left) (c .before .before .before .head-at .ensures) (no-spacing {xs = c .before .before .before .before .before .before .loop .out}) (omega arith))
 
 inl-list-loop-less-2 : (t : ℕ) → inl-list-lts.Need-loop-less-2 (
   head-at-reads.Asked,
@@ -2217,7 +2218,7 @@ inl-list-loop-again-2 : (t : ℕ) → inl-list-lts.Need-loop-again-2 (
   node.Post,
 ) (inl-list-at t) inl-list.Post inl-list-Inv-loop inl-list-μ-loop
 unfolding formatInlineCommaList
-inl-list-loop-again-2 t c = node-next (c .before .before .before .before .before .before .before .before .before .before .before .before .before .before .pre .1) (c .before .before .before .before .before .before .before .before .before .before .loop .inv) (formatInlineCommaList .atNode (flagged false) (c .before .before .before .before .before .before .before .head-at .result .kind) 0) (c .before .before .before .before .before .before .before .before .if1 .taken) (c .before .before .before .before .before .if2 .left) (c .before .before .before .before .before .before .before .head-at .ensures) (λ k z. refl) (no-spacing {xs = c .before .before .before .before .before .before .before .before .before .before .loop .out}) (c .before .before .before .node .ensures) refl no-spacing (omega arith) (omega arith) (c .before .before .before .node .kept .1 .1 .1 .1 .0)
+inl-list-loop-again-2 t c = node-next (c .before .before .before .before .before .before .before .before .before .before .before .before .before .before .before .pre .1) (c .before .before .before .before .before .before .before .before .before .before .loop .inv) (formatInlineCommaList .atNode (flagged false) (c .before .before .before .before .before .before .before .head-at .result .kind) 0) (c .before .before .before .before .before .before .before .before .if1 .taken) (c .before .before .before .before .before .if2 .left) (c .before .before .before .before .before .before .before .head-at .ensures) (λ k z. refl) (no-spacing {xs = c .before .before .before .before .before .before .before .before .before .before .loop .out}) (c .before .before .before .node .ensures) refl no-spacing (omega arith) (omega arith) (c .before .before .before .node .kept .1 .1 .1 .1 .0)
 
 inl-list-add-t22 : (t : ℕ) → inl-list-lts.Need-add-t22 (
   head-at-reads.Asked,
@@ -2227,7 +2228,7 @@ inl-list-add-t22 : (t : ℕ) → inl-list-lts.Need-add-t22 (
   node-below t,
   node.Post,
 ) (inl-list-at t) inl-list.Post inl-list-Inv-loop inl-list-μ-loop
-inl-list-add-t22 t c = omega (arith, c .before .before .loop .inv .inside, c .before .before .before .before .before .before .pre .1 .sizes .tape-fits)
+inl-list-add-t22 t c = omega (arith, c .before .before .loop .inv .inside, c .before .before .before .before .before .before .before .pre .1 .sizes .tape-fits)
 
 inl-list-same-length : (t : ℕ) → inl-list-lts.Need-same-length (
   head-at-reads.Asked,
@@ -2248,13 +2249,13 @@ inl-list-returns : (t : ℕ) → inl-list-lts.Need-returns (
   node.Post,
 ) (inl-list-at t) inl-list.Post inl-list-Inv-loop inl-list-μ-loop
 unfolding formatInlineCommaList
-inl-list-returns t c = loop-last (c .before .before .before .before .before .before .pre .1) (c .before .before .loop .inv) (c .if1 .left) no-spacing (omega arith)
+inl-list-returns t c = loop-last (c .before .before .before .before .before .before .before .pre .1) (c .before .before .loop .inv) (c .if1 .left) no-spacing (omega arith)
 
 abbrev inline-Inv-loop : inline-lts.InvT-loop
-inline-Inv-loop source tape config errors out₀ left at i₀ ctx₀ local₀ out i ctx local = Loop source tape config errors left at (always formatInline) formatInline ctx₀ out₀ out i ctx local
+inline-Inv-loop source tape config facts out₀ left at i₀ ctx₀ local₀ out i ctx local = Loop source tape facts config left at (always formatInline) formatInline ctx₀ out₀ out i ctx local
 
 abbrev inline-μ-loop : inline-lts.MeasureT-loop
-inline-μ-loop source tape config errors out₀ left at i₀ ctx₀ local₀ out i ctx local = length tape - i
+inline-μ-loop source tape config facts out₀ left at i₀ ctx₀ local₀ out i ctx local = length tape - i
 
 inline-add-i : (t : ℕ) → inline-lts.Need-add-i (
   head-at-reads.Asked,
@@ -2268,7 +2269,7 @@ inline-add-i : (t : ℕ) → inline-lts.Need-add-i (
   node-below t,
   node.Post,
 ) (inline-at t) inline.Post inline-Inv-loop inline-μ-loop
-inline-add-i t c = omega (arith, c .before .before .before .pre .1 .inside, c .before .before .before .pre .1 .sizes .tape-fits)
+inline-add-i t c = omega (arith, c .before .before .before .before .pre .1 .inside, c .before .before .before .before .pre .1 .sizes .tape-fits)
 
 inline-loop-holds : (t : ℕ) → inline-lts.Need-loop-holds (
   head-at-reads.Asked,
@@ -2283,7 +2284,7 @@ inline-loop-holds : (t : ℕ) → inline-lts.Need-loop-holds (
   node.Post,
 ) (inline-at t) inline.Post inline-Inv-loop inline-μ-loop
 unfolding formatInline inlineNode
-inline-loop-holds t c = loop-first (always formatInline) formatInline _ (c .before .before .before .pre .1) (λ all z. refl)
+inline-loop-holds t c = loop-first (always formatInline) formatInline _ (c .before .before .before .before .pre .1) (λ all z. refl)
 
 inline-shared-slice-read-if1 : (t : ℕ) → inline-lts.Need-shared-slice-read-if1 (
   head-at-reads.Asked,
@@ -2311,7 +2312,7 @@ inline-head-at-requires : (t : ℕ) → inline-lts.Need-head-at-requires (
   node-below t,
   node.Post,
 ) (inline-at t) inline.Post inline-Inv-loop inline-μ-loop
-inline-head-at-requires t c κs = loop-fits (c .before .before .before .before .before .before .pre .1) (c .before .before .loop .inv) (c .if1 .taken)
+inline-head-at-requires t c κs = loop-fits (c .before .before .before .before .before .before .before .pre .1) (c .before .before .loop .inv) (c .if1 .taken)
 
 inline-shared-slice-read-if2 : (t : ℕ) → inline-lts.Need-shared-slice-read-if2 (
   head-at-reads.Asked,
@@ -2339,7 +2340,7 @@ inline-inline-token-requires : (t : ℕ) → inline-lts.Need-inline-token-requir
   node-below t,
   node.Post,
 ) (inline-at t) inline.Post inline-Inv-loop inline-μ-loop
-inline-inline-token-requires t c κs = token-ready (c .before .before .before .before .before .before .before .before .before .before .pre .1) (c .before .before .before .before .before .before .loop .inv) _ (c .before .if2 .taken) (c .before .before .before .head-at .ensures)
+inline-inline-token-requires t c κs = token-ready (c .before .before .before .before .before .before .before .before .before .before .before .pre .1) (c .before .before .before .before .before .before .loop .inv) _ (c .before .if2 .taken) (c .before .before .before .head-at .ensures)
 
 inline-add-i-2 : (t : ℕ) → inline-lts.Need-add-i-2 (
   head-at-reads.Asked,
@@ -2353,7 +2354,7 @@ inline-add-i-2 : (t : ℕ) → inline-lts.Need-add-i-2 (
   node-below t,
   node.Post,
 ) (inline-at t) inline.Post inline-Inv-loop inline-μ-loop
-inline-add-i-2 t c = omega (arith, loop-fits (c .before .before .before .before .before .before .before .before .before .before .before .before .before .before .before .pre .1) (c .before .before .before .before .before .before .before .before .before .before .before .loop .inv) (c .before .before .before .before .before .before .before .before .before .if1 .taken), c .before .before .before .before .before .before .before .before .before .before .before .before .before .before .before .pre .1 .sizes .tape-fits)
+inline-add-i-2 t c = omega (arith, loop-fits (c .before .before .before .before .before .before .before .before .before .before .before .before .before .before .before .before .pre .1) (c .before .before .before .before .before .before .before .before .before .before .before .loop .inv) (c .before .before .before .before .before .before .before .before .before .if1 .taken), c .before .before .before .before .before .before .before .before .before .before .before .before .before .before .before .before .pre .1 .sizes .tape-fits)
 
 inline-loop-less : (t : ℕ) → inline-lts.Need-loop-less (
   head-at-reads.Asked,
@@ -2382,7 +2383,7 @@ inline-loop-again : (t : ℕ) → inline-lts.Need-loop-again (
   node.Post,
 ) (inline-at t) inline.Post inline-Inv-loop inline-μ-loop
 unfolding formatInline inlineNode
-inline-loop-again t c = token-next (c .before .before .before .before .before .before .before .before .before .before .before .before .before .before .before .pre .1) (c .before .before .before .before .before .before .before .before .before .before .before .loop .inv) (c .before .before .before .before .before .before .if2 .taken) (c .before .before .before .before .before .before .before .before .head-at .ensures) (c .before .before .before .before .inline-token .ensures .acted) (c .before .before .before .before .inline-token .ensures .local) (c .before .before .before .before .inline-token .kept .1 .1 .0)
+inline-loop-again t c = token-next (c .before .before .before .before .before .before .before .before .before .before .before .before .before .before .before .before .pre .1) (c .before .before .before .before .before .before .before .before .before .before .before .loop .inv) (c .before .before .before .before .before .before .if2 .taken) (c .before .before .before .before .before .before .before .before .head-at .ensures) (c .before .before .before .before .inline-token .ensures .acted) (c .before .before .before .before .inline-token .ensures .local) (c .before .before .before .before .inline-token .kept .1 .1 .0)
 
 inline-space-after-requires : (t : ℕ) → inline-lts.Need-space-after-requires (
   head-at-reads.Asked,
@@ -2424,7 +2425,7 @@ inline-sub-node : (t : ℕ) → inline-lts.Need-sub-node (
   node-below t,
   node.Post,
 ) (inline-at t) inline.Post inline-Inv-loop inline-μ-loop
-inline-sub-node t c = left-pos (c .before .before .before .before .before .before .before .before .before .before .before .before .pre .1) (c .before .before .before .before .before .before .before .before .loop .inv) (c .before .before .before .before .before .before .if1 .taken) (c .before .before .before .if2 .left)
+inline-sub-node t c = left-pos (c .before .before .before .before .before .before .before .before .before .before .before .before .before .pre .1) (c .before .before .before .before .before .before .before .before .loop .inv) (c .before .before .before .before .before .before .if1 .taken) (c .before .before .before .if2 .left)
 
 inline-node-requires : (t : ℕ) → inline-lts.Need-node-requires (
   head-at-reads.Asked,
@@ -2438,7 +2439,7 @@ inline-node-requires : (t : ℕ) → inline-lts.Need-node-requires (
   node-below t,
   node.Post,
 ) (inline-at t) inline.Post inline-Inv-loop inline-μ-loop
-inline-node-requires t c κs = (omega (arith, c .before .before .before .before .before .before .before .before .before .before .before .before .pre .0, left-pos (c .before .before .before .before .before .before .before .before .before .before .before .before .pre .1) (c .before .before .before .before .before .before .before .before .loop .inv) (c .before .before .before .before .before .before .if1 .taken) (c .before .before .before .if2 .left)), node-ready (c .before .before .before .before .before .before .before .before .before .before .before .before .pre .1) (c .before .before .before .before .before .before .before .before .loop .inv) (c .before .before .before .before .before .before .if1 .taken) (c .before .before .before .if2 .left) (c .before .before .before .before .before .head-at .ensures) (spaced 0 (spaceIf (spaceAfter ((c .before .before .before .before .before .before .before .before .loop .local) .prev))) (omega arith) (ap spaceIf (sym (c .before .before .space-after .ensures))) (as-spaced (c .before .space-if .ensures))) (omega arith))
+inline-node-requires t c κs = (omega (arith, c .before .before .before .before .before .before .before .before .before .before .before .before .before .pre .0, left-pos (c .before .before .before .before .before .before .before .before .before .before .before .before .before .pre .1) (c .before .before .before .before .before .before .before .before .loop .inv) (c .before .before .before .before .before .before .if1 .taken) (c .before .before .before .if2 .left)), node-ready (c .before .before .before .before .before .before .before .before .before .before .before .before .before .pre .1) (c .before .before .before .before .before .before .before .before .loop .inv) (c .before .before .before .before .before .before .if1 .taken) (c .before .before .before .if2 .left) (c .before .before .before .before .before .head-at .ensures) (spaced 0 (spaceIf (spaceAfter ((c .before .before .before .before .before .before .before .before .loop .local) .prev))) (omega arith) (ap spaceIf (sym (c .before .before .space-after .ensures))) (as-spaced (c .before .space-if .ensures))) (omega arith))
 
 inline-loop-less-2 : (t : ℕ) → inline-lts.Need-loop-less-2 (
   head-at-reads.Asked,
@@ -2467,7 +2468,7 @@ inline-loop-again-2 : (t : ℕ) → inline-lts.Need-loop-again-2 (
   node.Post,
 ) (inline-at t) inline.Post inline-Inv-loop inline-μ-loop
 unfolding formatInline inlineNode
-inline-loop-again-2 t c = node-next (c .before .before .before .before .before .before .before .before .before .before .before .before .before .before .before .before .pre .1) (c .before .before .before .before .before .before .before .before .before .before .before .before .loop .inv) (formatInline .atNode (c .before .before .before .before .before .before .before .before .before .before .before .before .loop .local) (c .before .before .before .before .before .before .before .before .before .head-at .result .kind) 0) (c .before .before .before .before .before .before .before .before .before .before .if1 .taken) (c .before .before .before .before .before .before .before .if2 .left) (c .before .before .before .before .before .before .before .before .before .head-at .ensures) (λ k z. refl) (spaced 0 (spaceIf (spaceAfter ((c .before .before .before .before .before .before .before .before .before .before .before .before .loop .local) .prev))) (omega arith) (ap spaceIf (sym (c .before .before .before .before .before .before .space-after .ensures))) (as-spaced (c .before .before .before .before .before .space-if .ensures))) (c .before .before .before .node .ensures) refl no-spacing (omega arith) (omega arith) (c .before .before .before .node .kept .1 .1 .1 .1 .0)
+inline-loop-again-2 t c = node-next (c .before .before .before .before .before .before .before .before .before .before .before .before .before .before .before .before .before .pre .1) (c .before .before .before .before .before .before .before .before .before .before .before .before .loop .inv) (formatInline .atNode (c .before .before .before .before .before .before .before .before .before .before .before .before .loop .local) (c .before .before .before .before .before .before .before .before .before .head-at .result .kind) 0) (c .before .before .before .before .before .before .before .before .before .before .if1 .taken) (c .before .before .before .before .before .before .before .if2 .left) (c .before .before .before .before .before .before .before .before .before .head-at .ensures) (λ k z. refl) (spaced 0 (spaceIf (spaceAfter ((c .before .before .before .before .before .before .before .before .before .before .before .before .loop .local) .prev))) (omega arith) (ap spaceIf (sym (c .before .before .before .before .before .before .space-after .ensures))) (as-spaced (c .before .before .before .before .before .space-if .ensures))) (c .before .before .before .node .ensures) refl no-spacing (omega arith) (omega arith) (c .before .before .before .node .kept .1 .1 .1 .1 .0)
 
 inline-add-t29 : (t : ℕ) → inline-lts.Need-add-t29 (
   head-at-reads.Asked,
@@ -2481,7 +2482,7 @@ inline-add-t29 : (t : ℕ) → inline-lts.Need-add-t29 (
   node-below t,
   node.Post,
 ) (inline-at t) inline.Post inline-Inv-loop inline-μ-loop
-inline-add-t29 t c = omega (arith, c .before .before .loop .inv .inside, c .before .before .before .before .before .before .pre .1 .sizes .tape-fits)
+inline-add-t29 t c = omega (arith, c .before .before .loop .inv .inside, c .before .before .before .before .before .before .before .pre .1 .sizes .tape-fits)
 
 inline-same-length : (t : ℕ) → inline-lts.Need-same-length (
   head-at-reads.Asked,
@@ -2510,13 +2511,13 @@ inline-returns : (t : ℕ) → inline-lts.Need-returns (
   node.Post,
 ) (inline-at t) inline.Post inline-Inv-loop inline-μ-loop
 unfolding formatInline inlineNode
-inline-returns t c = loop-last (c .before .before .before .before .before .before .pre .1) (c .before .before .loop .inv) (c .if1 .left) no-spacing (omega arith)
+inline-returns t c = loop-last (c .before .before .before .before .before .before .before .pre .1) (c .before .before .loop .inv) (c .if1 .left) no-spacing (omega arith)
 
 abbrev join-Inv-loop : join-lts.InvT-loop
-join-Inv-loop source tape config errors out₀ left at i₀ ctx₀ local₀ out i ctx local = Loop source tape config errors left at (always formatJoinClause) formatJoinClause ctx₀ out₀ out i ctx local
+join-Inv-loop source tape config facts out₀ left at i₀ ctx₀ local₀ out i ctx local = Loop source tape facts config left at (always formatJoinClause) formatJoinClause ctx₀ out₀ out i ctx local
 
 abbrev join-μ-loop : join-lts.MeasureT-loop
-join-μ-loop source tape config errors out₀ left at i₀ ctx₀ local₀ out i ctx local = length tape - i
+join-μ-loop source tape config facts out₀ left at i₀ ctx₀ local₀ out i ctx local = length tape - i
 
 join-add-i : (t : ℕ) → join-lts.Need-add-i (
   head-at-reads.Asked,
@@ -2528,7 +2529,7 @@ join-add-i : (t : ℕ) → join-lts.Need-add-i (
   node-below t,
   node.Post,
 ) (join-at t) join.Post join-Inv-loop join-μ-loop
-join-add-i t c = omega (arith, c .before .before .before .pre .1 .inside, c .before .before .before .pre .1 .sizes .tape-fits)
+join-add-i t c = omega (arith, c .before .before .before .before .pre .1 .inside, c .before .before .before .before .pre .1 .sizes .tape-fits)
 
 join-loop-holds : (t : ℕ) → join-lts.Need-loop-holds (
   head-at-reads.Asked,
@@ -2541,7 +2542,7 @@ join-loop-holds : (t : ℕ) → join-lts.Need-loop-holds (
   node.Post,
 ) (join-at t) join.Post join-Inv-loop join-μ-loop
 unfolding formatJoinClause
-join-loop-holds t c = loop-first (always formatJoinClause) formatJoinClause _ (c .before .before .before .pre .1) (λ all z. refl)
+join-loop-holds t c = loop-first (always formatJoinClause) formatJoinClause _ (c .before .before .before .before .pre .1) (λ all z. refl)
 
 join-shared-slice-read-if1 : (t : ℕ) → join-lts.Need-shared-slice-read-if1 (
   head-at-reads.Asked,
@@ -2565,7 +2566,7 @@ join-head-at-requires : (t : ℕ) → join-lts.Need-head-at-requires (
   node-below t,
   node.Post,
 ) (join-at t) join.Post join-Inv-loop join-μ-loop
-join-head-at-requires t c κs = loop-fits (c .before .before .before .before .before .before .pre .1) (c .before .before .loop .inv) (c .if1 .taken)
+join-head-at-requires t c κs = loop-fits (c .before .before .before .before .before .before .before .pre .1) (c .before .before .loop .inv) (c .if1 .taken)
 
 join-shared-slice-read-if2 : (t : ℕ) → join-lts.Need-shared-slice-read-if2 (
   head-at-reads.Asked,
@@ -2589,7 +2590,7 @@ join-join-clause-token-requires : (t : ℕ) → join-lts.Need-join-clause-token-
   node-below t,
   node.Post,
 ) (join-at t) join.Post join-Inv-loop join-μ-loop
-join-join-clause-token-requires t c κs = token-ready (c .before .before .before .before .before .before .before .before .before .before .pre .1) (c .before .before .before .before .before .before .loop .inv) _ (c .before .if2 .taken) (c .before .before .before .head-at .ensures)
+join-join-clause-token-requires t c κs = token-ready (c .before .before .before .before .before .before .before .before .before .before .before .pre .1) (c .before .before .before .before .before .before .loop .inv) _ (c .before .if2 .taken) (c .before .before .before .head-at .ensures)
 
 join-add-i-2 : (t : ℕ) → join-lts.Need-add-i-2 (
   head-at-reads.Asked,
@@ -2601,7 +2602,7 @@ join-add-i-2 : (t : ℕ) → join-lts.Need-add-i-2 (
   node-below t,
   node.Post,
 ) (join-at t) join.Post join-Inv-loop join-μ-loop
-join-add-i-2 t c = omega (arith, loop-fits (c .before .before .before .before .before .before .before .before .before .before .before .before .before .before .before .pre .1) (c .before .before .before .before .before .before .before .before .before .before .before .loop .inv) (c .before .before .before .before .before .before .before .before .before .if1 .taken), c .before .before .before .before .before .before .before .before .before .before .before .before .before .before .before .pre .1 .sizes .tape-fits)
+join-add-i-2 t c = omega (arith, loop-fits (c .before .before .before .before .before .before .before .before .before .before .before .before .before .before .before .before .pre .1) (c .before .before .before .before .before .before .before .before .before .before .before .loop .inv) (c .before .before .before .before .before .before .before .before .before .if1 .taken), c .before .before .before .before .before .before .before .before .before .before .before .before .before .before .before .before .pre .1 .sizes .tape-fits)
 
 join-loop-less : (t : ℕ) → join-lts.Need-loop-less (
   head-at-reads.Asked,
@@ -2626,7 +2627,7 @@ join-loop-again : (t : ℕ) → join-lts.Need-loop-again (
   node.Post,
 ) (join-at t) join.Post join-Inv-loop join-μ-loop
 unfolding formatJoinClause
-join-loop-again t c = token-next (c .before .before .before .before .before .before .before .before .before .before .before .before .before .before .before .pre .1) (c .before .before .before .before .before .before .before .before .before .before .before .loop .inv) (c .before .before .before .before .before .before .if2 .taken) (c .before .before .before .before .before .before .before .before .head-at .ensures) (c .before .before .before .before .join-clause-token .ensures .acted) (c .before .before .before .before .join-clause-token .ensures .local) (c .before .before .before .before .join-clause-token .kept .1 .1 .0)
+join-loop-again t c = token-next (c .before .before .before .before .before .before .before .before .before .before .before .before .before .before .before .before .pre .1) (c .before .before .before .before .before .before .before .before .before .before .before .loop .inv) (c .before .before .before .before .before .before .if2 .taken) (c .before .before .before .before .before .before .before .before .head-at .ensures) (c .before .before .before .before .join-clause-token .ensures .acted) (c .before .before .before .before .join-clause-token .ensures .local) (c .before .before .before .before .join-clause-token .kept .1 .1 .0)
 
 join-space-if-requires : (t : ℕ) → join-lts.Need-space-if-requires (
   head-at-reads.Asked,
@@ -2650,7 +2651,7 @@ join-sub-node : (t : ℕ) → join-lts.Need-sub-node (
   node-below t,
   node.Post,
 ) (join-at t) join.Post join-Inv-loop join-μ-loop
-join-sub-node t c = left-pos (c .before .before .before .before .before .before .before .before .before .before .before .pre .1) (c .before .before .before .before .before .before .before .loop .inv) (c .before .before .before .before .before .if1 .taken) (c .before .before .if2 .left)
+join-sub-node t c = left-pos (c .before .before .before .before .before .before .before .before .before .before .before .before .pre .1) (c .before .before .before .before .before .before .before .loop .inv) (c .before .before .before .before .before .if1 .taken) (c .before .before .if2 .left)
 
 join-node-requires : (t : ℕ) → join-lts.Need-node-requires (
   head-at-reads.Asked,
@@ -2662,7 +2663,7 @@ join-node-requires : (t : ℕ) → join-lts.Need-node-requires (
   node-below t,
   node.Post,
 ) (join-at t) join.Post join-Inv-loop join-μ-loop
-join-node-requires t c κs = (omega (arith, c .before .before .before .before .before .before .before .before .before .before .before .pre .0, left-pos (c .before .before .before .before .before .before .before .before .before .before .before .pre .1) (c .before .before .before .before .before .before .before .loop .inv) (c .before .before .before .before .before .if1 .taken) (c .before .before .if2 .left)), node-ready (c .before .before .before .before .before .before .before .before .before .before .before .pre .1) (c .before .before .before .before .before .before .before .loop .inv) (c .before .before .before .before .before .if1 .taken) (c .before .before .if2 .left) (c .before .before .before .before .head-at .ensures) (as-spaced (c .before .space-if .ensures)) (omega arith))
+join-node-requires t c κs = (omega (arith, c .before .before .before .before .before .before .before .before .before .before .before .before .pre .0, left-pos (c .before .before .before .before .before .before .before .before .before .before .before .before .pre .1) (c .before .before .before .before .before .before .before .loop .inv) (c .before .before .before .before .before .if1 .taken) (c .before .before .if2 .left)), node-ready (c .before .before .before .before .before .before .before .before .before .before .before .before .pre .1) (c .before .before .before .before .before .before .before .loop .inv) (c .before .before .before .before .before .if1 .taken) (c .before .before .if2 .left) (c .before .before .before .before .head-at .ensures) (as-spaced (c .before .space-if .ensures)) (omega arith))
 
 join-loop-less-2 : (t : ℕ) → join-lts.Need-loop-less-2 (
   head-at-reads.Asked,
@@ -2687,7 +2688,7 @@ join-loop-again-2 : (t : ℕ) → join-lts.Need-loop-again-2 (
   node.Post,
 ) (join-at t) join.Post join-Inv-loop join-μ-loop
 unfolding formatJoinClause
-join-loop-again-2 t c = node-next (c .before .before .before .before .before .before .before .before .before .before .before .before .before .before .before .pre .1) (c .before .before .before .before .before .before .before .before .before .before .before .loop .inv) (formatJoinClause .atNode (c .before .before .before .before .before .before .before .before .before .before .before .loop .local) (c .before .before .before .before .before .before .before .before .head-at .result .kind) 0) (c .before .before .before .before .before .before .before .before .before .if1 .taken) (c .before .before .before .before .before .before .if2 .left) (c .before .before .before .before .before .before .before .before .head-at .ensures) (λ k z. refl) (as-spaced (c .before .before .before .before .before .space-if .ensures)) (c .before .before .before .node .ensures) refl no-spacing (omega arith) (omega arith) (c .before .before .before .node .kept .1 .1 .1 .1 .0)
+join-loop-again-2 t c = node-next (c .before .before .before .before .before .before .before .before .before .before .before .before .before .before .before .before .pre .1) (c .before .before .before .before .before .before .before .before .before .before .before .loop .inv) (formatJoinClause .atNode (c .before .before .before .before .before .before .before .before .before .before .before .loop .local) (c .before .before .before .before .before .before .before .before .head-at .result .kind) 0) (c .before .before .before .before .before .before .before .before .before .if1 .taken) (c .before .before .before .before .before .before .if2 .left) (c .before .before .before .before .before .before .before .before .head-at .ensures) (λ k z. refl) (as-spaced (c .before .before .before .before .before .space-if .ensures)) (c .before .before .before .node .ensures) refl no-spacing (omega arith) (omega arith) (c .before .before .before .node .kept .1 .1 .1 .1 .0)
 
 join-add-t27 : (t : ℕ) → join-lts.Need-add-t27 (
   head-at-reads.Asked,
@@ -2699,7 +2700,7 @@ join-add-t27 : (t : ℕ) → join-lts.Need-add-t27 (
   node-below t,
   node.Post,
 ) (join-at t) join.Post join-Inv-loop join-μ-loop
-join-add-t27 t c = omega (arith, c .before .before .loop .inv .inside, c .before .before .before .before .before .before .pre .1 .sizes .tape-fits)
+join-add-t27 t c = omega (arith, c .before .before .loop .inv .inside, c .before .before .before .before .before .before .before .pre .1 .sizes .tape-fits)
 
 join-same-length : (t : ℕ) → join-lts.Need-same-length (
   head-at-reads.Asked,
@@ -2724,13 +2725,13 @@ join-returns : (t : ℕ) → join-lts.Need-returns (
   node.Post,
 ) (join-at t) join.Post join-Inv-loop join-μ-loop
 unfolding formatJoinClause
-join-returns t c = loop-last (c .before .before .before .before .before .before .pre .1) (c .before .before .loop .inv) (c .if1 .left) no-spacing (omega arith)
+join-returns t c = loop-last (c .before .before .before .before .before .before .before .pre .1) (c .before .before .loop .inv) (c .if1 .left) no-spacing (omega arith)
 
 abbrev list-by-Inv-loop : list-by-lts.InvT-loop
-list-by-Inv-loop source tape config errors out₀ left at list multi i₀ ctx₀ local₀ out i ctx local = Loop source tape config errors left at (formatListClause list) (listClauseArms list multi) ctx₀ out₀ out i ctx local
+list-by-Inv-loop source tape config facts out₀ left at list multi i₀ ctx₀ local₀ out i ctx local = Loop source tape facts config left at (formatListClause list) (listClauseArms list multi) ctx₀ out₀ out i ctx local
 
 abbrev list-by-μ-loop : list-by-lts.MeasureT-loop
-list-by-μ-loop source tape config errors out₀ left at list multi i₀ ctx₀ local₀ out i ctx local = length tape - i
+list-by-μ-loop source tape config facts out₀ left at list multi i₀ ctx₀ local₀ out i ctx local = length tape - i
 
 list-by-multi-item-requires : (t : ℕ) → list-by-lts.Need-multi-item-requires (
   multi-item-reads.Asked,
@@ -2752,7 +2753,7 @@ list-by-multi-item-requires : (t : ℕ) → list-by-lts.Need-multi-item-requires
   list-clause-end-reads.Asked,
   list-clause-end-reads.Learnt,
 ) (list-by-at t) list-by.Post list-by-Inv-loop list-by-μ-loop
-list-by-multi-item-requires t c κs = opened-at (c .before .before .before .pre .1)
+list-by-multi-item-requires t c κs = fact-fits (c .before .before .before .before .pre .1 .0)
 
 list-by-add-i : (t : ℕ) → list-by-lts.Need-add-i (
   multi-item-reads.Asked,
@@ -2774,7 +2775,7 @@ list-by-add-i : (t : ℕ) → list-by-lts.Need-add-i (
   list-clause-end-reads.Asked,
   list-clause-end-reads.Learnt,
 ) (list-by-at t) list-by.Post list-by-Inv-loop list-by-μ-loop
-list-by-add-i t c = omega (arith, c .before .before .before .before .pre .1 .inside, c .before .before .before .before .pre .1 .sizes .tape-fits)
+list-by-add-i t c = omega (arith, c .before .before .before .before .before .pre .1 .0 .inside, c .before .before .before .before .before .pre .1 .0 .sizes .tape-fits)
 
 list-by-loop-holds : (t : ℕ) → list-by-lts.Need-loop-holds (
   multi-item-reads.Asked,
@@ -2797,7 +2798,7 @@ list-by-loop-holds : (t : ℕ) → list-by-lts.Need-loop-holds (
   list-clause-end-reads.Learnt,
 ) (list-by-at t) list-by.Post list-by-Inv-loop list-by-μ-loop
 unfolding listClauseArms
-list-by-loop-holds t c = loop-first (formatListClause (c .before .before .before .before .args .list)) (listClauseArms (c .before .before .before .before .args .list) (c .multi-item .result)) _ (c .before .before .before .before .pre .1) (λ all z. list-known (c .before .before .before .before .args .list) all (c .multi-item .result) (c .multi-item .ensures .all _ all z))
+list-by-loop-holds t c = loop-first (formatListClause (c .before .before .before .before .before .args .list)) (listClauseArms (c .before .before .before .before .before .args .list) (c .multi-item .result)) _ (c .before .before .before .before .before .pre .1 .0) (λ all z. list-known (c .before .before .before .before .before .args .list) all (c .multi-item .result) (c .multi-item .ensures ∙ multi-noted (c .before .before .before .before .before .pre .1 .1) (node-noted (c .before .before .before .before .before .pre .1 .0) all z)))
 
 list-by-shared-slice-read-if1 : (t : ℕ) → list-by-lts.Need-shared-slice-read-if1 (
   multi-item-reads.Asked,
@@ -2841,7 +2842,7 @@ list-by-head-at-requires : (t : ℕ) → list-by-lts.Need-head-at-requires (
   list-clause-end-reads.Asked,
   list-clause-end-reads.Learnt,
 ) (list-by-at t) list-by.Post list-by-Inv-loop list-by-μ-loop
-list-by-head-at-requires t c κs = loop-fits (c .before .before .before .before .before .before .before .pre .1) (c .before .before .loop .inv) (c .if1 .taken)
+list-by-head-at-requires t c κs = loop-fits (c .before .before .before .before .before .before .before .before .pre .1 .0) (c .before .before .loop .inv) (c .if1 .taken)
 
 list-by-shared-slice-read-if2 : (t : ℕ) → list-by-lts.Need-shared-slice-read-if2 (
   multi-item-reads.Asked,
@@ -2885,7 +2886,7 @@ list-by-list-clause-token-requires : (t : ℕ) → list-by-lts.Need-list-clause-
   list-clause-end-reads.Asked,
   list-clause-end-reads.Learnt,
 ) (list-by-at t) list-by.Post list-by-Inv-loop list-by-μ-loop
-list-by-list-clause-token-requires t c κs = token-ready (c .before .before .before .before .before .before .before .before .before .before .before .pre .1) (c .before .before .before .before .before .before .loop .inv) _ (c .before .if2 .taken) (c .before .before .before .head-at .ensures)
+list-by-list-clause-token-requires t c κs = token-ready (c .before .before .before .before .before .before .before .before .before .before .before .before .pre .1 .0) (c .before .before .before .before .before .before .loop .inv) _ (c .before .if2 .taken) (c .before .before .before .head-at .ensures)
 
 list-by-add-i-2 : (t : ℕ) → list-by-lts.Need-add-i-2 (
   multi-item-reads.Asked,
@@ -2907,7 +2908,7 @@ list-by-add-i-2 : (t : ℕ) → list-by-lts.Need-add-i-2 (
   list-clause-end-reads.Asked,
   list-clause-end-reads.Learnt,
 ) (list-by-at t) list-by.Post list-by-Inv-loop list-by-μ-loop
-list-by-add-i-2 t c = omega (arith, loop-fits (c .before .before .before .before .before .before .before .before .before .before .before .before .before .before .pre .1) (c .before .before .before .before .before .before .before .before .before .loop .inv) (c .before .before .before .before .before .before .before .if1 .taken), c .before .before .before .before .before .before .before .before .before .before .before .before .before .before .pre .1 .sizes .tape-fits)
+list-by-add-i-2 t c = omega (arith, loop-fits (c .before .before .before .before .before .before .before .before .before .before .before .before .before .before .before .pre .1 .0) (c .before .before .before .before .before .before .before .before .before .loop .inv) (c .before .before .before .before .before .before .before .if1 .taken), c .before .before .before .before .before .before .before .before .before .before .before .before .before .before .before .pre .1 .0 .sizes .tape-fits)
 
 list-by-loop-less : (t : ℕ) → list-by-lts.Need-loop-less (
   multi-item-reads.Asked,
@@ -2952,7 +2953,7 @@ list-by-loop-again : (t : ℕ) → list-by-lts.Need-loop-again (
   list-clause-end-reads.Learnt,
 ) (list-by-at t) list-by.Post list-by-Inv-loop list-by-μ-loop
 unfolding listClauseArms
-list-by-loop-again t c = token-next (c .before .before .before .before .before .before .before .before .before .before .before .before .before .before .pre .1) (c .before .before .before .before .before .before .before .before .before .loop .inv) (c .before .before .before .before .if2 .taken) (c .before .before .before .before .before .before .head-at .ensures) (c .before .before .list-clause-token .ensures) refl (c .before .before .list-clause-token .kept .1 .1 .0)
+list-by-loop-again t c = token-next (c .before .before .before .before .before .before .before .before .before .before .before .before .before .before .before .pre .1 .0) (c .before .before .before .before .before .before .before .before .before .loop .inv) (c .before .before .before .before .if2 .taken) (c .before .before .before .before .before .before .head-at .ensures) (c .before .before .list-clause-token .ensures) refl (c .before .before .list-clause-token .kept .1 .1 .0)
 
 list-by-several-items-requires : (t : ℕ) → list-by-lts.Need-several-items-requires (
   multi-item-reads.Asked,
@@ -2974,7 +2975,7 @@ list-by-several-items-requires : (t : ℕ) → list-by-lts.Need-several-items-re
   list-clause-end-reads.Asked,
   list-clause-end-reads.Learnt,
 ) (list-by-at t) list-by.Post list-by-Inv-loop list-by-μ-loop
-list-by-several-items-requires t c κs = child-at (c .before .before .before .before .before .before .before .before .before .before .pre .1) (c .before .before .before .before .before .loop .inv) (c .before .before .before .if1 .taken) (c .if2 .left)
+list-by-several-items-requires t c κs = omega (arith, loop-fits (c .before .before .before .before .before .before .before .before .before .before .before .pre .1 .0) (c .before .before .before .before .before .loop .inv) (c .before .before .before .if1 .taken), c .before .before .before .before .before .before .before .before .before .before .before .pre .1 .0 .sizes .facts-fit)
 
 list-by-list-clause-before-requires : (t : ℕ) → list-by-lts.Need-list-clause-before-requires (
   multi-item-reads.Asked,
@@ -2996,7 +2997,7 @@ list-by-list-clause-before-requires : (t : ℕ) → list-by-lts.Need-list-clause
   list-clause-end-reads.Asked,
   list-clause-end-reads.Learnt,
 ) (list-by-at t) list-by.Post list-by-Inv-loop list-by-μ-loop
-list-by-list-clause-before-requires t c κs = let r = side-ready (c .before .before .before .before .before .before .before .before .before .before .before .before .pre .1) (c .before .before .before .before .before .before .before .loop .inv) in omega arith
+list-by-list-clause-before-requires t c κs = let r = side-ready (c .before .before .before .before .before .before .before .before .before .before .before .before .before .pre .1 .0) (c .before .before .before .before .before .before .before .loop .inv) in omega arith
 
 list-by-sub-node : (t : ℕ) → list-by-lts.Need-sub-node (
   multi-item-reads.Asked,
@@ -3018,7 +3019,7 @@ list-by-sub-node : (t : ℕ) → list-by-lts.Need-sub-node (
   list-clause-end-reads.Asked,
   list-clause-end-reads.Learnt,
 ) (list-by-at t) list-by.Post list-by-Inv-loop list-by-μ-loop
-list-by-sub-node t c = left-pos (c .before .before .before .before .before .before .before .before .before .before .before .before .before .before .before .before .pre .1) (c .before .before .before .before .before .before .before .before .before .before .before .loop .inv) (c .before .before .before .before .before .before .before .before .before .if1 .taken) (c .before .before .before .before .before .before .if2 .left)
+list-by-sub-node t c = left-pos (c .before .before .before .before .before .before .before .before .before .before .before .before .before .before .before .before .before .pre .1 .0) (c .before .before .before .before .before .before .before .before .before .before .before .loop .inv) (c .before .before .before .before .before .before .before .before .before .if1 .taken) (c .before .before .before .before .before .before .if2 .left)
 
 list-by-node-requires : (t : ℕ) → list-by-lts.Need-node-requires (
   multi-item-reads.Asked,
@@ -3040,7 +3041,7 @@ list-by-node-requires : (t : ℕ) → list-by-lts.Need-node-requires (
   list-clause-end-reads.Asked,
   list-clause-end-reads.Learnt,
 ) (list-by-at t) list-by.Post list-by-Inv-loop list-by-μ-loop
-list-by-node-requires t c κs = (omega (arith, c .before .before .before .before .before .before .before .before .before .before .before .before .before .before .before .before .pre .0, left-pos (c .before .before .before .before .before .before .before .before .before .before .before .before .before .before .before .before .pre .1) (c .before .before .before .before .before .before .before .before .before .before .before .loop .inv) (c .before .before .before .before .before .before .before .before .before .if1 .taken) (c .before .before .before .before .before .before .if2 .left)), node-ready (c .before .before .before .before .before .before .before .before .before .before .before .before .before .before .before .before .pre .1) (c .before .before .before .before .before .before .before .before .before .before .before .loop .inv) (c .before .before .before .before .before .before .before .before .before .if1 .taken) (c .before .before .before .before .before .before .if2 .left) (c .before .before .before .before .before .before .before .before .head-at .ensures) (c .before .before .before .list-clause-before .ensures) (omega arith))
+list-by-node-requires t c κs = (omega (arith, c .before .before .before .before .before .before .before .before .before .before .before .before .before .before .before .before .before .pre .0, left-pos (c .before .before .before .before .before .before .before .before .before .before .before .before .before .before .before .before .before .pre .1 .0) (c .before .before .before .before .before .before .before .before .before .before .before .loop .inv) (c .before .before .before .before .before .before .before .before .before .if1 .taken) (c .before .before .before .before .before .before .if2 .left)), node-ready (c .before .before .before .before .before .before .before .before .before .before .before .before .before .before .before .before .before .pre .1 .0) (c .before .before .before .before .before .before .before .before .before .before .before .loop .inv) (c .before .before .before .before .before .before .before .before .before .if1 .taken) (c .before .before .before .before .before .before .if2 .left) (c .before .before .before .before .before .before .before .before .head-at .ensures) (c .before .before .before .list-clause-before .ensures) (omega arith))
 
 list-by-list-clause-after-requires : (t : ℕ) → list-by-lts.Need-list-clause-after-requires (
   multi-item-reads.Asked,
@@ -3129,7 +3130,7 @@ list-by-loop-again-2 : (t : ℕ) → list-by-lts.Need-loop-again-2 (
   list-clause-end-reads.Learnt,
 ) (list-by-at t) list-by.Post list-by-Inv-loop list-by-μ-loop
 unfolding listClauseArms
-list-by-loop-again-2 t c = node-next (c .before .before .before .before .before .before .before .before .before .before .before .before .before .before .before .before .before .before .before .before .before .before .pre .1) (c .before .before .before .before .before .before .before .before .before .before .before .before .before .before .before .before .before .loop .inv) (listNode (c .before .before .before .before .before .before .before .before .before .before .before .before .before .before .before .before .before .before .before .before .before .before .args .list) (c .before .before .before .before .before .before .before .before .before .before .before .before .before .before .before .before .before .before .multi-item .result) (c .before .before .before .before .before .before .before .before .before .before .before .before .before .before .before .before .before .loop .local) (c .before .before .before .before .before .before .before .before .before .before .before .before .before .before .head-at .result .kind) (c .before .before .before .before .before .before .before .before .before .before .before .several-items .result)) (c .before .before .before .before .before .before .before .before .before .before .before .before .before .before .before .if1 .taken) (c .before .before .before .before .before .before .before .before .before .before .before .before .if2 .left) (c .before .before .before .before .before .before .before .before .before .before .before .before .before .before .head-at .ensures) (λ k z. list-node (c .before .before .before .before .before .before .before .before .before .before .before .before .before .before .before .before .before .before .before .before .before .before .args .list) (c .before .before .before .before .before .before .before .before .before .before .before .before .before .before .before .before .before .before .multi-item .result) (c .before .before .before .before .before .before .before .before .before .before .before .before .before .before .before .before .before .loop .local) (c .before .before .before .before .before .before .before .before .before .before .before .before .before .before .head-at .result .kind) _ (c .before .before .before .before .before .before .before .before .before .before .before .several-items .result) (c .before .before .before .before .before .before .before .before .before .before .before .several-items .ensures .all _ k z)) (c .before .before .before .before .before .before .before .before .before .list-clause-before .ensures) (c .before .before .before .before .before .node .ensures) (c .list-clause-local .ensures) (as-spaced (c .before .list-clause-after .ensures)) (omega arith) (omega arith) (c .before .before .before .before .before .node .kept .1 .1 .1 .1 .0 ∙ c .before .before .before .before .before .before .before .before .before .list-clause-before .kept .0)
+list-by-loop-again-2 t c = node-next (c .before .before .before .before .before .before .before .before .before .before .before .before .before .before .before .before .before .before .before .before .before .before .before .pre .1 .0) (c .before .before .before .before .before .before .before .before .before .before .before .before .before .before .before .before .before .loop .inv) (listNode (c .before .before .before .before .before .before .before .before .before .before .before .before .before .before .before .before .before .before .before .before .before .before .before .args .list) (c .before .before .before .before .before .before .before .before .before .before .before .before .before .before .before .before .before .before .multi-item .result) (c .before .before .before .before .before .before .before .before .before .before .before .before .before .before .before .before .before .loop .local) (c .before .before .before .before .before .before .before .before .before .before .before .before .before .before .head-at .result .kind) (c .before .before .before .before .before .before .before .before .before .before .before .several-items .result)) (c .before .before .before .before .before .before .before .before .before .before .before .before .before .before .before .if1 .taken) (c .before .before .before .before .before .before .before .before .before .before .before .before .if2 .left) (c .before .before .before .before .before .before .before .before .before .before .before .before .before .before .head-at .ensures) (λ k z. list-node (c .before .before .before .before .before .before .before .before .before .before .before .before .before .before .before .before .before .before .before .before .before .before .before .args .list) (c .before .before .before .before .before .before .before .before .before .before .before .before .before .before .before .before .before .before .multi-item .result) (c .before .before .before .before .before .before .before .before .before .before .before .before .before .before .before .before .before .loop .local) (c .before .before .before .before .before .before .before .before .before .before .before .before .before .before .head-at .result .kind) _ (c .before .before .before .before .before .before .before .before .before .before .before .several-items .result) (c .before .before .before .before .before .before .before .before .before .before .before .several-items .ensures ∙ ap (λ (b : Bool). eqb (c .before .before .before .before .before .before .before .before .before .before .before .before .before .before .head-at .result .kind) (c .before .before .before .before .before .before .before .before .before .before .before .before .before .before .before .before .before .before .before .before .before .before .before .args .list) && b) (child-noted (c .before .before .before .before .before .before .before .before .before .before .before .before .before .before .before .before .before .before .before .before .before .before .before .pre .1 .0) (c .before .before .before .before .before .before .before .before .before .before .before .before .before .before .before .before .before .loop .inv) (c .before .before .before .before .before .before .before .before .before .before .before .before .before .before .before .if1 .taken) (c .before .before .before .before .before .before .before .before .before .before .before .before .if2 .left) k z))) (c .before .before .before .before .before .before .before .before .before .list-clause-before .ensures) (c .before .before .before .before .before .node .ensures) (c .list-clause-local .ensures) (as-spaced (c .before .list-clause-after .ensures)) (omega arith) (omega arith) (c .before .before .before .before .before .node .kept .1 .1 .1 .1 .0 ∙ c .before .before .before .before .before .before .before .before .before .list-clause-before .kept .0)
 
 list-by-list-clause-end-requires : (t : ℕ) → list-by-lts.Need-list-clause-end-requires (
   multi-item-reads.Asked,
@@ -3173,7 +3174,7 @@ list-by-add-t32 : (t : ℕ) → list-by-lts.Need-add-t32 (
   list-clause-end-reads.Asked,
   list-clause-end-reads.Learnt,
 ) (list-by-at t) list-by.Post list-by-Inv-loop list-by-μ-loop
-list-by-add-t32 t c = omega (arith, c .before .before .before .loop .inv .inside, c .before .before .before .before .before .before .before .before .pre .1 .sizes .tape-fits)
+list-by-add-t32 t c = omega (arith, c .before .before .before .loop .inv .inside, c .before .before .before .before .before .before .before .before .before .pre .1 .0 .sizes .tape-fits)
 
 list-by-same-length : (t : ℕ) → list-by-lts.Need-same-length (
   multi-item-reads.Asked,
@@ -3218,13 +3219,13 @@ list-by-returns : (t : ℕ) → list-by-lts.Need-returns (
   list-clause-end-reads.Learnt,
 ) (list-by-at t) list-by.Post list-by-Inv-loop list-by-μ-loop
 unfolding listClauseArms
-list-by-returns t c = loop-last (c .before .before .before .before .before .before .before .before .pre .1) (c .before .before .before .loop .inv) (c .before .if1 .left) (as-spaced (c .list-clause-end .ensures)) (omega arith)
+list-by-returns t c = loop-last (c .before .before .before .before .before .before .before .before .before .pre .1 .0) (c .before .before .before .loop .inv) (c .before .if1 .left) (as-spaced (c .list-clause-end .ensures)) (omega arith)
 
 abbrev no-spaces-Inv-loop : no-spaces-lts.InvT-loop
-no-spaces-Inv-loop source tape config errors out₀ left at i₀ ctx₀ out i ctx = Loop source tape config errors left at (always formatInlineNoSpaces) formatInlineNoSpaces ctx₀ out₀ out i ctx (flagged false)
+no-spaces-Inv-loop source tape config facts out₀ left at i₀ ctx₀ out i ctx = Loop source tape facts config left at (always formatInlineNoSpaces) formatInlineNoSpaces ctx₀ out₀ out i ctx (flagged false)
 
 abbrev no-spaces-μ-loop : no-spaces-lts.MeasureT-loop
-no-spaces-μ-loop source tape config errors out₀ left at i₀ ctx₀ out i ctx = length tape - i
+no-spaces-μ-loop source tape config facts out₀ left at i₀ ctx₀ out i ctx = length tape - i
 
 no-spaces-add-i : (t : ℕ) → no-spaces-lts.Need-add-i (
   head-at-reads.Asked,
@@ -3234,7 +3235,7 @@ no-spaces-add-i : (t : ℕ) → no-spaces-lts.Need-add-i (
   node-below t,
   node.Post,
 ) (no-spaces-at t) no-spaces.Post no-spaces-Inv-loop no-spaces-μ-loop
-no-spaces-add-i t c = omega (arith, c .before .before .before .pre .1 .inside, c .before .before .before .pre .1 .sizes .tape-fits)
+no-spaces-add-i t c = omega (arith, c .before .before .before .before .pre .1 .inside, c .before .before .before .before .pre .1 .sizes .tape-fits)
 
 no-spaces-loop-holds : (t : ℕ) → no-spaces-lts.Need-loop-holds (
   head-at-reads.Asked,
@@ -3245,7 +3246,7 @@ no-spaces-loop-holds : (t : ℕ) → no-spaces-lts.Need-loop-holds (
   node.Post,
 ) (no-spaces-at t) no-spaces.Post no-spaces-Inv-loop no-spaces-μ-loop
 unfolding formatInlineNoSpaces
-no-spaces-loop-holds t c = loop-first (always formatInlineNoSpaces) formatInlineNoSpaces _ (c .before .before .before .pre .1) (λ all z. refl)
+no-spaces-loop-holds t c = loop-first (always formatInlineNoSpaces) formatInlineNoSpaces _ (c .before .before .before .before .pre .1) (λ all z. refl)
 
 no-spaces-shared-slice-read-if1 : (t : ℕ) → no-spaces-lts.Need-shared-slice-read-if1 (
   head-at-reads.Asked,
@@ -3265,7 +3266,7 @@ no-spaces-head-at-requires : (t : ℕ) → no-spaces-lts.Need-head-at-requires (
   node-below t,
   node.Post,
 ) (no-spaces-at t) no-spaces.Post no-spaces-Inv-loop no-spaces-μ-loop
-no-spaces-head-at-requires t c κs = loop-fits (c .before .before .before .before .before .before .pre .1) (c .before .before .loop .inv) (c .if1 .taken)
+no-spaces-head-at-requires t c κs = loop-fits (c .before .before .before .before .before .before .before .pre .1) (c .before .before .loop .inv) (c .if1 .taken)
 
 no-spaces-shared-slice-read-if2 : (t : ℕ) → no-spaces-lts.Need-shared-slice-read-if2 (
   head-at-reads.Asked,
@@ -3285,7 +3286,7 @@ no-spaces-emit-other-requires : (t : ℕ) → no-spaces-lts.Need-emit-other-requ
   node-below t,
   node.Post,
 ) (no-spaces-at t) no-spaces.Post no-spaces-Inv-loop no-spaces-μ-loop
-no-spaces-emit-other-requires t c κs = token-ready (c .before .before .before .before .before .before .before .before .before .before .pre .1) (c .before .before .before .before .before .before .loop .inv) _ (c .before .if2 .taken) (c .before .before .before .head-at .ensures)
+no-spaces-emit-other-requires t c κs = token-ready (c .before .before .before .before .before .before .before .before .before .before .before .pre .1) (c .before .before .before .before .before .before .loop .inv) _ (c .before .if2 .taken) (c .before .before .before .head-at .ensures)
 
 no-spaces-add-i-2 : (t : ℕ) → no-spaces-lts.Need-add-i-2 (
   head-at-reads.Asked,
@@ -3295,7 +3296,7 @@ no-spaces-add-i-2 : (t : ℕ) → no-spaces-lts.Need-add-i-2 (
   node-below t,
   node.Post,
 ) (no-spaces-at t) no-spaces.Post no-spaces-Inv-loop no-spaces-μ-loop
-no-spaces-add-i-2 t c = omega (arith, loop-fits (c .before .before .before .before .before .before .before .before .before .before .before .before .before .pre .1) (c .before .before .before .before .before .before .before .before .before .loop .inv) (c .before .before .before .before .before .before .before .if1 .taken), c .before .before .before .before .before .before .before .before .before .before .before .before .before .pre .1 .sizes .tape-fits)
+no-spaces-add-i-2 t c = omega (arith, loop-fits (c .before .before .before .before .before .before .before .before .before .before .before .before .before .before .pre .1) (c .before .before .before .before .before .before .before .before .before .loop .inv) (c .before .before .before .before .before .before .before .if1 .taken), c .before .before .before .before .before .before .before .before .before .before .before .before .before .before .pre .1 .sizes .tape-fits)
 
 no-spaces-loop-less : (t : ℕ) → no-spaces-lts.Need-loop-less (
   head-at-reads.Asked,
@@ -3316,7 +3317,7 @@ no-spaces-loop-again : (t : ℕ) → no-spaces-lts.Need-loop-again (
   node.Post,
 ) (no-spaces-at t) no-spaces.Post no-spaces-Inv-loop no-spaces-μ-loop
 unfolding formatInlineNoSpaces
-no-spaces-loop-again t c = token-next (c .before .before .before .before .before .before .before .before .before .before .before .before .before .pre .1) (c .before .before .before .before .before .before .before .before .before .loop .inv) (c .before .before .before .before .if2 .taken) (c .before .before .before .before .before .before .head-at .ensures) (c .before .before .emit-other .ensures) refl (c .before .before .emit-other .kept .1 .1 .0)
+no-spaces-loop-again t c = token-next (c .before .before .before .before .before .before .before .before .before .before .before .before .before .before .pre .1) (c .before .before .before .before .before .before .before .before .before .loop .inv) (c .before .before .before .before .if2 .taken) (c .before .before .before .before .before .before .head-at .ensures) (c .before .before .emit-other .ensures) refl (c .before .before .emit-other .kept .1 .1 .0)
 
 no-spaces-sub-node : (t : ℕ) → no-spaces-lts.Need-sub-node (
   head-at-reads.Asked,
@@ -3326,7 +3327,7 @@ no-spaces-sub-node : (t : ℕ) → no-spaces-lts.Need-sub-node (
   node-below t,
   node.Post,
 ) (no-spaces-at t) no-spaces.Post no-spaces-Inv-loop no-spaces-μ-loop
-no-spaces-sub-node t c = left-pos (c .before .before .before .before .before .before .before .before .before .before .pre .1) (c .before .before .before .before .before .before .loop .inv) (c .before .before .before .before .if1 .taken) (c .before .if2 .left)
+no-spaces-sub-node t c = left-pos (c .before .before .before .before .before .before .before .before .before .before .before .pre .1) (c .before .before .before .before .before .before .loop .inv) (c .before .before .before .before .if1 .taken) (c .before .if2 .left)
 
 no-spaces-node-requires : (t : ℕ) → no-spaces-lts.Need-node-requires (
   head-at-reads.Asked,
@@ -3336,7 +3337,7 @@ no-spaces-node-requires : (t : ℕ) → no-spaces-lts.Need-node-requires (
   node-below t,
   node.Post,
 ) (no-spaces-at t) no-spaces.Post no-spaces-Inv-loop no-spaces-μ-loop
-no-spaces-node-requires t c κs = (omega (arith, c .before .before .before .before .before .before .before .before .before .before .pre .0, left-pos (c .before .before .before .before .before .before .before .before .before .before .pre .1) (c .before .before .before .before .before .before .loop .inv) (c .before .before .before .before .if1 .taken) (c .before .if2 .left)), node-ready (c .before .before .before .before .before .before .before .before .before .before .pre .1) (c .before .before .before .before .before .before .loop .inv) (c .before .before .before .before .if1 .taken) (c .before .if2 .left) (c .before .before .before .head-at .ensures) (no-spacing {xs = c .before .before .before .before .before .before .loop .out}) (omega arith))
+no-spaces-node-requires t c κs = (omega (arith, c .before .before .before .before .before .before .before .before .before .before .before .pre .0, left-pos (c .before .before .before .before .before .before .before .before .before .before .before .pre .1) (c .before .before .before .before .before .before .loop .inv) (c .before .before .before .before .if1 .taken) (c .before .if2 .left)), node-ready (c .before .before .before .before .before .before .before .before .before .before .before .pre .1) (c .before .before .before .before .before .before .loop .inv) (c .before .before .before .before .if1 .taken) (c .before .if2 .left) (c .before .before .before .head-at .ensures) (no-spacing {xs = c .before .before .before .before .before .before .loop .out}) (omega arith))
 
 no-spaces-loop-less-2 : (t : ℕ) → no-spaces-lts.Need-loop-less-2 (
   head-at-reads.Asked,
@@ -3357,7 +3358,7 @@ no-spaces-loop-again-2 : (t : ℕ) → no-spaces-lts.Need-loop-again-2 (
   node.Post,
 ) (no-spaces-at t) no-spaces.Post no-spaces-Inv-loop no-spaces-μ-loop
 unfolding formatInlineNoSpaces
-no-spaces-loop-again-2 t c = node-next (c .before .before .before .before .before .before .before .before .before .before .before .before .before .before .pre .1) (c .before .before .before .before .before .before .before .before .before .before .loop .inv) (formatInlineNoSpaces .atNode (flagged false) (c .before .before .before .before .before .before .before .head-at .result .kind) 0) (c .before .before .before .before .before .before .before .before .if1 .taken) (c .before .before .before .before .before .if2 .left) (c .before .before .before .before .before .before .before .head-at .ensures) (λ k z. refl) (no-spacing {xs = c .before .before .before .before .before .before .before .before .before .before .loop .out}) (c .before .before .before .node .ensures) refl no-spacing (omega arith) (omega arith) (c .before .before .before .node .kept .1 .1 .1 .1 .0)
+no-spaces-loop-again-2 t c = node-next (c .before .before .before .before .before .before .before .before .before .before .before .before .before .before .before .pre .1) (c .before .before .before .before .before .before .before .before .before .before .loop .inv) (formatInlineNoSpaces .atNode (flagged false) (c .before .before .before .before .before .before .before .head-at .result .kind) 0) (c .before .before .before .before .before .before .before .before .if1 .taken) (c .before .before .before .before .before .if2 .left) (c .before .before .before .before .before .before .before .head-at .ensures) (λ k z. refl) (no-spacing {xs = c .before .before .before .before .before .before .before .before .before .before .loop .out}) (c .before .before .before .node .ensures) refl no-spacing (omega arith) (omega arith) (c .before .before .before .node .kept .1 .1 .1 .1 .0)
 
 no-spaces-add-t22 : (t : ℕ) → no-spaces-lts.Need-add-t22 (
   head-at-reads.Asked,
@@ -3367,7 +3368,7 @@ no-spaces-add-t22 : (t : ℕ) → no-spaces-lts.Need-add-t22 (
   node-below t,
   node.Post,
 ) (no-spaces-at t) no-spaces.Post no-spaces-Inv-loop no-spaces-μ-loop
-no-spaces-add-t22 t c = omega (arith, c .before .before .loop .inv .inside, c .before .before .before .before .before .before .pre .1 .sizes .tape-fits)
+no-spaces-add-t22 t c = omega (arith, c .before .before .loop .inv .inside, c .before .before .before .before .before .before .before .pre .1 .sizes .tape-fits)
 
 no-spaces-same-length : (t : ℕ) → no-spaces-lts.Need-same-length (
   head-at-reads.Asked,
@@ -3388,11 +3389,11 @@ no-spaces-returns : (t : ℕ) → no-spaces-lts.Need-returns (
   node.Post,
 ) (no-spaces-at t) no-spaces.Post no-spaces-Inv-loop no-spaces-μ-loop
 unfolding formatInlineNoSpaces
-no-spaces-returns t c = loop-last (c .before .before .before .before .before .before .pre .1) (c .before .before .loop .inv) (c .if1 .left) no-spacing (omega arith)
+no-spaces-returns t c = loop-last (c .before .before .before .before .before .before .before .pre .1) (c .before .before .loop .inv) (c .if1 .left) no-spacing (omega arith)
 
-node-is-copied-requires : (t : ℕ) → node-lts.Need-is-copied-requires (
-  is-copied-reads.Asked,
-  is-copied-reads.Learnt,
+node-has-error-requires : (t : ℕ) → node-lts.Need-has-error-requires (
+  has-error-reads.Asked,
+  has-error-reads.Learnt,
   head-at-reads.Asked,
   head-at-reads.Learnt,
   skip-reads.Asked,
@@ -3456,11 +3457,11 @@ node-is-copied-requires : (t : ℕ) → node-lts.Need-is-copied-requires (
   pass-below t,
   pass.Post,
 ) (node-at t) node.Post
-node-is-copied-requires t c κs = opened-at (c .before .before .before .before .pre .1 .0)
+node-has-error-requires t c κs = fact-fits (c .before .before .before .before .pre .1 .0)
 
 node-head-at-requires : (t : ℕ) → node-lts.Need-head-at-requires (
-  is-copied-reads.Asked,
-  is-copied-reads.Learnt,
+  has-error-reads.Asked,
+  has-error-reads.Learnt,
   head-at-reads.Asked,
   head-at-reads.Learnt,
   skip-reads.Asked,
@@ -3524,11 +3525,11 @@ node-head-at-requires : (t : ℕ) → node-lts.Need-head-at-requires (
   pass-below t,
   pass.Post,
 ) (node-at t) node.Post
-node-head-at-requires t c κs = c .before .before .before .before .before .before .pre .1 .0 .inside
+node-head-at-requires t c κs = c .before .before .before .before .before .before .before .pre .1 .0 .inside
 
 node-skip-requires : (t : ℕ) → node-lts.Need-skip-requires (
-  is-copied-reads.Asked,
-  is-copied-reads.Learnt,
+  has-error-reads.Asked,
+  has-error-reads.Learnt,
   head-at-reads.Asked,
   head-at-reads.Learnt,
   skip-reads.Asked,
@@ -3592,11 +3593,11 @@ node-skip-requires : (t : ℕ) → node-lts.Need-skip-requires (
   pass-below t,
   pass.Post,
 ) (node-at t) node.Post
-node-skip-requires t c κs = opened-at (c .before .before .before .before .before .before .before .pre .1 .0)
+node-skip-requires t c κs = opened-at (c .before .before .before .before .before .before .before .before .pre .1 .0)
 
 node-format-error-verbatim-requires : (t : ℕ) → node-lts.Need-format-error-verbatim-requires (
-  is-copied-reads.Asked,
-  is-copied-reads.Learnt,
+  has-error-reads.Asked,
+  has-error-reads.Learnt,
   head-at-reads.Asked,
   head-at-reads.Learnt,
   skip-reads.Asked,
@@ -3660,11 +3661,11 @@ node-format-error-verbatim-requires : (t : ℕ) → node-lts.Need-format-error-v
   pass-below t,
   pass.Post,
 ) (node-at t) node.Post
-node-format-error-verbatim-requires t c κs = copy-ready (c .before .before .before .before .before .before .before .before .before .pre .1 .0) (c .before .before .head-at .ensures)
+node-format-error-verbatim-requires t c κs = copy-ready (c .before .before .before .before .before .before .before .before .before .before .pre .1 .0) (c .before .before .head-at .ensures)
 
 node-same-length : (t : ℕ) → node-lts.Need-same-length (
-  is-copied-reads.Asked,
-  is-copied-reads.Learnt,
+  has-error-reads.Asked,
+  has-error-reads.Learnt,
   head-at-reads.Asked,
   head-at-reads.Learnt,
   skip-reads.Asked,
@@ -3731,8 +3732,8 @@ node-same-length : (t : ℕ) → node-lts.Need-same-length (
 node-same-length t c = c .before .before .format-error-verbatim .kept .1 .1 .0
 
 node-returns : (t : ℕ) → node-lts.Need-returns (
-  is-copied-reads.Asked,
-  is-copied-reads.Learnt,
+  has-error-reads.Asked,
+  has-error-reads.Learnt,
   head-at-reads.Asked,
   head-at-reads.Learnt,
   skip-reads.Asked,
@@ -3796,11 +3797,11 @@ node-returns : (t : ℕ) → node-lts.Need-returns (
   pass-below t,
   pass.Post,
 ) (node-at t) node.Post
-node-returns t c = node-copied (c .before .before .before .before .before .before .before .before .before .before .before .before .pre .1 .0) (c .before .before .before .before .before .before .before .before .before .before .before .before .pre .1 .1) (c .before .before .before .before .before .head-at .ensures) (scanned-as (c .before .before .before .before .before .before .before .is-copied .ensures) (c .before .before .before .before .before .before .if2 .taken)) (c .before .before .before .before .skip .ensures) (c .before .before .format-error-verbatim .ensures)
+node-returns t c = node-copied (c .before .before .before .before .before .before .before .before .before .before .before .before .before .pre .1 .0) (c .before .before .before .before .before .before .before .before .before .before .before .before .before .pre .1 .1) (c .before .before .before .before .before .head-at .ensures) (decided-copied (c .before .before .before .before .before .before .before .before .before .before .before .before .before .pre .1 .0) (c .before .before .before .before .before .before .before .before .before .before .before .before .before .pre .1 .1) (c .before .before .before .before .before .before .before .before .has-error .ensures) (c .before .before .before .before .before .before .before .if1 .taken) (c .before .before .before .before .before .before .if2 .taken)) (c .before .before .before .before .skip .ensures) (c .before .before .format-error-verbatim .ensures)
 
 node-routine-of-requires : (t : ℕ) → node-lts.Need-routine-of-requires (
-  is-copied-reads.Asked,
-  is-copied-reads.Learnt,
+  has-error-reads.Asked,
+  has-error-reads.Learnt,
   head-at-reads.Asked,
   head-at-reads.Learnt,
   skip-reads.Asked,
@@ -3867,8 +3868,8 @@ node-routine-of-requires : (t : ℕ) → node-lts.Need-routine-of-requires (
 node-routine-of-requires t c κs = search needs
 
 node-enum-told : (t : ℕ) → node-lts.Need-enum-told (
-  is-copied-reads.Asked,
-  is-copied-reads.Learnt,
+  has-error-reads.Asked,
+  has-error-reads.Learnt,
   head-at-reads.Asked,
   head-at-reads.Learnt,
   skip-reads.Asked,
@@ -3935,8 +3936,8 @@ node-enum-told : (t : ℕ) → node-lts.Need-enum-told (
 node-enum-told t c = search needs
 
 node-file-requires : (t : ℕ) → node-lts.Need-file-requires (
-  is-copied-reads.Asked,
-  is-copied-reads.Learnt,
+  has-error-reads.Asked,
+  has-error-reads.Learnt,
   head-at-reads.Asked,
   head-at-reads.Learnt,
   skip-reads.Asked,
@@ -4000,11 +4001,11 @@ node-file-requires : (t : ℕ) → node-lts.Need-file-requires (
   pass-below t,
   pass.Post,
 ) (node-at t) node.Post
-node-file-requires t c κs = (omega (arith, c .before .before .before .before .before .before .before .before .pre .0), c .before .before .before .before .before .before .before .before .pre .1 .0)
+node-file-requires t c κs = (omega (arith, c .before .before .before .before .before .before .before .before .before .before .pre .0), c .before .before .before .before .before .before .before .before .before .before .pre .1 .0)
 
 node-enum-told-2 : (t : ℕ) → node-lts.Need-enum-told-2 (
-  is-copied-reads.Asked,
-  is-copied-reads.Learnt,
+  has-error-reads.Asked,
+  has-error-reads.Learnt,
   head-at-reads.Asked,
   head-at-reads.Learnt,
   skip-reads.Asked,
@@ -4071,8 +4072,8 @@ node-enum-told-2 : (t : ℕ) → node-lts.Need-enum-told-2 (
 node-enum-told-2 t c = search needs
 
 node-queries-requires : (t : ℕ) → node-lts.Need-queries-requires (
-  is-copied-reads.Asked,
-  is-copied-reads.Learnt,
+  has-error-reads.Asked,
+  has-error-reads.Learnt,
   head-at-reads.Asked,
   head-at-reads.Learnt,
   skip-reads.Asked,
@@ -4136,11 +4137,11 @@ node-queries-requires : (t : ℕ) → node-lts.Need-queries-requires (
   pass-below t,
   pass.Post,
 ) (node-at t) node.Post
-node-queries-requires t c κs = (omega (arith, c .before .before .before .before .before .before .before .before .pre .0), c .before .before .before .before .before .before .before .before .pre .1 .0)
+node-queries-requires t c κs = (omega (arith, c .before .before .before .before .before .before .before .before .before .before .pre .0), c .before .before .before .before .before .before .before .before .before .before .pre .1 .0)
 
 node-enum-told-3 : (t : ℕ) → node-lts.Need-enum-told-3 (
-  is-copied-reads.Asked,
-  is-copied-reads.Learnt,
+  has-error-reads.Asked,
+  has-error-reads.Learnt,
   head-at-reads.Asked,
   head-at-reads.Learnt,
   skip-reads.Asked,
@@ -4207,8 +4208,8 @@ node-enum-told-3 : (t : ℕ) → node-lts.Need-enum-told-3 (
 node-enum-told-3 t c = search needs
 
 node-sel-stmt-requires : (t : ℕ) → node-lts.Need-sel-stmt-requires (
-  is-copied-reads.Asked,
-  is-copied-reads.Learnt,
+  has-error-reads.Asked,
+  has-error-reads.Learnt,
   head-at-reads.Asked,
   head-at-reads.Learnt,
   skip-reads.Asked,
@@ -4272,11 +4273,11 @@ node-sel-stmt-requires : (t : ℕ) → node-lts.Need-sel-stmt-requires (
   pass-below t,
   pass.Post,
 ) (node-at t) node.Post
-node-sel-stmt-requires t c κs = (omega (arith, c .before .before .before .before .before .before .before .before .pre .0), c .before .before .before .before .before .before .before .before .pre .1 .0)
+node-sel-stmt-requires t c κs = (omega (arith, c .before .before .before .before .before .before .before .before .before .before .pre .0), c .before .before .before .before .before .before .before .before .before .before .pre .1 .0)
 
 node-enum-told-4 : (t : ℕ) → node-lts.Need-enum-told-4 (
-  is-copied-reads.Asked,
-  is-copied-reads.Learnt,
+  has-error-reads.Asked,
+  has-error-reads.Learnt,
   head-at-reads.Asked,
   head-at-reads.Learnt,
   skip-reads.Asked,
@@ -4343,8 +4344,8 @@ node-enum-told-4 : (t : ℕ) → node-lts.Need-enum-told-4 (
 node-enum-told-4 t c = search needs
 
 node-select-requires : (t : ℕ) → node-lts.Need-select-requires (
-  is-copied-reads.Asked,
-  is-copied-reads.Learnt,
+  has-error-reads.Asked,
+  has-error-reads.Learnt,
   head-at-reads.Asked,
   head-at-reads.Learnt,
   skip-reads.Asked,
@@ -4408,11 +4409,11 @@ node-select-requires : (t : ℕ) → node-lts.Need-select-requires (
   pass-below t,
   pass.Post,
 ) (node-at t) node.Post
-node-select-requires t c κs = (omega (arith, c .before .before .before .before .before .before .before .before .pre .0), c .before .before .before .before .before .before .before .before .pre .1 .0)
+node-select-requires t c κs = (omega (arith, c .before .before .before .before .before .before .before .before .before .before .pre .0), c .before .before .before .before .before .before .before .before .before .before .pre .1 .0)
 
 node-enum-told-5 : (t : ℕ) → node-lts.Need-enum-told-5 (
-  is-copied-reads.Asked,
-  is-copied-reads.Learnt,
+  has-error-reads.Asked,
+  has-error-reads.Learnt,
   head-at-reads.Asked,
   head-at-reads.Learnt,
   skip-reads.Asked,
@@ -4479,8 +4480,8 @@ node-enum-told-5 : (t : ℕ) → node-lts.Need-enum-told-5 (
 node-enum-told-5 t c = search needs
 
 node-simple-requires : (t : ℕ) → node-lts.Need-simple-requires (
-  is-copied-reads.Asked,
-  is-copied-reads.Learnt,
+  has-error-reads.Asked,
+  has-error-reads.Learnt,
   head-at-reads.Asked,
   head-at-reads.Learnt,
   skip-reads.Asked,
@@ -4544,11 +4545,11 @@ node-simple-requires : (t : ℕ) → node-lts.Need-simple-requires (
   pass-below t,
   pass.Post,
 ) (node-at t) node.Post
-node-simple-requires t c κs = (omega (arith, c .before .before .before .before .before .before .before .before .pre .0), c .before .before .before .before .before .before .before .before .pre .1 .0)
+node-simple-requires t c κs = (omega (arith, c .before .before .before .before .before .before .before .before .before .before .pre .0), c .before .before .before .before .before .before .before .before .before .before .pre .1 .0)
 
 node-enum-known-r : (t : ℕ) → node-lts.Need-enum-known-r (
-  is-copied-reads.Asked,
-  is-copied-reads.Learnt,
+  has-error-reads.Asked,
+  has-error-reads.Learnt,
   head-at-reads.Asked,
   head-at-reads.Learnt,
   skip-reads.Asked,
@@ -4615,8 +4616,8 @@ node-enum-known-r : (t : ℕ) → node-lts.Need-enum-known-r (
 node-enum-known-r t c = search needs
 
 node-list-by-requires : (t : ℕ) → node-lts.Need-list-by-requires (
-  is-copied-reads.Asked,
-  is-copied-reads.Learnt,
+  has-error-reads.Asked,
+  has-error-reads.Learnt,
   head-at-reads.Asked,
   head-at-reads.Learnt,
   skip-reads.Asked,
@@ -4680,11 +4681,11 @@ node-list-by-requires : (t : ℕ) → node-lts.Need-list-by-requires (
   pass-below t,
   pass.Post,
 ) (node-at t) node.Post
-node-list-by-requires t c κs = (omega (arith, c .before .before .before .before .before .before .before .before .before .pre .0), c .before .before .before .before .before .before .before .before .before .pre .1 .0)
+node-list-by-requires t c κs = (omega (arith, c .before .before .before .before .before .before .before .before .before .before .before .pre .0), (c .before .before .before .before .before .before .before .before .before .before .before .pre .1 .0, is-list _ _ (sym (c .before .before .r .given .1) ∙ c .before .before .before .before .routine-of .ensures)))
 
 node-enum-told-6 : (t : ℕ) → node-lts.Need-enum-told-6 (
-  is-copied-reads.Asked,
-  is-copied-reads.Learnt,
+  has-error-reads.Asked,
+  has-error-reads.Learnt,
   head-at-reads.Asked,
   head-at-reads.Learnt,
   skip-reads.Asked,
@@ -4751,8 +4752,8 @@ node-enum-told-6 : (t : ℕ) → node-lts.Need-enum-told-6 (
 node-enum-told-6 t c = search needs
 
 node-settings-requires : (t : ℕ) → node-lts.Need-settings-requires (
-  is-copied-reads.Asked,
-  is-copied-reads.Learnt,
+  has-error-reads.Asked,
+  has-error-reads.Learnt,
   head-at-reads.Asked,
   head-at-reads.Learnt,
   skip-reads.Asked,
@@ -4816,11 +4817,11 @@ node-settings-requires : (t : ℕ) → node-lts.Need-settings-requires (
   pass-below t,
   pass.Post,
 ) (node-at t) node.Post
-node-settings-requires t c κs = (omega (arith, c .before .before .before .before .before .before .before .before .pre .0), c .before .before .before .before .before .before .before .before .pre .1 .0)
+node-settings-requires t c κs = (omega (arith, c .before .before .before .before .before .before .before .before .before .before .pre .0), c .before .before .before .before .before .before .before .before .before .before .pre .1 .0)
 
 node-enum-told-7 : (t : ℕ) → node-lts.Need-enum-told-7 (
-  is-copied-reads.Asked,
-  is-copied-reads.Learnt,
+  has-error-reads.Asked,
+  has-error-reads.Learnt,
   head-at-reads.Asked,
   head-at-reads.Learnt,
   skip-reads.Asked,
@@ -4887,8 +4888,8 @@ node-enum-told-7 : (t : ℕ) → node-lts.Need-enum-told-7 (
 node-enum-told-7 t c = search needs
 
 node-with-requires : (t : ℕ) → node-lts.Need-with-requires (
-  is-copied-reads.Asked,
-  is-copied-reads.Learnt,
+  has-error-reads.Asked,
+  has-error-reads.Learnt,
   head-at-reads.Asked,
   head-at-reads.Learnt,
   skip-reads.Asked,
@@ -4952,11 +4953,11 @@ node-with-requires : (t : ℕ) → node-lts.Need-with-requires (
   pass-below t,
   pass.Post,
 ) (node-at t) node.Post
-node-with-requires t c κs = (omega (arith, c .before .before .before .before .before .before .before .before .pre .0), c .before .before .before .before .before .before .before .before .pre .1 .0)
+node-with-requires t c κs = (omega (arith, c .before .before .before .before .before .before .before .before .before .before .pre .0), c .before .before .before .before .before .before .before .before .before .before .pre .1 .0)
 
 node-enum-told-8 : (t : ℕ) → node-lts.Need-enum-told-8 (
-  is-copied-reads.Asked,
-  is-copied-reads.Learnt,
+  has-error-reads.Asked,
+  has-error-reads.Learnt,
   head-at-reads.Asked,
   head-at-reads.Learnt,
   skip-reads.Asked,
@@ -5023,8 +5024,8 @@ node-enum-told-8 : (t : ℕ) → node-lts.Need-enum-told-8 (
 node-enum-told-8 t c = search needs
 
 node-join-requires : (t : ℕ) → node-lts.Need-join-requires (
-  is-copied-reads.Asked,
-  is-copied-reads.Learnt,
+  has-error-reads.Asked,
+  has-error-reads.Learnt,
   head-at-reads.Asked,
   head-at-reads.Learnt,
   skip-reads.Asked,
@@ -5088,11 +5089,11 @@ node-join-requires : (t : ℕ) → node-lts.Need-join-requires (
   pass-below t,
   pass.Post,
 ) (node-at t) node.Post
-node-join-requires t c κs = (omega (arith, c .before .before .before .before .before .before .before .before .pre .0), c .before .before .before .before .before .before .before .before .pre .1 .0)
+node-join-requires t c κs = (omega (arith, c .before .before .before .before .before .before .before .before .before .before .pre .0), c .before .before .before .before .before .before .before .before .before .before .pre .1 .0)
 
 node-enum-told-9 : (t : ℕ) → node-lts.Need-enum-told-9 (
-  is-copied-reads.Asked,
-  is-copied-reads.Learnt,
+  has-error-reads.Asked,
+  has-error-reads.Learnt,
   head-at-reads.Asked,
   head-at-reads.Learnt,
   skip-reads.Asked,
@@ -5159,8 +5160,8 @@ node-enum-told-9 : (t : ℕ) → node-lts.Need-enum-told-9 (
 node-enum-told-9 t c = search needs
 
 node-inline-requires : (t : ℕ) → node-lts.Need-inline-requires (
-  is-copied-reads.Asked,
-  is-copied-reads.Learnt,
+  has-error-reads.Asked,
+  has-error-reads.Learnt,
   head-at-reads.Asked,
   head-at-reads.Learnt,
   skip-reads.Asked,
@@ -5224,11 +5225,11 @@ node-inline-requires : (t : ℕ) → node-lts.Need-inline-requires (
   pass-below t,
   pass.Post,
 ) (node-at t) node.Post
-node-inline-requires t c κs = (omega (arith, c .before .before .before .before .before .before .before .before .pre .0), c .before .before .before .before .before .before .before .before .pre .1 .0)
+node-inline-requires t c κs = (omega (arith, c .before .before .before .before .before .before .before .before .before .before .pre .0), c .before .before .before .before .before .before .before .before .before .before .pre .1 .0)
 
 node-enum-told-10 : (t : ℕ) → node-lts.Need-enum-told-10 (
-  is-copied-reads.Asked,
-  is-copied-reads.Learnt,
+  has-error-reads.Asked,
+  has-error-reads.Learnt,
   head-at-reads.Asked,
   head-at-reads.Learnt,
   skip-reads.Asked,
@@ -5295,8 +5296,8 @@ node-enum-told-10 : (t : ℕ) → node-lts.Need-enum-told-10 (
 node-enum-told-10 t c = search needs
 
 node-comma-requires : (t : ℕ) → node-lts.Need-comma-requires (
-  is-copied-reads.Asked,
-  is-copied-reads.Learnt,
+  has-error-reads.Asked,
+  has-error-reads.Learnt,
   head-at-reads.Asked,
   head-at-reads.Learnt,
   skip-reads.Asked,
@@ -5360,11 +5361,11 @@ node-comma-requires : (t : ℕ) → node-lts.Need-comma-requires (
   pass-below t,
   pass.Post,
 ) (node-at t) node.Post
-node-comma-requires t c κs = (omega (arith, c .before .before .before .before .before .before .before .before .pre .0), c .before .before .before .before .before .before .before .before .pre .1 .0)
+node-comma-requires t c κs = (omega (arith, c .before .before .before .before .before .before .before .before .before .before .pre .0), c .before .before .before .before .before .before .before .before .before .before .pre .1 .0)
 
 node-enum-told-11 : (t : ℕ) → node-lts.Need-enum-told-11 (
-  is-copied-reads.Asked,
-  is-copied-reads.Learnt,
+  has-error-reads.Asked,
+  has-error-reads.Learnt,
   head-at-reads.Asked,
   head-at-reads.Learnt,
   skip-reads.Asked,
@@ -5431,8 +5432,8 @@ node-enum-told-11 : (t : ℕ) → node-lts.Need-enum-told-11 (
 node-enum-told-11 t c = search needs
 
 node-inl-list-requires : (t : ℕ) → node-lts.Need-inl-list-requires (
-  is-copied-reads.Asked,
-  is-copied-reads.Learnt,
+  has-error-reads.Asked,
+  has-error-reads.Learnt,
   head-at-reads.Asked,
   head-at-reads.Learnt,
   skip-reads.Asked,
@@ -5496,11 +5497,11 @@ node-inl-list-requires : (t : ℕ) → node-lts.Need-inl-list-requires (
   pass-below t,
   pass.Post,
 ) (node-at t) node.Post
-node-inl-list-requires t c κs = (omega (arith, c .before .before .before .before .before .before .before .before .pre .0), c .before .before .before .before .before .before .before .before .pre .1 .0)
+node-inl-list-requires t c κs = (omega (arith, c .before .before .before .before .before .before .before .before .before .before .pre .0), c .before .before .before .before .before .before .before .before .before .before .pre .1 .0)
 
 node-enum-told-12 : (t : ℕ) → node-lts.Need-enum-told-12 (
-  is-copied-reads.Asked,
-  is-copied-reads.Learnt,
+  has-error-reads.Asked,
+  has-error-reads.Learnt,
   head-at-reads.Asked,
   head-at-reads.Learnt,
   skip-reads.Asked,
@@ -5567,8 +5568,8 @@ node-enum-told-12 : (t : ℕ) → node-lts.Need-enum-told-12 (
 node-enum-told-12 t c = search needs
 
 node-binary-requires : (t : ℕ) → node-lts.Need-binary-requires (
-  is-copied-reads.Asked,
-  is-copied-reads.Learnt,
+  has-error-reads.Asked,
+  has-error-reads.Learnt,
   head-at-reads.Asked,
   head-at-reads.Learnt,
   skip-reads.Asked,
@@ -5632,11 +5633,11 @@ node-binary-requires : (t : ℕ) → node-lts.Need-binary-requires (
   pass-below t,
   pass.Post,
 ) (node-at t) node.Post
-node-binary-requires t c κs = (omega (arith, c .before .before .before .before .before .before .before .before .pre .0), c .before .before .before .before .before .before .before .before .pre .1 .0)
+node-binary-requires t c κs = (omega (arith, c .before .before .before .before .before .before .before .before .before .before .pre .0), c .before .before .before .before .before .before .before .before .before .before .pre .1 .0)
 
 node-enum-told-13 : (t : ℕ) → node-lts.Need-enum-told-13 (
-  is-copied-reads.Asked,
-  is-copied-reads.Learnt,
+  has-error-reads.Asked,
+  has-error-reads.Learnt,
   head-at-reads.Asked,
   head-at-reads.Learnt,
   skip-reads.Asked,
@@ -5703,8 +5704,8 @@ node-enum-told-13 : (t : ℕ) → node-lts.Need-enum-told-13 (
 node-enum-told-13 t c = search needs
 
 node-unary-requires : (t : ℕ) → node-lts.Need-unary-requires (
-  is-copied-reads.Asked,
-  is-copied-reads.Learnt,
+  has-error-reads.Asked,
+  has-error-reads.Learnt,
   head-at-reads.Asked,
   head-at-reads.Learnt,
   skip-reads.Asked,
@@ -5768,11 +5769,11 @@ node-unary-requires : (t : ℕ) → node-lts.Need-unary-requires (
   pass-below t,
   pass.Post,
 ) (node-at t) node.Post
-node-unary-requires t c κs = (omega (arith, c .before .before .before .before .before .before .before .before .pre .0), c .before .before .before .before .before .before .before .before .pre .1 .0)
+node-unary-requires t c κs = (omega (arith, c .before .before .before .before .before .before .before .before .before .before .pre .0), c .before .before .before .before .before .before .before .before .before .before .pre .1 .0)
 
 node-enum-told-14 : (t : ℕ) → node-lts.Need-enum-told-14 (
-  is-copied-reads.Asked,
-  is-copied-reads.Learnt,
+  has-error-reads.Asked,
+  has-error-reads.Learnt,
   head-at-reads.Asked,
   head-at-reads.Learnt,
   skip-reads.Asked,
@@ -5839,8 +5840,8 @@ node-enum-told-14 : (t : ℕ) → node-lts.Need-enum-told-14 (
 node-enum-told-14 t c = search needs
 
 node-call-requires : (t : ℕ) → node-lts.Need-call-requires (
-  is-copied-reads.Asked,
-  is-copied-reads.Learnt,
+  has-error-reads.Asked,
+  has-error-reads.Learnt,
   head-at-reads.Asked,
   head-at-reads.Learnt,
   skip-reads.Asked,
@@ -5904,11 +5905,11 @@ node-call-requires : (t : ℕ) → node-lts.Need-call-requires (
   pass-below t,
   pass.Post,
 ) (node-at t) node.Post
-node-call-requires t c κs = (omega (arith, c .before .before .before .before .before .before .before .before .pre .0), c .before .before .before .before .before .before .before .before .pre .1 .0)
+node-call-requires t c κs = (omega (arith, c .before .before .before .before .before .before .before .before .before .before .pre .0), c .before .before .before .before .before .before .before .before .before .before .pre .1 .0)
 
 node-enum-told-15 : (t : ℕ) → node-lts.Need-enum-told-15 (
-  is-copied-reads.Asked,
-  is-copied-reads.Learnt,
+  has-error-reads.Asked,
+  has-error-reads.Learnt,
   head-at-reads.Asked,
   head-at-reads.Learnt,
   skip-reads.Asked,
@@ -5975,8 +5976,8 @@ node-enum-told-15 : (t : ℕ) → node-lts.Need-enum-told-15 (
 node-enum-told-15 t c = search needs
 
 node-case-requires : (t : ℕ) → node-lts.Need-case-requires (
-  is-copied-reads.Asked,
-  is-copied-reads.Learnt,
+  has-error-reads.Asked,
+  has-error-reads.Learnt,
   head-at-reads.Asked,
   head-at-reads.Learnt,
   skip-reads.Asked,
@@ -6040,11 +6041,11 @@ node-case-requires : (t : ℕ) → node-lts.Need-case-requires (
   pass-below t,
   pass.Post,
 ) (node-at t) node.Post
-node-case-requires t c κs = (omega (arith, c .before .before .before .before .before .before .before .before .pre .0), c .before .before .before .before .before .before .before .before .pre .1 .0)
+node-case-requires t c κs = (omega (arith, c .before .before .before .before .before .before .before .before .before .before .pre .0), c .before .before .before .before .before .before .before .before .before .before .pre .1 .0)
 
 node-enum-told-16 : (t : ℕ) → node-lts.Need-enum-told-16 (
-  is-copied-reads.Asked,
-  is-copied-reads.Learnt,
+  has-error-reads.Asked,
+  has-error-reads.Learnt,
   head-at-reads.Asked,
   head-at-reads.Learnt,
   skip-reads.Asked,
@@ -6111,8 +6112,8 @@ node-enum-told-16 : (t : ℕ) → node-lts.Need-enum-told-16 (
 node-enum-told-16 t c = search needs
 
 node-when-requires : (t : ℕ) → node-lts.Need-when-requires (
-  is-copied-reads.Asked,
-  is-copied-reads.Learnt,
+  has-error-reads.Asked,
+  has-error-reads.Learnt,
   head-at-reads.Asked,
   head-at-reads.Learnt,
   skip-reads.Asked,
@@ -6176,11 +6177,11 @@ node-when-requires : (t : ℕ) → node-lts.Need-when-requires (
   pass-below t,
   pass.Post,
 ) (node-at t) node.Post
-node-when-requires t c κs = (omega (arith, c .before .before .before .before .before .before .before .before .pre .0), c .before .before .before .before .before .before .before .before .pre .1 .0)
+node-when-requires t c κs = (omega (arith, c .before .before .before .before .before .before .before .before .before .before .pre .0), c .before .before .before .before .before .before .before .before .before .before .pre .1 .0)
 
 node-enum-told-17 : (t : ℕ) → node-lts.Need-enum-told-17 (
-  is-copied-reads.Asked,
-  is-copied-reads.Learnt,
+  has-error-reads.Asked,
+  has-error-reads.Learnt,
   head-at-reads.Asked,
   head-at-reads.Learnt,
   skip-reads.Asked,
@@ -6247,8 +6248,8 @@ node-enum-told-17 : (t : ℕ) → node-lts.Need-enum-told-17 (
 node-enum-told-17 t c = search needs
 
 node-subquery-requires : (t : ℕ) → node-lts.Need-subquery-requires (
-  is-copied-reads.Asked,
-  is-copied-reads.Learnt,
+  has-error-reads.Asked,
+  has-error-reads.Learnt,
   head-at-reads.Asked,
   head-at-reads.Learnt,
   skip-reads.Asked,
@@ -6312,11 +6313,11 @@ node-subquery-requires : (t : ℕ) → node-lts.Need-subquery-requires (
   pass-below t,
   pass.Post,
 ) (node-at t) node.Post
-node-subquery-requires t c κs = (omega (arith, c .before .before .before .before .before .before .before .before .pre .0), c .before .before .before .before .before .before .before .before .pre .1 .0)
+node-subquery-requires t c κs = (omega (arith, c .before .before .before .before .before .before .before .before .before .before .pre .0), c .before .before .before .before .before .before .before .before .before .before .pre .1 .0)
 
 node-enum-told-18 : (t : ℕ) → node-lts.Need-enum-told-18 (
-  is-copied-reads.Asked,
-  is-copied-reads.Learnt,
+  has-error-reads.Asked,
+  has-error-reads.Learnt,
   head-at-reads.Asked,
   head-at-reads.Learnt,
   skip-reads.Asked,
@@ -6383,8 +6384,8 @@ node-enum-told-18 : (t : ℕ) → node-lts.Need-enum-told-18 (
 node-enum-told-18 t c = search needs
 
 node-paren-requires : (t : ℕ) → node-lts.Need-paren-requires (
-  is-copied-reads.Asked,
-  is-copied-reads.Learnt,
+  has-error-reads.Asked,
+  has-error-reads.Learnt,
   head-at-reads.Asked,
   head-at-reads.Learnt,
   skip-reads.Asked,
@@ -6448,11 +6449,11 @@ node-paren-requires : (t : ℕ) → node-lts.Need-paren-requires (
   pass-below t,
   pass.Post,
 ) (node-at t) node.Post
-node-paren-requires t c κs = (omega (arith, c .before .before .before .before .before .before .before .before .pre .0), c .before .before .before .before .before .before .before .before .pre .1 .0)
+node-paren-requires t c κs = (omega (arith, c .before .before .before .before .before .before .before .before .before .before .pre .0), c .before .before .before .before .before .before .before .before .before .before .pre .1 .0)
 
 node-enum-told-19 : (t : ℕ) → node-lts.Need-enum-told-19 (
-  is-copied-reads.Asked,
-  is-copied-reads.Learnt,
+  has-error-reads.Asked,
+  has-error-reads.Learnt,
   head-at-reads.Asked,
   head-at-reads.Learnt,
   skip-reads.Asked,
@@ -6519,8 +6520,8 @@ node-enum-told-19 : (t : ℕ) → node-lts.Need-enum-told-19 (
 node-enum-told-19 t c = search needs
 
 node-bracket-requires : (t : ℕ) → node-lts.Need-bracket-requires (
-  is-copied-reads.Asked,
-  is-copied-reads.Learnt,
+  has-error-reads.Asked,
+  has-error-reads.Learnt,
   head-at-reads.Asked,
   head-at-reads.Learnt,
   skip-reads.Asked,
@@ -6584,11 +6585,11 @@ node-bracket-requires : (t : ℕ) → node-lts.Need-bracket-requires (
   pass-below t,
   pass.Post,
 ) (node-at t) node.Post
-node-bracket-requires t c κs = (omega (arith, c .before .before .before .before .before .before .before .before .pre .0), c .before .before .before .before .before .before .before .before .pre .1 .0)
+node-bracket-requires t c κs = (omega (arith, c .before .before .before .before .before .before .before .before .before .before .pre .0), c .before .before .before .before .before .before .before .before .before .before .pre .1 .0)
 
 node-enum-told-20 : (t : ℕ) → node-lts.Need-enum-told-20 (
-  is-copied-reads.Asked,
-  is-copied-reads.Learnt,
+  has-error-reads.Asked,
+  has-error-reads.Learnt,
   head-at-reads.Asked,
   head-at-reads.Learnt,
   skip-reads.Asked,
@@ -6655,8 +6656,8 @@ node-enum-told-20 : (t : ℕ) → node-lts.Need-enum-told-20 (
 node-enum-told-20 t c = search needs
 
 node-no-spaces-requires : (t : ℕ) → node-lts.Need-no-spaces-requires (
-  is-copied-reads.Asked,
-  is-copied-reads.Learnt,
+  has-error-reads.Asked,
+  has-error-reads.Learnt,
   head-at-reads.Asked,
   head-at-reads.Learnt,
   skip-reads.Asked,
@@ -6720,11 +6721,11 @@ node-no-spaces-requires : (t : ℕ) → node-lts.Need-no-spaces-requires (
   pass-below t,
   pass.Post,
 ) (node-at t) node.Post
-node-no-spaces-requires t c κs = (omega (arith, c .before .before .before .before .before .before .before .before .pre .0), c .before .before .before .before .before .before .before .before .pre .1 .0)
+node-no-spaces-requires t c κs = (omega (arith, c .before .before .before .before .before .before .before .before .before .before .pre .0), c .before .before .before .before .before .before .before .before .before .before .pre .1 .0)
 
 node-enum-told-21 : (t : ℕ) → node-lts.Need-enum-told-21 (
-  is-copied-reads.Asked,
-  is-copied-reads.Learnt,
+  has-error-reads.Asked,
+  has-error-reads.Learnt,
   head-at-reads.Asked,
   head-at-reads.Learnt,
   skip-reads.Asked,
@@ -6791,8 +6792,8 @@ node-enum-told-21 : (t : ℕ) → node-lts.Need-enum-told-21 (
 node-enum-told-21 t c = search needs
 
 node-brace-requires : (t : ℕ) → node-lts.Need-brace-requires (
-  is-copied-reads.Asked,
-  is-copied-reads.Learnt,
+  has-error-reads.Asked,
+  has-error-reads.Learnt,
   head-at-reads.Asked,
   head-at-reads.Learnt,
   skip-reads.Asked,
@@ -6856,11 +6857,11 @@ node-brace-requires : (t : ℕ) → node-lts.Need-brace-requires (
   pass-below t,
   pass.Post,
 ) (node-at t) node.Post
-node-brace-requires t c κs = (omega (arith, c .before .before .before .before .before .before .before .before .pre .0), c .before .before .before .before .before .before .before .before .pre .1 .0)
+node-brace-requires t c κs = (omega (arith, c .before .before .before .before .before .before .before .before .before .before .pre .0), c .before .before .before .before .before .before .before .before .before .before .pre .1 .0)
 
 node-enum-told-22 : (t : ℕ) → node-lts.Need-enum-told-22 (
-  is-copied-reads.Asked,
-  is-copied-reads.Learnt,
+  has-error-reads.Asked,
+  has-error-reads.Learnt,
   head-at-reads.Asked,
   head-at-reads.Learnt,
   skip-reads.Asked,
@@ -6927,8 +6928,8 @@ node-enum-told-22 : (t : ℕ) → node-lts.Need-enum-told-22 (
 node-enum-told-22 t c = search needs
 
 node-dtype-requires : (t : ℕ) → node-lts.Need-dtype-requires (
-  is-copied-reads.Asked,
-  is-copied-reads.Learnt,
+  has-error-reads.Asked,
+  has-error-reads.Learnt,
   head-at-reads.Asked,
   head-at-reads.Learnt,
   skip-reads.Asked,
@@ -6992,11 +6993,11 @@ node-dtype-requires : (t : ℕ) → node-lts.Need-dtype-requires (
   pass-below t,
   pass.Post,
 ) (node-at t) node.Post
-node-dtype-requires t c κs = (omega (arith, c .before .before .before .before .before .before .before .before .pre .0), c .before .before .before .before .before .before .before .before .pre .1 .0)
+node-dtype-requires t c κs = (omega (arith, c .before .before .before .before .before .before .before .before .before .before .pre .0), c .before .before .before .before .before .before .before .before .before .before .pre .1 .0)
 
 node-enum-told-23 : (t : ℕ) → node-lts.Need-enum-told-23 (
-  is-copied-reads.Asked,
-  is-copied-reads.Learnt,
+  has-error-reads.Asked,
+  has-error-reads.Learnt,
   head-at-reads.Asked,
   head-at-reads.Learnt,
   skip-reads.Asked,
@@ -7063,8 +7064,8 @@ node-enum-told-23 : (t : ℕ) → node-lts.Need-enum-told-23 (
 node-enum-told-23 t c = search needs
 
 node-tight-paren-requires : (t : ℕ) → node-lts.Need-tight-paren-requires (
-  is-copied-reads.Asked,
-  is-copied-reads.Learnt,
+  has-error-reads.Asked,
+  has-error-reads.Learnt,
   head-at-reads.Asked,
   head-at-reads.Learnt,
   skip-reads.Asked,
@@ -7128,11 +7129,11 @@ node-tight-paren-requires : (t : ℕ) → node-lts.Need-tight-paren-requires (
   pass-below t,
   pass.Post,
 ) (node-at t) node.Post
-node-tight-paren-requires t c κs = (omega (arith, c .before .before .before .before .before .before .before .before .pre .0), c .before .before .before .before .before .before .before .before .pre .1 .0)
+node-tight-paren-requires t c κs = (omega (arith, c .before .before .before .before .before .before .before .before .before .before .pre .0), c .before .before .before .before .before .before .before .before .before .before .pre .1 .0)
 
 node-enum-told-24 : (t : ℕ) → node-lts.Need-enum-told-24 (
-  is-copied-reads.Asked,
-  is-copied-reads.Learnt,
+  has-error-reads.Asked,
+  has-error-reads.Learnt,
   head-at-reads.Asked,
   head-at-reads.Learnt,
   skip-reads.Asked,
@@ -7199,8 +7200,8 @@ node-enum-told-24 : (t : ℕ) → node-lts.Need-enum-told-24 (
 node-enum-told-24 t c = search needs
 
 node-alter-requires : (t : ℕ) → node-lts.Need-alter-requires (
-  is-copied-reads.Asked,
-  is-copied-reads.Learnt,
+  has-error-reads.Asked,
+  has-error-reads.Learnt,
   head-at-reads.Asked,
   head-at-reads.Learnt,
   skip-reads.Asked,
@@ -7264,11 +7265,11 @@ node-alter-requires : (t : ℕ) → node-lts.Need-alter-requires (
   pass-below t,
   pass.Post,
 ) (node-at t) node.Post
-node-alter-requires t c κs = (omega (arith, c .before .before .before .before .before .before .before .before .pre .0), c .before .before .before .before .before .before .before .before .pre .1 .0)
+node-alter-requires t c κs = (omega (arith, c .before .before .before .before .before .before .before .before .before .before .pre .0), c .before .before .before .before .before .before .before .before .before .before .pre .1 .0)
 
 node-enum-told-25 : (t : ℕ) → node-lts.Need-enum-told-25 (
-  is-copied-reads.Asked,
-  is-copied-reads.Learnt,
+  has-error-reads.Asked,
+  has-error-reads.Learnt,
   head-at-reads.Asked,
   head-at-reads.Learnt,
   skip-reads.Asked,
@@ -7335,8 +7336,8 @@ node-enum-told-25 : (t : ℕ) → node-lts.Need-enum-told-25 (
 node-enum-told-25 t c = search needs
 
 node-union-requires : (t : ℕ) → node-lts.Need-union-requires (
-  is-copied-reads.Asked,
-  is-copied-reads.Learnt,
+  has-error-reads.Asked,
+  has-error-reads.Learnt,
   head-at-reads.Asked,
   head-at-reads.Learnt,
   skip-reads.Asked,
@@ -7400,11 +7401,11 @@ node-union-requires : (t : ℕ) → node-lts.Need-union-requires (
   pass-below t,
   pass.Post,
 ) (node-at t) node.Post
-node-union-requires t c κs = (omega (arith, c .before .before .before .before .before .before .before .before .pre .0), c .before .before .before .before .before .before .before .before .pre .1 .0)
+node-union-requires t c κs = (omega (arith, c .before .before .before .before .before .before .before .before .before .before .pre .0), c .before .before .before .before .before .before .before .before .before .before .pre .1 .0)
 
 node-enum-told-26 : (t : ℕ) → node-lts.Need-enum-told-26 (
-  is-copied-reads.Asked,
-  is-copied-reads.Learnt,
+  has-error-reads.Asked,
+  has-error-reads.Learnt,
   head-at-reads.Asked,
   head-at-reads.Learnt,
   skip-reads.Asked,
@@ -7471,8 +7472,8 @@ node-enum-told-26 : (t : ℕ) → node-lts.Need-enum-told-26 (
 node-enum-told-26 t c = search needs
 
 node-pass-requires : (t : ℕ) → node-lts.Need-pass-requires (
-  is-copied-reads.Asked,
-  is-copied-reads.Learnt,
+  has-error-reads.Asked,
+  has-error-reads.Learnt,
   head-at-reads.Asked,
   head-at-reads.Learnt,
   skip-reads.Asked,
@@ -7536,11 +7537,11 @@ node-pass-requires : (t : ℕ) → node-lts.Need-pass-requires (
   pass-below t,
   pass.Post,
 ) (node-at t) node.Post
-node-pass-requires t c κs = (omega (arith, c .before .before .before .before .before .before .before .before .pre .0), c .before .before .before .before .before .before .before .before .pre .1 .0)
+node-pass-requires t c κs = (omega (arith, c .before .before .before .before .before .before .before .before .before .before .pre .0), c .before .before .before .before .before .before .before .before .before .before .pre .1 .0)
 
 node-same-length-2 : (t : ℕ) → node-lts.Need-same-length-2 (
-  is-copied-reads.Asked,
-  is-copied-reads.Learnt,
+  has-error-reads.Asked,
+  has-error-reads.Learnt,
   head-at-reads.Asked,
   head-at-reads.Learnt,
   skip-reads.Asked,
@@ -7607,8 +7608,8 @@ node-same-length-2 : (t : ℕ) → node-lts.Need-same-length-2 (
 node-same-length-2 t c = c .before .before .file .kept .1 .1 .1 .1 .0
 
 node-returns-2 : (t : ℕ) → node-lts.Need-returns-2 (
-  is-copied-reads.Asked,
-  is-copied-reads.Learnt,
+  has-error-reads.Asked,
+  has-error-reads.Learnt,
   head-at-reads.Asked,
   head-at-reads.Learnt,
   skip-reads.Asked,
@@ -7673,11 +7674,11 @@ node-returns-2 : (t : ℕ) → node-lts.Need-returns-2 (
   pass.Post,
 ) (node-at t) node.Post
 unfolding armsOf
-node-returns-2 t c = node-by the-variants.File (c .before .before .before .before .before .before .before .before .before .before .before .pre .1 .1) (⊎-elim (λ w. scanned-as (w .1 .ensures) (w .2 .left)) (λ w. clean-node (c .before .before .before .before .before .before .before .before .before .before .before .pre .1 .0) (c .before .before .before .before .before .before .before .before .before .before .before .pre .1 .1) (w .left)) (c .before .before .before .before .before .before .before .if1 .came)) (sym (c .before .before .before .before .enum-told .given .1) ∙ c .before .before .before .before .before .before .routine-of .ensures) (c .before .before .file .ensures)
+node-returns-2 t c = node-by the-variants.File (c .before .before .before .before .before .before .before .before .before .before .before .before .before .pre .1 .1) (⊎-elim (λ w. decided-list (c .before .before .before .before .before .before .before .before .before .before .before .before .before .pre .1 .0) (c .before .before .before .before .before .before .before .before .before .before .before .before .before .pre .1 .1) (w .1 .left)) (λ w. decided-clean (c .before .before .before .before .before .before .before .before .before .before .before .before .before .pre .1 .0) (c .before .before .before .before .before .before .before .before .before .before .before .before .before .pre .1 .1) (c .before .before .before .before .before .before .before .before .has-error .ensures) (w .left)) (c .before .before .before .before .before .before .before .if1 .came)) (sym (c .before .before .before .before .enum-told .given .1) ∙ c .before .before .before .before .before .before .routine-of .ensures) (c .before .before .file .ensures)
 
 node-same-length-3 : (t : ℕ) → node-lts.Need-same-length-3 (
-  is-copied-reads.Asked,
-  is-copied-reads.Learnt,
+  has-error-reads.Asked,
+  has-error-reads.Learnt,
   head-at-reads.Asked,
   head-at-reads.Learnt,
   skip-reads.Asked,
@@ -7744,8 +7745,8 @@ node-same-length-3 : (t : ℕ) → node-lts.Need-same-length-3 (
 node-same-length-3 t c = c .before .before .queries .kept .1 .1 .1 .1 .0
 
 node-returns-3 : (t : ℕ) → node-lts.Need-returns-3 (
-  is-copied-reads.Asked,
-  is-copied-reads.Learnt,
+  has-error-reads.Asked,
+  has-error-reads.Learnt,
   head-at-reads.Asked,
   head-at-reads.Learnt,
   skip-reads.Asked,
@@ -7810,11 +7811,11 @@ node-returns-3 : (t : ℕ) → node-lts.Need-returns-3 (
   pass.Post,
 ) (node-at t) node.Post
 unfolding armsOf
-node-returns-3 t c = node-by the-variants.QueryList (c .before .before .before .before .before .before .before .before .before .before .before .pre .1 .1) (⊎-elim (λ w. scanned-as (w .1 .ensures) (w .2 .left)) (λ w. clean-node (c .before .before .before .before .before .before .before .before .before .before .before .pre .1 .0) (c .before .before .before .before .before .before .before .before .before .before .before .pre .1 .1) (w .left)) (c .before .before .before .before .before .before .before .if1 .came)) (sym (c .before .before .before .before .enum-told2 .given .1) ∙ c .before .before .before .before .before .before .routine-of .ensures) (c .before .before .queries .ensures)
+node-returns-3 t c = node-by the-variants.QueryList (c .before .before .before .before .before .before .before .before .before .before .before .before .before .pre .1 .1) (⊎-elim (λ w. decided-list (c .before .before .before .before .before .before .before .before .before .before .before .before .before .pre .1 .0) (c .before .before .before .before .before .before .before .before .before .before .before .before .before .pre .1 .1) (w .1 .left)) (λ w. decided-clean (c .before .before .before .before .before .before .before .before .before .before .before .before .before .pre .1 .0) (c .before .before .before .before .before .before .before .before .before .before .before .before .before .pre .1 .1) (c .before .before .before .before .before .before .before .before .has-error .ensures) (w .left)) (c .before .before .before .before .before .before .before .if1 .came)) (sym (c .before .before .before .before .enum-told2 .given .1) ∙ c .before .before .before .before .before .before .routine-of .ensures) (c .before .before .queries .ensures)
 
 node-same-length-4 : (t : ℕ) → node-lts.Need-same-length-4 (
-  is-copied-reads.Asked,
-  is-copied-reads.Learnt,
+  has-error-reads.Asked,
+  has-error-reads.Learnt,
   head-at-reads.Asked,
   head-at-reads.Learnt,
   skip-reads.Asked,
@@ -7881,8 +7882,8 @@ node-same-length-4 : (t : ℕ) → node-lts.Need-same-length-4 (
 node-same-length-4 t c = c .before .before .sel-stmt .kept .1 .1 .1 .1 .0
 
 node-returns-4 : (t : ℕ) → node-lts.Need-returns-4 (
-  is-copied-reads.Asked,
-  is-copied-reads.Learnt,
+  has-error-reads.Asked,
+  has-error-reads.Learnt,
   head-at-reads.Asked,
   head-at-reads.Learnt,
   skip-reads.Asked,
@@ -7947,11 +7948,11 @@ node-returns-4 : (t : ℕ) → node-lts.Need-returns-4 (
   pass.Post,
 ) (node-at t) node.Post
 unfolding armsOf
-node-returns-4 t c = node-by the-variants.SelectStatement (c .before .before .before .before .before .before .before .before .before .before .before .pre .1 .1) (⊎-elim (λ w. scanned-as (w .1 .ensures) (w .2 .left)) (λ w. clean-node (c .before .before .before .before .before .before .before .before .before .before .before .pre .1 .0) (c .before .before .before .before .before .before .before .before .before .before .before .pre .1 .1) (w .left)) (c .before .before .before .before .before .before .before .if1 .came)) (sym (c .before .before .before .before .enum-told3 .given .1) ∙ c .before .before .before .before .before .before .routine-of .ensures) (c .before .before .sel-stmt .ensures)
+node-returns-4 t c = node-by the-variants.SelectStatement (c .before .before .before .before .before .before .before .before .before .before .before .before .before .pre .1 .1) (⊎-elim (λ w. decided-list (c .before .before .before .before .before .before .before .before .before .before .before .before .before .pre .1 .0) (c .before .before .before .before .before .before .before .before .before .before .before .before .before .pre .1 .1) (w .1 .left)) (λ w. decided-clean (c .before .before .before .before .before .before .before .before .before .before .before .before .before .pre .1 .0) (c .before .before .before .before .before .before .before .before .before .before .before .before .before .pre .1 .1) (c .before .before .before .before .before .before .before .before .has-error .ensures) (w .left)) (c .before .before .before .before .before .before .before .if1 .came)) (sym (c .before .before .before .before .enum-told3 .given .1) ∙ c .before .before .before .before .before .before .routine-of .ensures) (c .before .before .sel-stmt .ensures)
 
 node-same-length-5 : (t : ℕ) → node-lts.Need-same-length-5 (
-  is-copied-reads.Asked,
-  is-copied-reads.Learnt,
+  has-error-reads.Asked,
+  has-error-reads.Learnt,
   head-at-reads.Asked,
   head-at-reads.Learnt,
   skip-reads.Asked,
@@ -8018,8 +8019,8 @@ node-same-length-5 : (t : ℕ) → node-lts.Need-same-length-5 (
 node-same-length-5 t c = c .before .before .select .kept .1 .1 .1 .1 .0
 
 node-returns-5 : (t : ℕ) → node-lts.Need-returns-5 (
-  is-copied-reads.Asked,
-  is-copied-reads.Learnt,
+  has-error-reads.Asked,
+  has-error-reads.Learnt,
   head-at-reads.Asked,
   head-at-reads.Learnt,
   skip-reads.Asked,
@@ -8084,11 +8085,11 @@ node-returns-5 : (t : ℕ) → node-lts.Need-returns-5 (
   pass.Post,
 ) (node-at t) node.Post
 unfolding armsOf
-node-returns-5 t c = node-by the-variants.SelectClause (c .before .before .before .before .before .before .before .before .before .before .before .pre .1 .1) (⊎-elim (λ w. scanned-as (w .1 .ensures) (w .2 .left)) (λ w. clean-node (c .before .before .before .before .before .before .before .before .before .before .before .pre .1 .0) (c .before .before .before .before .before .before .before .before .before .before .before .pre .1 .1) (w .left)) (c .before .before .before .before .before .before .before .if1 .came)) (sym (c .before .before .before .before .enum-told4 .given .1) ∙ c .before .before .before .before .before .before .routine-of .ensures) (c .before .before .select .ensures)
+node-returns-5 t c = node-by the-variants.SelectClause (c .before .before .before .before .before .before .before .before .before .before .before .before .before .pre .1 .1) (⊎-elim (λ w. decided-list (c .before .before .before .before .before .before .before .before .before .before .before .before .before .pre .1 .0) (c .before .before .before .before .before .before .before .before .before .before .before .before .before .pre .1 .1) (w .1 .left)) (λ w. decided-clean (c .before .before .before .before .before .before .before .before .before .before .before .before .before .pre .1 .0) (c .before .before .before .before .before .before .before .before .before .before .before .before .before .pre .1 .1) (c .before .before .before .before .before .before .before .before .has-error .ensures) (w .left)) (c .before .before .before .before .before .before .before .if1 .came)) (sym (c .before .before .before .before .enum-told4 .given .1) ∙ c .before .before .before .before .before .before .routine-of .ensures) (c .before .before .select .ensures)
 
 node-same-length-6 : (t : ℕ) → node-lts.Need-same-length-6 (
-  is-copied-reads.Asked,
-  is-copied-reads.Learnt,
+  has-error-reads.Asked,
+  has-error-reads.Learnt,
   head-at-reads.Asked,
   head-at-reads.Learnt,
   skip-reads.Asked,
@@ -8155,8 +8156,8 @@ node-same-length-6 : (t : ℕ) → node-lts.Need-same-length-6 (
 node-same-length-6 t c = c .before .before .simple .kept .1 .1 .1 .1 .0
 
 node-returns-6 : (t : ℕ) → node-lts.Need-returns-6 (
-  is-copied-reads.Asked,
-  is-copied-reads.Learnt,
+  has-error-reads.Asked,
+  has-error-reads.Learnt,
   head-at-reads.Asked,
   head-at-reads.Learnt,
   skip-reads.Asked,
@@ -8221,11 +8222,11 @@ node-returns-6 : (t : ℕ) → node-lts.Need-returns-6 (
   pass.Post,
 ) (node-at t) node.Post
 unfolding armsOf
-node-returns-6 t c = node-by the-variants.SimpleClause (c .before .before .before .before .before .before .before .before .before .before .before .pre .1 .1) (⊎-elim (λ w. scanned-as (w .1 .ensures) (w .2 .left)) (λ w. clean-node (c .before .before .before .before .before .before .before .before .before .before .before .pre .1 .0) (c .before .before .before .before .before .before .before .before .before .before .before .pre .1 .1) (w .left)) (c .before .before .before .before .before .before .before .if1 .came)) (sym (c .before .before .before .before .enum-told5 .given .1) ∙ c .before .before .before .before .before .before .routine-of .ensures) (c .before .before .simple .ensures)
+node-returns-6 t c = node-by the-variants.SimpleClause (c .before .before .before .before .before .before .before .before .before .before .before .before .before .pre .1 .1) (⊎-elim (λ w. decided-list (c .before .before .before .before .before .before .before .before .before .before .before .before .before .pre .1 .0) (c .before .before .before .before .before .before .before .before .before .before .before .before .before .pre .1 .1) (w .1 .left)) (λ w. decided-clean (c .before .before .before .before .before .before .before .before .before .before .before .before .before .pre .1 .0) (c .before .before .before .before .before .before .before .before .before .before .before .before .before .pre .1 .1) (c .before .before .before .before .before .before .before .before .has-error .ensures) (w .left)) (c .before .before .before .before .before .before .before .if1 .came)) (sym (c .before .before .before .before .enum-told5 .given .1) ∙ c .before .before .before .before .before .before .routine-of .ensures) (c .before .before .simple .ensures)
 
 node-same-length-7 : (t : ℕ) → node-lts.Need-same-length-7 (
-  is-copied-reads.Asked,
-  is-copied-reads.Learnt,
+  has-error-reads.Asked,
+  has-error-reads.Learnt,
   head-at-reads.Asked,
   head-at-reads.Learnt,
   skip-reads.Asked,
@@ -8292,8 +8293,8 @@ node-same-length-7 : (t : ℕ) → node-lts.Need-same-length-7 (
 node-same-length-7 t c = c .before .before .list-by .kept .1 .1 .1 .1 .0
 
 node-returns-7 : (t : ℕ) → node-lts.Need-returns-7 (
-  is-copied-reads.Asked,
-  is-copied-reads.Learnt,
+  has-error-reads.Asked,
+  has-error-reads.Learnt,
   head-at-reads.Asked,
   head-at-reads.Learnt,
   skip-reads.Asked,
@@ -8358,11 +8359,11 @@ node-returns-7 : (t : ℕ) → node-lts.Need-returns-7 (
   pass.Post,
 ) (node-at t) node.Post
 unfolding armsOf
-node-returns-7 t c = node-by (the-variants.ListClause _) (c .before .before .before .before .before .before .before .before .before .before .before .before .pre .1 .1) (⊎-elim (λ w. scanned-as (w .1 .ensures) (w .2 .left)) (λ w. clean-node (c .before .before .before .before .before .before .before .before .before .before .before .before .pre .1 .0) (c .before .before .before .before .before .before .before .before .before .before .before .before .pre .1 .1) (w .left)) (c .before .before .before .before .before .before .before .before .if1 .came)) (sym (c .before .before .before .before .before .r .given .1) ∙ c .before .before .before .before .before .before .before .routine-of .ensures) (c .before .before .list-by .ensures)
+node-returns-7 t c = node-by (the-variants.ListClause _) (c .before .before .before .before .before .before .before .before .before .before .before .before .before .before .pre .1 .1) (⊎-elim (λ w. decided-list (c .before .before .before .before .before .before .before .before .before .before .before .before .before .before .pre .1 .0) (c .before .before .before .before .before .before .before .before .before .before .before .before .before .before .pre .1 .1) (w .1 .left)) (λ w. decided-clean (c .before .before .before .before .before .before .before .before .before .before .before .before .before .before .pre .1 .0) (c .before .before .before .before .before .before .before .before .before .before .before .before .before .before .pre .1 .1) (c .before .before .before .before .before .before .before .before .before .has-error .ensures) (w .left)) (c .before .before .before .before .before .before .before .before .if1 .came)) (sym (c .before .before .before .before .before .r .given .1) ∙ c .before .before .before .before .before .before .before .routine-of .ensures) (c .before .before .list-by .ensures)
 
 node-same-length-8 : (t : ℕ) → node-lts.Need-same-length-8 (
-  is-copied-reads.Asked,
-  is-copied-reads.Learnt,
+  has-error-reads.Asked,
+  has-error-reads.Learnt,
   head-at-reads.Asked,
   head-at-reads.Learnt,
   skip-reads.Asked,
@@ -8429,8 +8430,8 @@ node-same-length-8 : (t : ℕ) → node-lts.Need-same-length-8 (
 node-same-length-8 t c = c .before .before .settings .kept .1 .1 .1 .1 .0
 
 node-returns-8 : (t : ℕ) → node-lts.Need-returns-8 (
-  is-copied-reads.Asked,
-  is-copied-reads.Learnt,
+  has-error-reads.Asked,
+  has-error-reads.Learnt,
   head-at-reads.Asked,
   head-at-reads.Learnt,
   skip-reads.Asked,
@@ -8495,11 +8496,11 @@ node-returns-8 : (t : ℕ) → node-lts.Need-returns-8 (
   pass.Post,
 ) (node-at t) node.Post
 unfolding armsOf
-node-returns-8 t c = node-by the-variants.SettingsClause (c .before .before .before .before .before .before .before .before .before .before .before .pre .1 .1) (⊎-elim (λ w. scanned-as (w .1 .ensures) (w .2 .left)) (λ w. clean-node (c .before .before .before .before .before .before .before .before .before .before .before .pre .1 .0) (c .before .before .before .before .before .before .before .before .before .before .before .pre .1 .1) (w .left)) (c .before .before .before .before .before .before .before .if1 .came)) (sym (c .before .before .before .before .enum-told6 .given .1) ∙ c .before .before .before .before .before .before .routine-of .ensures) (c .before .before .settings .ensures)
+node-returns-8 t c = node-by the-variants.SettingsClause (c .before .before .before .before .before .before .before .before .before .before .before .before .before .pre .1 .1) (⊎-elim (λ w. decided-list (c .before .before .before .before .before .before .before .before .before .before .before .before .before .pre .1 .0) (c .before .before .before .before .before .before .before .before .before .before .before .before .before .pre .1 .1) (w .1 .left)) (λ w. decided-clean (c .before .before .before .before .before .before .before .before .before .before .before .before .before .pre .1 .0) (c .before .before .before .before .before .before .before .before .before .before .before .before .before .pre .1 .1) (c .before .before .before .before .before .before .before .before .has-error .ensures) (w .left)) (c .before .before .before .before .before .before .before .if1 .came)) (sym (c .before .before .before .before .enum-told6 .given .1) ∙ c .before .before .before .before .before .before .routine-of .ensures) (c .before .before .settings .ensures)
 
 node-same-length-9 : (t : ℕ) → node-lts.Need-same-length-9 (
-  is-copied-reads.Asked,
-  is-copied-reads.Learnt,
+  has-error-reads.Asked,
+  has-error-reads.Learnt,
   head-at-reads.Asked,
   head-at-reads.Learnt,
   skip-reads.Asked,
@@ -8566,8 +8567,8 @@ node-same-length-9 : (t : ℕ) → node-lts.Need-same-length-9 (
 node-same-length-9 t c = c .before .before .with .kept .1 .1 .1 .1 .0
 
 node-returns-9 : (t : ℕ) → node-lts.Need-returns-9 (
-  is-copied-reads.Asked,
-  is-copied-reads.Learnt,
+  has-error-reads.Asked,
+  has-error-reads.Learnt,
   head-at-reads.Asked,
   head-at-reads.Learnt,
   skip-reads.Asked,
@@ -8632,11 +8633,11 @@ node-returns-9 : (t : ℕ) → node-lts.Need-returns-9 (
   pass.Post,
 ) (node-at t) node.Post
 unfolding armsOf
-node-returns-9 t c = node-by the-variants.WithClause (c .before .before .before .before .before .before .before .before .before .before .before .pre .1 .1) (⊎-elim (λ w. scanned-as (w .1 .ensures) (w .2 .left)) (λ w. clean-node (c .before .before .before .before .before .before .before .before .before .before .before .pre .1 .0) (c .before .before .before .before .before .before .before .before .before .before .before .pre .1 .1) (w .left)) (c .before .before .before .before .before .before .before .if1 .came)) (sym (c .before .before .before .before .enum-told7 .given .1) ∙ c .before .before .before .before .before .before .routine-of .ensures) (c .before .before .with .ensures)
+node-returns-9 t c = node-by the-variants.WithClause (c .before .before .before .before .before .before .before .before .before .before .before .before .before .pre .1 .1) (⊎-elim (λ w. decided-list (c .before .before .before .before .before .before .before .before .before .before .before .before .before .pre .1 .0) (c .before .before .before .before .before .before .before .before .before .before .before .before .before .pre .1 .1) (w .1 .left)) (λ w. decided-clean (c .before .before .before .before .before .before .before .before .before .before .before .before .before .pre .1 .0) (c .before .before .before .before .before .before .before .before .before .before .before .before .before .pre .1 .1) (c .before .before .before .before .before .before .before .before .has-error .ensures) (w .left)) (c .before .before .before .before .before .before .before .if1 .came)) (sym (c .before .before .before .before .enum-told7 .given .1) ∙ c .before .before .before .before .before .before .routine-of .ensures) (c .before .before .with .ensures)
 
 node-same-length-10 : (t : ℕ) → node-lts.Need-same-length-10 (
-  is-copied-reads.Asked,
-  is-copied-reads.Learnt,
+  has-error-reads.Asked,
+  has-error-reads.Learnt,
   head-at-reads.Asked,
   head-at-reads.Learnt,
   skip-reads.Asked,
@@ -8703,8 +8704,8 @@ node-same-length-10 : (t : ℕ) → node-lts.Need-same-length-10 (
 node-same-length-10 t c = c .before .before .join .kept .1 .1 .1 .1 .0
 
 node-returns-10 : (t : ℕ) → node-lts.Need-returns-10 (
-  is-copied-reads.Asked,
-  is-copied-reads.Learnt,
+  has-error-reads.Asked,
+  has-error-reads.Learnt,
   head-at-reads.Asked,
   head-at-reads.Learnt,
   skip-reads.Asked,
@@ -8769,11 +8770,11 @@ node-returns-10 : (t : ℕ) → node-lts.Need-returns-10 (
   pass.Post,
 ) (node-at t) node.Post
 unfolding armsOf
-node-returns-10 t c = node-by the-variants.JoinClause (c .before .before .before .before .before .before .before .before .before .before .before .pre .1 .1) (⊎-elim (λ w. scanned-as (w .1 .ensures) (w .2 .left)) (λ w. clean-node (c .before .before .before .before .before .before .before .before .before .before .before .pre .1 .0) (c .before .before .before .before .before .before .before .before .before .before .before .pre .1 .1) (w .left)) (c .before .before .before .before .before .before .before .if1 .came)) (sym (c .before .before .before .before .enum-told8 .given .1) ∙ c .before .before .before .before .before .before .routine-of .ensures) (c .before .before .join .ensures)
+node-returns-10 t c = node-by the-variants.JoinClause (c .before .before .before .before .before .before .before .before .before .before .before .before .before .pre .1 .1) (⊎-elim (λ w. decided-list (c .before .before .before .before .before .before .before .before .before .before .before .before .before .pre .1 .0) (c .before .before .before .before .before .before .before .before .before .before .before .before .before .pre .1 .1) (w .1 .left)) (λ w. decided-clean (c .before .before .before .before .before .before .before .before .before .before .before .before .before .pre .1 .0) (c .before .before .before .before .before .before .before .before .before .before .before .before .before .pre .1 .1) (c .before .before .before .before .before .before .before .before .has-error .ensures) (w .left)) (c .before .before .before .before .before .before .before .if1 .came)) (sym (c .before .before .before .before .enum-told8 .given .1) ∙ c .before .before .before .before .before .before .routine-of .ensures) (c .before .before .join .ensures)
 
 node-same-length-11 : (t : ℕ) → node-lts.Need-same-length-11 (
-  is-copied-reads.Asked,
-  is-copied-reads.Learnt,
+  has-error-reads.Asked,
+  has-error-reads.Learnt,
   head-at-reads.Asked,
   head-at-reads.Learnt,
   skip-reads.Asked,
@@ -8840,8 +8841,8 @@ node-same-length-11 : (t : ℕ) → node-lts.Need-same-length-11 (
 node-same-length-11 t c = c .before .before .inline .kept .1 .1 .1 .1 .0
 
 node-returns-11 : (t : ℕ) → node-lts.Need-returns-11 (
-  is-copied-reads.Asked,
-  is-copied-reads.Learnt,
+  has-error-reads.Asked,
+  has-error-reads.Learnt,
   head-at-reads.Asked,
   head-at-reads.Learnt,
   skip-reads.Asked,
@@ -8906,11 +8907,11 @@ node-returns-11 : (t : ℕ) → node-lts.Need-returns-11 (
   pass.Post,
 ) (node-at t) node.Post
 unfolding armsOf
-node-returns-11 t c = node-by the-variants.Inline (c .before .before .before .before .before .before .before .before .before .before .before .pre .1 .1) (⊎-elim (λ w. scanned-as (w .1 .ensures) (w .2 .left)) (λ w. clean-node (c .before .before .before .before .before .before .before .before .before .before .before .pre .1 .0) (c .before .before .before .before .before .before .before .before .before .before .before .pre .1 .1) (w .left)) (c .before .before .before .before .before .before .before .if1 .came)) (sym (c .before .before .before .before .enum-told9 .given .1) ∙ c .before .before .before .before .before .before .routine-of .ensures) (c .before .before .inline .ensures)
+node-returns-11 t c = node-by the-variants.Inline (c .before .before .before .before .before .before .before .before .before .before .before .before .before .pre .1 .1) (⊎-elim (λ w. decided-list (c .before .before .before .before .before .before .before .before .before .before .before .before .before .pre .1 .0) (c .before .before .before .before .before .before .before .before .before .before .before .before .before .pre .1 .1) (w .1 .left)) (λ w. decided-clean (c .before .before .before .before .before .before .before .before .before .before .before .before .before .pre .1 .0) (c .before .before .before .before .before .before .before .before .before .before .before .before .before .pre .1 .1) (c .before .before .before .before .before .before .before .before .has-error .ensures) (w .left)) (c .before .before .before .before .before .before .before .if1 .came)) (sym (c .before .before .before .before .enum-told9 .given .1) ∙ c .before .before .before .before .before .before .routine-of .ensures) (c .before .before .inline .ensures)
 
 node-same-length-12 : (t : ℕ) → node-lts.Need-same-length-12 (
-  is-copied-reads.Asked,
-  is-copied-reads.Learnt,
+  has-error-reads.Asked,
+  has-error-reads.Learnt,
   head-at-reads.Asked,
   head-at-reads.Learnt,
   skip-reads.Asked,
@@ -8977,8 +8978,8 @@ node-same-length-12 : (t : ℕ) → node-lts.Need-same-length-12 (
 node-same-length-12 t c = c .before .before .comma .kept .1 .1 .1 .1 .0
 
 node-returns-12 : (t : ℕ) → node-lts.Need-returns-12 (
-  is-copied-reads.Asked,
-  is-copied-reads.Learnt,
+  has-error-reads.Asked,
+  has-error-reads.Learnt,
   head-at-reads.Asked,
   head-at-reads.Learnt,
   skip-reads.Asked,
@@ -9043,11 +9044,11 @@ node-returns-12 : (t : ℕ) → node-lts.Need-returns-12 (
   pass.Post,
 ) (node-at t) node.Post
 unfolding armsOf
-node-returns-12 t c = node-by the-variants.CommaList (c .before .before .before .before .before .before .before .before .before .before .before .pre .1 .1) (⊎-elim (λ w. scanned-as (w .1 .ensures) (w .2 .left)) (λ w. clean-node (c .before .before .before .before .before .before .before .before .before .before .before .pre .1 .0) (c .before .before .before .before .before .before .before .before .before .before .before .pre .1 .1) (w .left)) (c .before .before .before .before .before .before .before .if1 .came)) (sym (c .before .before .before .before .enum-told10 .given .1) ∙ c .before .before .before .before .before .before .routine-of .ensures) (c .before .before .comma .ensures)
+node-returns-12 t c = node-by the-variants.CommaList (c .before .before .before .before .before .before .before .before .before .before .before .before .before .pre .1 .1) (⊎-elim (λ w. decided-list (c .before .before .before .before .before .before .before .before .before .before .before .before .before .pre .1 .0) (c .before .before .before .before .before .before .before .before .before .before .before .before .before .pre .1 .1) (w .1 .left)) (λ w. decided-clean (c .before .before .before .before .before .before .before .before .before .before .before .before .before .pre .1 .0) (c .before .before .before .before .before .before .before .before .before .before .before .before .before .pre .1 .1) (c .before .before .before .before .before .before .before .before .has-error .ensures) (w .left)) (c .before .before .before .before .before .before .before .if1 .came)) (sym (c .before .before .before .before .enum-told10 .given .1) ∙ c .before .before .before .before .before .before .routine-of .ensures) (c .before .before .comma .ensures)
 
 node-same-length-13 : (t : ℕ) → node-lts.Need-same-length-13 (
-  is-copied-reads.Asked,
-  is-copied-reads.Learnt,
+  has-error-reads.Asked,
+  has-error-reads.Learnt,
   head-at-reads.Asked,
   head-at-reads.Learnt,
   skip-reads.Asked,
@@ -9114,8 +9115,8 @@ node-same-length-13 : (t : ℕ) → node-lts.Need-same-length-13 (
 node-same-length-13 t c = c .before .before .inl-list .kept .1 .1 .1 .1 .0
 
 node-returns-13 : (t : ℕ) → node-lts.Need-returns-13 (
-  is-copied-reads.Asked,
-  is-copied-reads.Learnt,
+  has-error-reads.Asked,
+  has-error-reads.Learnt,
   head-at-reads.Asked,
   head-at-reads.Learnt,
   skip-reads.Asked,
@@ -9180,11 +9181,11 @@ node-returns-13 : (t : ℕ) → node-lts.Need-returns-13 (
   pass.Post,
 ) (node-at t) node.Post
 unfolding armsOf
-node-returns-13 t c = node-by the-variants.InlineCommaList (c .before .before .before .before .before .before .before .before .before .before .before .pre .1 .1) (⊎-elim (λ w. scanned-as (w .1 .ensures) (w .2 .left)) (λ w. clean-node (c .before .before .before .before .before .before .before .before .before .before .before .pre .1 .0) (c .before .before .before .before .before .before .before .before .before .before .before .pre .1 .1) (w .left)) (c .before .before .before .before .before .before .before .if1 .came)) (sym (c .before .before .before .before .enum-told11 .given .1) ∙ c .before .before .before .before .before .before .routine-of .ensures) (c .before .before .inl-list .ensures)
+node-returns-13 t c = node-by the-variants.InlineCommaList (c .before .before .before .before .before .before .before .before .before .before .before .before .before .pre .1 .1) (⊎-elim (λ w. decided-list (c .before .before .before .before .before .before .before .before .before .before .before .before .before .pre .1 .0) (c .before .before .before .before .before .before .before .before .before .before .before .before .before .pre .1 .1) (w .1 .left)) (λ w. decided-clean (c .before .before .before .before .before .before .before .before .before .before .before .before .before .pre .1 .0) (c .before .before .before .before .before .before .before .before .before .before .before .before .before .pre .1 .1) (c .before .before .before .before .before .before .before .before .has-error .ensures) (w .left)) (c .before .before .before .before .before .before .before .if1 .came)) (sym (c .before .before .before .before .enum-told11 .given .1) ∙ c .before .before .before .before .before .before .routine-of .ensures) (c .before .before .inl-list .ensures)
 
 node-same-length-14 : (t : ℕ) → node-lts.Need-same-length-14 (
-  is-copied-reads.Asked,
-  is-copied-reads.Learnt,
+  has-error-reads.Asked,
+  has-error-reads.Learnt,
   head-at-reads.Asked,
   head-at-reads.Learnt,
   skip-reads.Asked,
@@ -9251,8 +9252,8 @@ node-same-length-14 : (t : ℕ) → node-lts.Need-same-length-14 (
 node-same-length-14 t c = c .before .before .binary .kept .1 .1 .1 .1 .0
 
 node-returns-14 : (t : ℕ) → node-lts.Need-returns-14 (
-  is-copied-reads.Asked,
-  is-copied-reads.Learnt,
+  has-error-reads.Asked,
+  has-error-reads.Learnt,
   head-at-reads.Asked,
   head-at-reads.Learnt,
   skip-reads.Asked,
@@ -9317,11 +9318,11 @@ node-returns-14 : (t : ℕ) → node-lts.Need-returns-14 (
   pass.Post,
 ) (node-at t) node.Post
 unfolding armsOf
-node-returns-14 t c = node-by the-variants.BinaryExpression (c .before .before .before .before .before .before .before .before .before .before .before .pre .1 .1) (⊎-elim (λ w. scanned-as (w .1 .ensures) (w .2 .left)) (λ w. clean-node (c .before .before .before .before .before .before .before .before .before .before .before .pre .1 .0) (c .before .before .before .before .before .before .before .before .before .before .before .pre .1 .1) (w .left)) (c .before .before .before .before .before .before .before .if1 .came)) (sym (c .before .before .before .before .enum-told12 .given .1) ∙ c .before .before .before .before .before .before .routine-of .ensures) (c .before .before .binary .ensures)
+node-returns-14 t c = node-by the-variants.BinaryExpression (c .before .before .before .before .before .before .before .before .before .before .before .before .before .pre .1 .1) (⊎-elim (λ w. decided-list (c .before .before .before .before .before .before .before .before .before .before .before .before .before .pre .1 .0) (c .before .before .before .before .before .before .before .before .before .before .before .before .before .pre .1 .1) (w .1 .left)) (λ w. decided-clean (c .before .before .before .before .before .before .before .before .before .before .before .before .before .pre .1 .0) (c .before .before .before .before .before .before .before .before .before .before .before .before .before .pre .1 .1) (c .before .before .before .before .before .before .before .before .has-error .ensures) (w .left)) (c .before .before .before .before .before .before .before .if1 .came)) (sym (c .before .before .before .before .enum-told12 .given .1) ∙ c .before .before .before .before .before .before .routine-of .ensures) (c .before .before .binary .ensures)
 
 node-same-length-15 : (t : ℕ) → node-lts.Need-same-length-15 (
-  is-copied-reads.Asked,
-  is-copied-reads.Learnt,
+  has-error-reads.Asked,
+  has-error-reads.Learnt,
   head-at-reads.Asked,
   head-at-reads.Learnt,
   skip-reads.Asked,
@@ -9388,8 +9389,8 @@ node-same-length-15 : (t : ℕ) → node-lts.Need-same-length-15 (
 node-same-length-15 t c = c .before .before .unary .kept .1 .1 .1 .1 .0
 
 node-returns-15 : (t : ℕ) → node-lts.Need-returns-15 (
-  is-copied-reads.Asked,
-  is-copied-reads.Learnt,
+  has-error-reads.Asked,
+  has-error-reads.Learnt,
   head-at-reads.Asked,
   head-at-reads.Learnt,
   skip-reads.Asked,
@@ -9454,11 +9455,11 @@ node-returns-15 : (t : ℕ) → node-lts.Need-returns-15 (
   pass.Post,
 ) (node-at t) node.Post
 unfolding armsOf
-node-returns-15 t c = node-by the-variants.UnaryExpression (c .before .before .before .before .before .before .before .before .before .before .before .pre .1 .1) (⊎-elim (λ w. scanned-as (w .1 .ensures) (w .2 .left)) (λ w. clean-node (c .before .before .before .before .before .before .before .before .before .before .before .pre .1 .0) (c .before .before .before .before .before .before .before .before .before .before .before .pre .1 .1) (w .left)) (c .before .before .before .before .before .before .before .if1 .came)) (sym (c .before .before .before .before .enum-told13 .given .1) ∙ c .before .before .before .before .before .before .routine-of .ensures) (c .before .before .unary .ensures)
+node-returns-15 t c = node-by the-variants.UnaryExpression (c .before .before .before .before .before .before .before .before .before .before .before .before .before .pre .1 .1) (⊎-elim (λ w. decided-list (c .before .before .before .before .before .before .before .before .before .before .before .before .before .pre .1 .0) (c .before .before .before .before .before .before .before .before .before .before .before .before .before .pre .1 .1) (w .1 .left)) (λ w. decided-clean (c .before .before .before .before .before .before .before .before .before .before .before .before .before .pre .1 .0) (c .before .before .before .before .before .before .before .before .before .before .before .before .before .pre .1 .1) (c .before .before .before .before .before .before .before .before .has-error .ensures) (w .left)) (c .before .before .before .before .before .before .before .if1 .came)) (sym (c .before .before .before .before .enum-told13 .given .1) ∙ c .before .before .before .before .before .before .routine-of .ensures) (c .before .before .unary .ensures)
 
 node-same-length-16 : (t : ℕ) → node-lts.Need-same-length-16 (
-  is-copied-reads.Asked,
-  is-copied-reads.Learnt,
+  has-error-reads.Asked,
+  has-error-reads.Learnt,
   head-at-reads.Asked,
   head-at-reads.Learnt,
   skip-reads.Asked,
@@ -9525,8 +9526,8 @@ node-same-length-16 : (t : ℕ) → node-lts.Need-same-length-16 (
 node-same-length-16 t c = c .before .before .call .kept .1 .1 .1 .1 .0
 
 node-returns-16 : (t : ℕ) → node-lts.Need-returns-16 (
-  is-copied-reads.Asked,
-  is-copied-reads.Learnt,
+  has-error-reads.Asked,
+  has-error-reads.Learnt,
   head-at-reads.Asked,
   head-at-reads.Learnt,
   skip-reads.Asked,
@@ -9591,11 +9592,11 @@ node-returns-16 : (t : ℕ) → node-lts.Need-returns-16 (
   pass.Post,
 ) (node-at t) node.Post
 unfolding armsOf
-node-returns-16 t c = node-by the-variants.FunctionCall (c .before .before .before .before .before .before .before .before .before .before .before .pre .1 .1) (⊎-elim (λ w. scanned-as (w .1 .ensures) (w .2 .left)) (λ w. clean-node (c .before .before .before .before .before .before .before .before .before .before .before .pre .1 .0) (c .before .before .before .before .before .before .before .before .before .before .before .pre .1 .1) (w .left)) (c .before .before .before .before .before .before .before .if1 .came)) (sym (c .before .before .before .before .enum-told14 .given .1) ∙ c .before .before .before .before .before .before .routine-of .ensures) (c .before .before .call .ensures)
+node-returns-16 t c = node-by the-variants.FunctionCall (c .before .before .before .before .before .before .before .before .before .before .before .before .before .pre .1 .1) (⊎-elim (λ w. decided-list (c .before .before .before .before .before .before .before .before .before .before .before .before .before .pre .1 .0) (c .before .before .before .before .before .before .before .before .before .before .before .before .before .pre .1 .1) (w .1 .left)) (λ w. decided-clean (c .before .before .before .before .before .before .before .before .before .before .before .before .before .pre .1 .0) (c .before .before .before .before .before .before .before .before .before .before .before .before .before .pre .1 .1) (c .before .before .before .before .before .before .before .before .has-error .ensures) (w .left)) (c .before .before .before .before .before .before .before .if1 .came)) (sym (c .before .before .before .before .enum-told14 .given .1) ∙ c .before .before .before .before .before .before .routine-of .ensures) (c .before .before .call .ensures)
 
 node-same-length-17 : (t : ℕ) → node-lts.Need-same-length-17 (
-  is-copied-reads.Asked,
-  is-copied-reads.Learnt,
+  has-error-reads.Asked,
+  has-error-reads.Learnt,
   head-at-reads.Asked,
   head-at-reads.Learnt,
   skip-reads.Asked,
@@ -9662,8 +9663,8 @@ node-same-length-17 : (t : ℕ) → node-lts.Need-same-length-17 (
 node-same-length-17 t c = c .before .before .case .kept .1 .1 .1 .1 .0
 
 node-returns-17 : (t : ℕ) → node-lts.Need-returns-17 (
-  is-copied-reads.Asked,
-  is-copied-reads.Learnt,
+  has-error-reads.Asked,
+  has-error-reads.Learnt,
   head-at-reads.Asked,
   head-at-reads.Learnt,
   skip-reads.Asked,
@@ -9728,11 +9729,11 @@ node-returns-17 : (t : ℕ) → node-lts.Need-returns-17 (
   pass.Post,
 ) (node-at t) node.Post
 unfolding armsOf
-node-returns-17 t c = node-by the-variants.CaseExpression (c .before .before .before .before .before .before .before .before .before .before .before .pre .1 .1) (⊎-elim (λ w. scanned-as (w .1 .ensures) (w .2 .left)) (λ w. clean-node (c .before .before .before .before .before .before .before .before .before .before .before .pre .1 .0) (c .before .before .before .before .before .before .before .before .before .before .before .pre .1 .1) (w .left)) (c .before .before .before .before .before .before .before .if1 .came)) (sym (c .before .before .before .before .enum-told15 .given .1) ∙ c .before .before .before .before .before .before .routine-of .ensures) (c .before .before .case .ensures)
+node-returns-17 t c = node-by the-variants.CaseExpression (c .before .before .before .before .before .before .before .before .before .before .before .before .before .pre .1 .1) (⊎-elim (λ w. decided-list (c .before .before .before .before .before .before .before .before .before .before .before .before .before .pre .1 .0) (c .before .before .before .before .before .before .before .before .before .before .before .before .before .pre .1 .1) (w .1 .left)) (λ w. decided-clean (c .before .before .before .before .before .before .before .before .before .before .before .before .before .pre .1 .0) (c .before .before .before .before .before .before .before .before .before .before .before .before .before .pre .1 .1) (c .before .before .before .before .before .before .before .before .has-error .ensures) (w .left)) (c .before .before .before .before .before .before .before .if1 .came)) (sym (c .before .before .before .before .enum-told15 .given .1) ∙ c .before .before .before .before .before .before .routine-of .ensures) (c .before .before .case .ensures)
 
 node-same-length-18 : (t : ℕ) → node-lts.Need-same-length-18 (
-  is-copied-reads.Asked,
-  is-copied-reads.Learnt,
+  has-error-reads.Asked,
+  has-error-reads.Learnt,
   head-at-reads.Asked,
   head-at-reads.Learnt,
   skip-reads.Asked,
@@ -9799,8 +9800,8 @@ node-same-length-18 : (t : ℕ) → node-lts.Need-same-length-18 (
 node-same-length-18 t c = c .before .before .when .kept .1 .1 .1 .1 .0
 
 node-returns-18 : (t : ℕ) → node-lts.Need-returns-18 (
-  is-copied-reads.Asked,
-  is-copied-reads.Learnt,
+  has-error-reads.Asked,
+  has-error-reads.Learnt,
   head-at-reads.Asked,
   head-at-reads.Learnt,
   skip-reads.Asked,
@@ -9865,11 +9866,11 @@ node-returns-18 : (t : ℕ) → node-lts.Need-returns-18 (
   pass.Post,
 ) (node-at t) node.Post
 unfolding armsOf
-node-returns-18 t c = node-by the-variants.WhenClause (c .before .before .before .before .before .before .before .before .before .before .before .pre .1 .1) (⊎-elim (λ w. scanned-as (w .1 .ensures) (w .2 .left)) (λ w. clean-node (c .before .before .before .before .before .before .before .before .before .before .before .pre .1 .0) (c .before .before .before .before .before .before .before .before .before .before .before .pre .1 .1) (w .left)) (c .before .before .before .before .before .before .before .if1 .came)) (sym (c .before .before .before .before .enum-told16 .given .1) ∙ c .before .before .before .before .before .before .routine-of .ensures) (c .before .before .when .ensures)
+node-returns-18 t c = node-by the-variants.WhenClause (c .before .before .before .before .before .before .before .before .before .before .before .before .before .pre .1 .1) (⊎-elim (λ w. decided-list (c .before .before .before .before .before .before .before .before .before .before .before .before .before .pre .1 .0) (c .before .before .before .before .before .before .before .before .before .before .before .before .before .pre .1 .1) (w .1 .left)) (λ w. decided-clean (c .before .before .before .before .before .before .before .before .before .before .before .before .before .pre .1 .0) (c .before .before .before .before .before .before .before .before .before .before .before .before .before .pre .1 .1) (c .before .before .before .before .before .before .before .before .has-error .ensures) (w .left)) (c .before .before .before .before .before .before .before .if1 .came)) (sym (c .before .before .before .before .enum-told16 .given .1) ∙ c .before .before .before .before .before .before .routine-of .ensures) (c .before .before .when .ensures)
 
 node-same-length-19 : (t : ℕ) → node-lts.Need-same-length-19 (
-  is-copied-reads.Asked,
-  is-copied-reads.Learnt,
+  has-error-reads.Asked,
+  has-error-reads.Learnt,
   head-at-reads.Asked,
   head-at-reads.Learnt,
   skip-reads.Asked,
@@ -9936,8 +9937,8 @@ node-same-length-19 : (t : ℕ) → node-lts.Need-same-length-19 (
 node-same-length-19 t c = c .before .before .subquery .kept .1 .1 .1 .1 .0
 
 node-returns-19 : (t : ℕ) → node-lts.Need-returns-19 (
-  is-copied-reads.Asked,
-  is-copied-reads.Learnt,
+  has-error-reads.Asked,
+  has-error-reads.Learnt,
   head-at-reads.Asked,
   head-at-reads.Learnt,
   skip-reads.Asked,
@@ -10002,11 +10003,11 @@ node-returns-19 : (t : ℕ) → node-lts.Need-returns-19 (
   pass.Post,
 ) (node-at t) node.Post
 unfolding armsOf
-node-returns-19 t c = node-by the-variants.Subquery (c .before .before .before .before .before .before .before .before .before .before .before .pre .1 .1) (⊎-elim (λ w. scanned-as (w .1 .ensures) (w .2 .left)) (λ w. clean-node (c .before .before .before .before .before .before .before .before .before .before .before .pre .1 .0) (c .before .before .before .before .before .before .before .before .before .before .before .pre .1 .1) (w .left)) (c .before .before .before .before .before .before .before .if1 .came)) (sym (c .before .before .before .before .enum-told17 .given .1) ∙ c .before .before .before .before .before .before .routine-of .ensures) (c .before .before .subquery .ensures)
+node-returns-19 t c = node-by the-variants.Subquery (c .before .before .before .before .before .before .before .before .before .before .before .before .before .pre .1 .1) (⊎-elim (λ w. decided-list (c .before .before .before .before .before .before .before .before .before .before .before .before .before .pre .1 .0) (c .before .before .before .before .before .before .before .before .before .before .before .before .before .pre .1 .1) (w .1 .left)) (λ w. decided-clean (c .before .before .before .before .before .before .before .before .before .before .before .before .before .pre .1 .0) (c .before .before .before .before .before .before .before .before .before .before .before .before .before .pre .1 .1) (c .before .before .before .before .before .before .before .before .has-error .ensures) (w .left)) (c .before .before .before .before .before .before .before .if1 .came)) (sym (c .before .before .before .before .enum-told17 .given .1) ∙ c .before .before .before .before .before .before .routine-of .ensures) (c .before .before .subquery .ensures)
 
 node-same-length-20 : (t : ℕ) → node-lts.Need-same-length-20 (
-  is-copied-reads.Asked,
-  is-copied-reads.Learnt,
+  has-error-reads.Asked,
+  has-error-reads.Learnt,
   head-at-reads.Asked,
   head-at-reads.Learnt,
   skip-reads.Asked,
@@ -10073,8 +10074,8 @@ node-same-length-20 : (t : ℕ) → node-lts.Need-same-length-20 (
 node-same-length-20 t c = c .before .before .paren .kept .1 .1 .1 .1 .0
 
 node-returns-20 : (t : ℕ) → node-lts.Need-returns-20 (
-  is-copied-reads.Asked,
-  is-copied-reads.Learnt,
+  has-error-reads.Asked,
+  has-error-reads.Learnt,
   head-at-reads.Asked,
   head-at-reads.Learnt,
   skip-reads.Asked,
@@ -10139,11 +10140,11 @@ node-returns-20 : (t : ℕ) → node-lts.Need-returns-20 (
   pass.Post,
 ) (node-at t) node.Post
 unfolding armsOf
-node-returns-20 t c = node-by the-variants.ParenList (c .before .before .before .before .before .before .before .before .before .before .before .pre .1 .1) (⊎-elim (λ w. scanned-as (w .1 .ensures) (w .2 .left)) (λ w. clean-node (c .before .before .before .before .before .before .before .before .before .before .before .pre .1 .0) (c .before .before .before .before .before .before .before .before .before .before .before .pre .1 .1) (w .left)) (c .before .before .before .before .before .before .before .if1 .came)) (sym (c .before .before .before .before .enum-told18 .given .1) ∙ c .before .before .before .before .before .before .routine-of .ensures) (c .before .before .paren .ensures)
+node-returns-20 t c = node-by the-variants.ParenList (c .before .before .before .before .before .before .before .before .before .before .before .before .before .pre .1 .1) (⊎-elim (λ w. decided-list (c .before .before .before .before .before .before .before .before .before .before .before .before .before .pre .1 .0) (c .before .before .before .before .before .before .before .before .before .before .before .before .before .pre .1 .1) (w .1 .left)) (λ w. decided-clean (c .before .before .before .before .before .before .before .before .before .before .before .before .before .pre .1 .0) (c .before .before .before .before .before .before .before .before .before .before .before .before .before .pre .1 .1) (c .before .before .before .before .before .before .before .before .has-error .ensures) (w .left)) (c .before .before .before .before .before .before .before .if1 .came)) (sym (c .before .before .before .before .enum-told18 .given .1) ∙ c .before .before .before .before .before .before .routine-of .ensures) (c .before .before .paren .ensures)
 
 node-same-length-21 : (t : ℕ) → node-lts.Need-same-length-21 (
-  is-copied-reads.Asked,
-  is-copied-reads.Learnt,
+  has-error-reads.Asked,
+  has-error-reads.Learnt,
   head-at-reads.Asked,
   head-at-reads.Learnt,
   skip-reads.Asked,
@@ -10210,8 +10211,8 @@ node-same-length-21 : (t : ℕ) → node-lts.Need-same-length-21 (
 node-same-length-21 t c = c .before .before .bracket .kept .1 .1 .1 .1 .0
 
 node-returns-21 : (t : ℕ) → node-lts.Need-returns-21 (
-  is-copied-reads.Asked,
-  is-copied-reads.Learnt,
+  has-error-reads.Asked,
+  has-error-reads.Learnt,
   head-at-reads.Asked,
   head-at-reads.Learnt,
   skip-reads.Asked,
@@ -10276,11 +10277,11 @@ node-returns-21 : (t : ℕ) → node-lts.Need-returns-21 (
   pass.Post,
 ) (node-at t) node.Post
 unfolding armsOf
-node-returns-21 t c = node-by the-variants.BracketList (c .before .before .before .before .before .before .before .before .before .before .before .pre .1 .1) (⊎-elim (λ w. scanned-as (w .1 .ensures) (w .2 .left)) (λ w. clean-node (c .before .before .before .before .before .before .before .before .before .before .before .pre .1 .0) (c .before .before .before .before .before .before .before .before .before .before .before .pre .1 .1) (w .left)) (c .before .before .before .before .before .before .before .if1 .came)) (sym (c .before .before .before .before .enum-told19 .given .1) ∙ c .before .before .before .before .before .before .routine-of .ensures) (c .before .before .bracket .ensures)
+node-returns-21 t c = node-by the-variants.BracketList (c .before .before .before .before .before .before .before .before .before .before .before .before .before .pre .1 .1) (⊎-elim (λ w. decided-list (c .before .before .before .before .before .before .before .before .before .before .before .before .before .pre .1 .0) (c .before .before .before .before .before .before .before .before .before .before .before .before .before .pre .1 .1) (w .1 .left)) (λ w. decided-clean (c .before .before .before .before .before .before .before .before .before .before .before .before .before .pre .1 .0) (c .before .before .before .before .before .before .before .before .before .before .before .before .before .pre .1 .1) (c .before .before .before .before .before .before .before .before .has-error .ensures) (w .left)) (c .before .before .before .before .before .before .before .if1 .came)) (sym (c .before .before .before .before .enum-told19 .given .1) ∙ c .before .before .before .before .before .before .routine-of .ensures) (c .before .before .bracket .ensures)
 
 node-same-length-22 : (t : ℕ) → node-lts.Need-same-length-22 (
-  is-copied-reads.Asked,
-  is-copied-reads.Learnt,
+  has-error-reads.Asked,
+  has-error-reads.Learnt,
   head-at-reads.Asked,
   head-at-reads.Learnt,
   skip-reads.Asked,
@@ -10347,8 +10348,8 @@ node-same-length-22 : (t : ℕ) → node-lts.Need-same-length-22 (
 node-same-length-22 t c = c .before .before .no-spaces .kept .1 .1 .1 .1 .0
 
 node-returns-22 : (t : ℕ) → node-lts.Need-returns-22 (
-  is-copied-reads.Asked,
-  is-copied-reads.Learnt,
+  has-error-reads.Asked,
+  has-error-reads.Learnt,
   head-at-reads.Asked,
   head-at-reads.Learnt,
   skip-reads.Asked,
@@ -10413,11 +10414,11 @@ node-returns-22 : (t : ℕ) → node-lts.Need-returns-22 (
   pass.Post,
 ) (node-at t) node.Post
 unfolding armsOf
-node-returns-22 t c = node-by the-variants.InlineNoSpaces (c .before .before .before .before .before .before .before .before .before .before .before .pre .1 .1) (⊎-elim (λ w. scanned-as (w .1 .ensures) (w .2 .left)) (λ w. clean-node (c .before .before .before .before .before .before .before .before .before .before .before .pre .1 .0) (c .before .before .before .before .before .before .before .before .before .before .before .pre .1 .1) (w .left)) (c .before .before .before .before .before .before .before .if1 .came)) (sym (c .before .before .before .before .enum-told20 .given .1) ∙ c .before .before .before .before .before .before .routine-of .ensures) (c .before .before .no-spaces .ensures)
+node-returns-22 t c = node-by the-variants.InlineNoSpaces (c .before .before .before .before .before .before .before .before .before .before .before .before .before .pre .1 .1) (⊎-elim (λ w. decided-list (c .before .before .before .before .before .before .before .before .before .before .before .before .before .pre .1 .0) (c .before .before .before .before .before .before .before .before .before .before .before .before .before .pre .1 .1) (w .1 .left)) (λ w. decided-clean (c .before .before .before .before .before .before .before .before .before .before .before .before .before .pre .1 .0) (c .before .before .before .before .before .before .before .before .before .before .before .before .before .pre .1 .1) (c .before .before .before .before .before .before .before .before .has-error .ensures) (w .left)) (c .before .before .before .before .before .before .before .if1 .came)) (sym (c .before .before .before .before .enum-told20 .given .1) ∙ c .before .before .before .before .before .before .routine-of .ensures) (c .before .before .no-spaces .ensures)
 
 node-same-length-23 : (t : ℕ) → node-lts.Need-same-length-23 (
-  is-copied-reads.Asked,
-  is-copied-reads.Learnt,
+  has-error-reads.Asked,
+  has-error-reads.Learnt,
   head-at-reads.Asked,
   head-at-reads.Learnt,
   skip-reads.Asked,
@@ -10484,8 +10485,8 @@ node-same-length-23 : (t : ℕ) → node-lts.Need-same-length-23 (
 node-same-length-23 t c = c .before .before .brace .kept .1 .1 .1 .1 .0
 
 node-returns-23 : (t : ℕ) → node-lts.Need-returns-23 (
-  is-copied-reads.Asked,
-  is-copied-reads.Learnt,
+  has-error-reads.Asked,
+  has-error-reads.Learnt,
   head-at-reads.Asked,
   head-at-reads.Learnt,
   skip-reads.Asked,
@@ -10550,11 +10551,11 @@ node-returns-23 : (t : ℕ) → node-lts.Need-returns-23 (
   pass.Post,
 ) (node-at t) node.Post
 unfolding armsOf
-node-returns-23 t c = node-by the-variants.BraceList (c .before .before .before .before .before .before .before .before .before .before .before .pre .1 .1) (⊎-elim (λ w. scanned-as (w .1 .ensures) (w .2 .left)) (λ w. clean-node (c .before .before .before .before .before .before .before .before .before .before .before .pre .1 .0) (c .before .before .before .before .before .before .before .before .before .before .before .pre .1 .1) (w .left)) (c .before .before .before .before .before .before .before .if1 .came)) (sym (c .before .before .before .before .enum-told21 .given .1) ∙ c .before .before .before .before .before .before .routine-of .ensures) (c .before .before .brace .ensures)
+node-returns-23 t c = node-by the-variants.BraceList (c .before .before .before .before .before .before .before .before .before .before .before .before .before .pre .1 .1) (⊎-elim (λ w. decided-list (c .before .before .before .before .before .before .before .before .before .before .before .before .before .pre .1 .0) (c .before .before .before .before .before .before .before .before .before .before .before .before .before .pre .1 .1) (w .1 .left)) (λ w. decided-clean (c .before .before .before .before .before .before .before .before .before .before .before .before .before .pre .1 .0) (c .before .before .before .before .before .before .before .before .before .before .before .before .before .pre .1 .1) (c .before .before .before .before .before .before .before .before .has-error .ensures) (w .left)) (c .before .before .before .before .before .before .before .if1 .came)) (sym (c .before .before .before .before .enum-told21 .given .1) ∙ c .before .before .before .before .before .before .routine-of .ensures) (c .before .before .brace .ensures)
 
 node-same-length-24 : (t : ℕ) → node-lts.Need-same-length-24 (
-  is-copied-reads.Asked,
-  is-copied-reads.Learnt,
+  has-error-reads.Asked,
+  has-error-reads.Learnt,
   head-at-reads.Asked,
   head-at-reads.Learnt,
   skip-reads.Asked,
@@ -10621,8 +10622,8 @@ node-same-length-24 : (t : ℕ) → node-lts.Need-same-length-24 (
 node-same-length-24 t c = c .before .before .dtype .kept .1 .1 .1 .1 .0
 
 node-returns-24 : (t : ℕ) → node-lts.Need-returns-24 (
-  is-copied-reads.Asked,
-  is-copied-reads.Learnt,
+  has-error-reads.Asked,
+  has-error-reads.Learnt,
   head-at-reads.Asked,
   head-at-reads.Learnt,
   skip-reads.Asked,
@@ -10687,11 +10688,11 @@ node-returns-24 : (t : ℕ) → node-lts.Need-returns-24 (
   pass.Post,
 ) (node-at t) node.Post
 unfolding armsOf
-node-returns-24 t c = node-by the-variants.DataType (c .before .before .before .before .before .before .before .before .before .before .before .pre .1 .1) (⊎-elim (λ w. scanned-as (w .1 .ensures) (w .2 .left)) (λ w. clean-node (c .before .before .before .before .before .before .before .before .before .before .before .pre .1 .0) (c .before .before .before .before .before .before .before .before .before .before .before .pre .1 .1) (w .left)) (c .before .before .before .before .before .before .before .if1 .came)) (sym (c .before .before .before .before .enum-told22 .given .1) ∙ c .before .before .before .before .before .before .routine-of .ensures) (c .before .before .dtype .ensures)
+node-returns-24 t c = node-by the-variants.DataType (c .before .before .before .before .before .before .before .before .before .before .before .before .before .pre .1 .1) (⊎-elim (λ w. decided-list (c .before .before .before .before .before .before .before .before .before .before .before .before .before .pre .1 .0) (c .before .before .before .before .before .before .before .before .before .before .before .before .before .pre .1 .1) (w .1 .left)) (λ w. decided-clean (c .before .before .before .before .before .before .before .before .before .before .before .before .before .pre .1 .0) (c .before .before .before .before .before .before .before .before .before .before .before .before .before .pre .1 .1) (c .before .before .before .before .before .before .before .before .has-error .ensures) (w .left)) (c .before .before .before .before .before .before .before .if1 .came)) (sym (c .before .before .before .before .enum-told22 .given .1) ∙ c .before .before .before .before .before .before .routine-of .ensures) (c .before .before .dtype .ensures)
 
 node-same-length-25 : (t : ℕ) → node-lts.Need-same-length-25 (
-  is-copied-reads.Asked,
-  is-copied-reads.Learnt,
+  has-error-reads.Asked,
+  has-error-reads.Learnt,
   head-at-reads.Asked,
   head-at-reads.Learnt,
   skip-reads.Asked,
@@ -10758,8 +10759,8 @@ node-same-length-25 : (t : ℕ) → node-lts.Need-same-length-25 (
 node-same-length-25 t c = c .before .before .tight-paren .kept .1 .1 .1 .1 .0
 
 node-returns-25 : (t : ℕ) → node-lts.Need-returns-25 (
-  is-copied-reads.Asked,
-  is-copied-reads.Learnt,
+  has-error-reads.Asked,
+  has-error-reads.Learnt,
   head-at-reads.Asked,
   head-at-reads.Learnt,
   skip-reads.Asked,
@@ -10824,11 +10825,11 @@ node-returns-25 : (t : ℕ) → node-lts.Need-returns-25 (
   pass.Post,
 ) (node-at t) node.Post
 unfolding armsOf
-node-returns-25 t c = node-by the-variants.InlineTightParens (c .before .before .before .before .before .before .before .before .before .before .before .pre .1 .1) (⊎-elim (λ w. scanned-as (w .1 .ensures) (w .2 .left)) (λ w. clean-node (c .before .before .before .before .before .before .before .before .before .before .before .pre .1 .0) (c .before .before .before .before .before .before .before .before .before .before .before .pre .1 .1) (w .left)) (c .before .before .before .before .before .before .before .if1 .came)) (sym (c .before .before .before .before .enum-told23 .given .1) ∙ c .before .before .before .before .before .before .routine-of .ensures) (c .before .before .tight-paren .ensures)
+node-returns-25 t c = node-by the-variants.InlineTightParens (c .before .before .before .before .before .before .before .before .before .before .before .before .before .pre .1 .1) (⊎-elim (λ w. decided-list (c .before .before .before .before .before .before .before .before .before .before .before .before .before .pre .1 .0) (c .before .before .before .before .before .before .before .before .before .before .before .before .before .pre .1 .1) (w .1 .left)) (λ w. decided-clean (c .before .before .before .before .before .before .before .before .before .before .before .before .before .pre .1 .0) (c .before .before .before .before .before .before .before .before .before .before .before .before .before .pre .1 .1) (c .before .before .before .before .before .before .before .before .has-error .ensures) (w .left)) (c .before .before .before .before .before .before .before .if1 .came)) (sym (c .before .before .before .before .enum-told23 .given .1) ∙ c .before .before .before .before .before .before .routine-of .ensures) (c .before .before .tight-paren .ensures)
 
 node-same-length-26 : (t : ℕ) → node-lts.Need-same-length-26 (
-  is-copied-reads.Asked,
-  is-copied-reads.Learnt,
+  has-error-reads.Asked,
+  has-error-reads.Learnt,
   head-at-reads.Asked,
   head-at-reads.Learnt,
   skip-reads.Asked,
@@ -10895,8 +10896,8 @@ node-same-length-26 : (t : ℕ) → node-lts.Need-same-length-26 (
 node-same-length-26 t c = c .before .before .alter .kept .1 .1 .1 .1 .0
 
 node-returns-26 : (t : ℕ) → node-lts.Need-returns-26 (
-  is-copied-reads.Asked,
-  is-copied-reads.Learnt,
+  has-error-reads.Asked,
+  has-error-reads.Learnt,
   head-at-reads.Asked,
   head-at-reads.Learnt,
   skip-reads.Asked,
@@ -10961,11 +10962,11 @@ node-returns-26 : (t : ℕ) → node-lts.Need-returns-26 (
   pass.Post,
 ) (node-at t) node.Post
 unfolding armsOf
-node-returns-26 t c = node-by the-variants.AlterCommandList (c .before .before .before .before .before .before .before .before .before .before .before .pre .1 .1) (⊎-elim (λ w. scanned-as (w .1 .ensures) (w .2 .left)) (λ w. clean-node (c .before .before .before .before .before .before .before .before .before .before .before .pre .1 .0) (c .before .before .before .before .before .before .before .before .before .before .before .pre .1 .1) (w .left)) (c .before .before .before .before .before .before .before .if1 .came)) (sym (c .before .before .before .before .enum-told24 .given .1) ∙ c .before .before .before .before .before .before .routine-of .ensures) (c .before .before .alter .ensures)
+node-returns-26 t c = node-by the-variants.AlterCommandList (c .before .before .before .before .before .before .before .before .before .before .before .before .before .pre .1 .1) (⊎-elim (λ w. decided-list (c .before .before .before .before .before .before .before .before .before .before .before .before .before .pre .1 .0) (c .before .before .before .before .before .before .before .before .before .before .before .before .before .pre .1 .1) (w .1 .left)) (λ w. decided-clean (c .before .before .before .before .before .before .before .before .before .before .before .before .before .pre .1 .0) (c .before .before .before .before .before .before .before .before .before .before .before .before .before .pre .1 .1) (c .before .before .before .before .before .before .before .before .has-error .ensures) (w .left)) (c .before .before .before .before .before .before .before .if1 .came)) (sym (c .before .before .before .before .enum-told24 .given .1) ∙ c .before .before .before .before .before .before .routine-of .ensures) (c .before .before .alter .ensures)
 
 node-same-length-27 : (t : ℕ) → node-lts.Need-same-length-27 (
-  is-copied-reads.Asked,
-  is-copied-reads.Learnt,
+  has-error-reads.Asked,
+  has-error-reads.Learnt,
   head-at-reads.Asked,
   head-at-reads.Learnt,
   skip-reads.Asked,
@@ -11032,8 +11033,8 @@ node-same-length-27 : (t : ℕ) → node-lts.Need-same-length-27 (
 node-same-length-27 t c = c .before .before .union .kept .1 .1 .1 .1 .0
 
 node-returns-27 : (t : ℕ) → node-lts.Need-returns-27 (
-  is-copied-reads.Asked,
-  is-copied-reads.Learnt,
+  has-error-reads.Asked,
+  has-error-reads.Learnt,
   head-at-reads.Asked,
   head-at-reads.Learnt,
   skip-reads.Asked,
@@ -11098,11 +11099,11 @@ node-returns-27 : (t : ℕ) → node-lts.Need-returns-27 (
   pass.Post,
 ) (node-at t) node.Post
 unfolding armsOf
-node-returns-27 t c = node-by the-variants.UnionClause (c .before .before .before .before .before .before .before .before .before .before .before .pre .1 .1) (⊎-elim (λ w. scanned-as (w .1 .ensures) (w .2 .left)) (λ w. clean-node (c .before .before .before .before .before .before .before .before .before .before .before .pre .1 .0) (c .before .before .before .before .before .before .before .before .before .before .before .pre .1 .1) (w .left)) (c .before .before .before .before .before .before .before .if1 .came)) (sym (c .before .before .before .before .enum-told25 .given .1) ∙ c .before .before .before .before .before .before .routine-of .ensures) (c .before .before .union .ensures)
+node-returns-27 t c = node-by the-variants.UnionClause (c .before .before .before .before .before .before .before .before .before .before .before .before .before .pre .1 .1) (⊎-elim (λ w. decided-list (c .before .before .before .before .before .before .before .before .before .before .before .before .before .pre .1 .0) (c .before .before .before .before .before .before .before .before .before .before .before .before .before .pre .1 .1) (w .1 .left)) (λ w. decided-clean (c .before .before .before .before .before .before .before .before .before .before .before .before .before .pre .1 .0) (c .before .before .before .before .before .before .before .before .before .before .before .before .before .pre .1 .1) (c .before .before .before .before .before .before .before .before .has-error .ensures) (w .left)) (c .before .before .before .before .before .before .before .if1 .came)) (sym (c .before .before .before .before .enum-told25 .given .1) ∙ c .before .before .before .before .before .before .routine-of .ensures) (c .before .before .union .ensures)
 
 node-same-length-28 : (t : ℕ) → node-lts.Need-same-length-28 (
-  is-copied-reads.Asked,
-  is-copied-reads.Learnt,
+  has-error-reads.Asked,
+  has-error-reads.Learnt,
   head-at-reads.Asked,
   head-at-reads.Learnt,
   skip-reads.Asked,
@@ -11169,8 +11170,8 @@ node-same-length-28 : (t : ℕ) → node-lts.Need-same-length-28 (
 node-same-length-28 t c = c .before .before .pass .kept .1 .1 .1 .1 .0
 
 node-returns-28 : (t : ℕ) → node-lts.Need-returns-28 (
-  is-copied-reads.Asked,
-  is-copied-reads.Learnt,
+  has-error-reads.Asked,
+  has-error-reads.Learnt,
   head-at-reads.Asked,
   head-at-reads.Learnt,
   skip-reads.Asked,
@@ -11235,13 +11236,13 @@ node-returns-28 : (t : ℕ) → node-lts.Need-returns-28 (
   pass.Post,
 ) (node-at t) node.Post
 unfolding armsOf
-node-returns-28 t c = node-by the-variants.Passthrough (c .before .before .before .before .before .before .before .before .before .before .before .pre .1 .1) (⊎-elim (λ w. scanned-as (w .1 .ensures) (w .2 .left)) (λ w. clean-node (c .before .before .before .before .before .before .before .before .before .before .before .pre .1 .0) (c .before .before .before .before .before .before .before .before .before .before .before .pre .1 .1) (w .left)) (c .before .before .before .before .before .before .before .if1 .came)) (sym (c .before .before .before .before .enum-told26 .given .1) ∙ c .before .before .before .before .before .before .routine-of .ensures) (c .before .before .pass .ensures)
+node-returns-28 t c = node-by the-variants.Passthrough (c .before .before .before .before .before .before .before .before .before .before .before .before .before .pre .1 .1) (⊎-elim (λ w. decided-list (c .before .before .before .before .before .before .before .before .before .before .before .before .before .pre .1 .0) (c .before .before .before .before .before .before .before .before .before .before .before .before .before .pre .1 .1) (w .1 .left)) (λ w. decided-clean (c .before .before .before .before .before .before .before .before .before .before .before .before .before .pre .1 .0) (c .before .before .before .before .before .before .before .before .before .before .before .before .before .pre .1 .1) (c .before .before .before .before .before .before .before .before .has-error .ensures) (w .left)) (c .before .before .before .before .before .before .before .if1 .came)) (sym (c .before .before .before .before .enum-told26 .given .1) ∙ c .before .before .before .before .before .before .routine-of .ensures) (c .before .before .pass .ensures)
 
 abbrev paren-Inv-loop : paren-lts.InvT-loop
-paren-Inv-loop source tape config errors out₀ left at i₀ ctx₀ out i ctx = Loop source tape config errors left at (always formatParenList) formatParenList ctx₀ out₀ out i ctx (flagged false)
+paren-Inv-loop source tape config facts out₀ left at i₀ ctx₀ out i ctx = Loop source tape facts config left at (always formatParenList) formatParenList ctx₀ out₀ out i ctx (flagged false)
 
 abbrev paren-μ-loop : paren-lts.MeasureT-loop
-paren-μ-loop source tape config errors out₀ left at i₀ ctx₀ out i ctx = length tape - i
+paren-μ-loop source tape config facts out₀ left at i₀ ctx₀ out i ctx = length tape - i
 
 paren-add-i : (t : ℕ) → paren-lts.Need-add-i (
   head-at-reads.Asked,
@@ -11251,7 +11252,7 @@ paren-add-i : (t : ℕ) → paren-lts.Need-add-i (
   node-below t,
   node.Post,
 ) (paren-at t) paren.Post paren-Inv-loop paren-μ-loop
-paren-add-i t c = omega (arith, c .before .before .before .pre .1 .inside, c .before .before .before .pre .1 .sizes .tape-fits)
+paren-add-i t c = omega (arith, c .before .before .before .before .pre .1 .inside, c .before .before .before .before .pre .1 .sizes .tape-fits)
 
 paren-loop-holds : (t : ℕ) → paren-lts.Need-loop-holds (
   head-at-reads.Asked,
@@ -11262,7 +11263,7 @@ paren-loop-holds : (t : ℕ) → paren-lts.Need-loop-holds (
   node.Post,
 ) (paren-at t) paren.Post paren-Inv-loop paren-μ-loop
 unfolding formatParenList
-paren-loop-holds t c = loop-first (always formatParenList) formatParenList _ (c .before .before .before .pre .1) (λ all z. refl)
+paren-loop-holds t c = loop-first (always formatParenList) formatParenList _ (c .before .before .before .before .pre .1) (λ all z. refl)
 
 paren-shared-slice-read-if1 : (t : ℕ) → paren-lts.Need-shared-slice-read-if1 (
   head-at-reads.Asked,
@@ -11282,7 +11283,7 @@ paren-head-at-requires : (t : ℕ) → paren-lts.Need-head-at-requires (
   node-below t,
   node.Post,
 ) (paren-at t) paren.Post paren-Inv-loop paren-μ-loop
-paren-head-at-requires t c κs = loop-fits (c .before .before .before .before .before .before .pre .1) (c .before .before .loop .inv) (c .if1 .taken)
+paren-head-at-requires t c κs = loop-fits (c .before .before .before .before .before .before .before .pre .1) (c .before .before .loop .inv) (c .if1 .taken)
 
 paren-shared-slice-read-if2 : (t : ℕ) → paren-lts.Need-shared-slice-read-if2 (
   head-at-reads.Asked,
@@ -11302,7 +11303,7 @@ paren-paren-list-token-requires : (t : ℕ) → paren-lts.Need-paren-list-token-
   node-below t,
   node.Post,
 ) (paren-at t) paren.Post paren-Inv-loop paren-μ-loop
-paren-paren-list-token-requires t c κs = token-ready (c .before .before .before .before .before .before .before .before .before .before .pre .1) (c .before .before .before .before .before .before .loop .inv) _ (c .before .if2 .taken) (c .before .before .before .head-at .ensures)
+paren-paren-list-token-requires t c κs = token-ready (c .before .before .before .before .before .before .before .before .before .before .before .pre .1) (c .before .before .before .before .before .before .loop .inv) _ (c .before .if2 .taken) (c .before .before .before .head-at .ensures)
 
 paren-add-i-2 : (t : ℕ) → paren-lts.Need-add-i-2 (
   head-at-reads.Asked,
@@ -11312,7 +11313,7 @@ paren-add-i-2 : (t : ℕ) → paren-lts.Need-add-i-2 (
   node-below t,
   node.Post,
 ) (paren-at t) paren.Post paren-Inv-loop paren-μ-loop
-paren-add-i-2 t c = omega (arith, loop-fits (c .before .before .before .before .before .before .before .before .before .before .before .before .before .pre .1) (c .before .before .before .before .before .before .before .before .before .loop .inv) (c .before .before .before .before .before .before .before .if1 .taken), c .before .before .before .before .before .before .before .before .before .before .before .before .before .pre .1 .sizes .tape-fits)
+paren-add-i-2 t c = omega (arith, loop-fits (c .before .before .before .before .before .before .before .before .before .before .before .before .before .before .pre .1) (c .before .before .before .before .before .before .before .before .before .loop .inv) (c .before .before .before .before .before .before .before .if1 .taken), c .before .before .before .before .before .before .before .before .before .before .before .before .before .before .pre .1 .sizes .tape-fits)
 
 paren-loop-less : (t : ℕ) → paren-lts.Need-loop-less (
   head-at-reads.Asked,
@@ -11333,7 +11334,7 @@ paren-loop-again : (t : ℕ) → paren-lts.Need-loop-again (
   node.Post,
 ) (paren-at t) paren.Post paren-Inv-loop paren-μ-loop
 unfolding formatParenList
-paren-loop-again t c = token-next (c .before .before .before .before .before .before .before .before .before .before .before .before .before .pre .1) (c .before .before .before .before .before .before .before .before .before .loop .inv) (c .before .before .before .before .if2 .taken) (c .before .before .before .before .before .before .head-at .ensures) (c .before .before .paren-list-token .ensures) refl (c .before .before .paren-list-token .kept .1 .1 .0)
+paren-loop-again t c = token-next (c .before .before .before .before .before .before .before .before .before .before .before .before .before .before .pre .1) (c .before .before .before .before .before .before .before .before .before .loop .inv) (c .before .before .before .before .if2 .taken) (c .before .before .before .before .before .before .head-at .ensures) (c .before .before .paren-list-token .ensures) refl (c .before .before .paren-list-token .kept .1 .1 .0)
 
 paren-sub-node : (t : ℕ) → paren-lts.Need-sub-node (
   head-at-reads.Asked,
@@ -11343,7 +11344,7 @@ paren-sub-node : (t : ℕ) → paren-lts.Need-sub-node (
   node-below t,
   node.Post,
 ) (paren-at t) paren.Post paren-Inv-loop paren-μ-loop
-paren-sub-node t c = left-pos (c .before .before .before .before .before .before .before .before .before .before .pre .1) (c .before .before .before .before .before .before .loop .inv) (c .before .before .before .before .if1 .taken) (c .before .if2 .left)
+paren-sub-node t c = left-pos (c .before .before .before .before .before .before .before .before .before .before .before .pre .1) (c .before .before .before .before .before .before .loop .inv) (c .before .before .before .before .if1 .taken) (c .before .if2 .left)
 
 paren-node-requires : (t : ℕ) → paren-lts.Need-node-requires (
   head-at-reads.Asked,
@@ -11353,7 +11354,7 @@ paren-node-requires : (t : ℕ) → paren-lts.Need-node-requires (
   node-below t,
   node.Post,
 ) (paren-at t) paren.Post paren-Inv-loop paren-μ-loop
-paren-node-requires t c κs = (omega (arith, c .before .before .before .before .before .before .before .before .before .before .pre .0, left-pos (c .before .before .before .before .before .before .before .before .before .before .pre .1) (c .before .before .before .before .before .before .loop .inv) (c .before .before .before .before .if1 .taken) (c .before .if2 .left)), node-ready (c .before .before .before .before .before .before .before .before .before .before .pre .1) (c .before .before .before .before .before .before .loop .inv) (c .before .before .before .before .if1 .taken) (c .before .if2 .left) (c .before .before .before .head-at .ensures) (no-spacing {xs = c .before .before .before .before .before .before .loop .out}) (omega arith))
+paren-node-requires t c κs = (omega (arith, c .before .before .before .before .before .before .before .before .before .before .before .pre .0, left-pos (c .before .before .before .before .before .before .before .before .before .before .before .pre .1) (c .before .before .before .before .before .before .loop .inv) (c .before .before .before .before .if1 .taken) (c .before .if2 .left)), node-ready (c .before .before .before .before .before .before .before .before .before .before .before .pre .1) (c .before .before .before .before .before .before .loop .inv) (c .before .before .before .before .if1 .taken) (c .before .if2 .left) (c .before .before .before .head-at .ensures) (no-spacing {xs = c .before .before .before .before .before .before .loop .out}) (omega arith))
 
 paren-loop-less-2 : (t : ℕ) → paren-lts.Need-loop-less-2 (
   head-at-reads.Asked,
@@ -11374,7 +11375,7 @@ paren-loop-again-2 : (t : ℕ) → paren-lts.Need-loop-again-2 (
   node.Post,
 ) (paren-at t) paren.Post paren-Inv-loop paren-μ-loop
 unfolding formatParenList
-paren-loop-again-2 t c = node-next (c .before .before .before .before .before .before .before .before .before .before .before .before .before .before .pre .1) (c .before .before .before .before .before .before .before .before .before .before .loop .inv) (formatParenList .atNode (flagged false) (c .before .before .before .before .before .before .before .head-at .result .kind) 0) (c .before .before .before .before .before .before .before .before .if1 .taken) (c .before .before .before .before .before .if2 .left) (c .before .before .before .before .before .before .before .head-at .ensures) (λ k z. refl) (no-spacing {xs = c .before .before .before .before .before .before .before .before .before .before .loop .out}) (c .before .before .before .node .ensures) refl no-spacing (omega arith) (omega arith) (c .before .before .before .node .kept .1 .1 .1 .1 .0)
+paren-loop-again-2 t c = node-next (c .before .before .before .before .before .before .before .before .before .before .before .before .before .before .before .pre .1) (c .before .before .before .before .before .before .before .before .before .before .loop .inv) (formatParenList .atNode (flagged false) (c .before .before .before .before .before .before .before .head-at .result .kind) 0) (c .before .before .before .before .before .before .before .before .if1 .taken) (c .before .before .before .before .before .if2 .left) (c .before .before .before .before .before .before .before .head-at .ensures) (λ k z. refl) (no-spacing {xs = c .before .before .before .before .before .before .before .before .before .before .loop .out}) (c .before .before .before .node .ensures) refl no-spacing (omega arith) (omega arith) (c .before .before .before .node .kept .1 .1 .1 .1 .0)
 
 paren-add-t22 : (t : ℕ) → paren-lts.Need-add-t22 (
   head-at-reads.Asked,
@@ -11384,7 +11385,7 @@ paren-add-t22 : (t : ℕ) → paren-lts.Need-add-t22 (
   node-below t,
   node.Post,
 ) (paren-at t) paren.Post paren-Inv-loop paren-μ-loop
-paren-add-t22 t c = omega (arith, c .before .before .loop .inv .inside, c .before .before .before .before .before .before .pre .1 .sizes .tape-fits)
+paren-add-t22 t c = omega (arith, c .before .before .loop .inv .inside, c .before .before .before .before .before .before .before .pre .1 .sizes .tape-fits)
 
 paren-same-length : (t : ℕ) → paren-lts.Need-same-length (
   head-at-reads.Asked,
@@ -11405,13 +11406,13 @@ paren-returns : (t : ℕ) → paren-lts.Need-returns (
   node.Post,
 ) (paren-at t) paren.Post paren-Inv-loop paren-μ-loop
 unfolding formatParenList
-paren-returns t c = loop-last (c .before .before .before .before .before .before .pre .1) (c .before .before .loop .inv) (c .if1 .left) no-spacing (omega arith)
+paren-returns t c = loop-last (c .before .before .before .before .before .before .before .pre .1) (c .before .before .loop .inv) (c .if1 .left) no-spacing (omega arith)
 
 abbrev pass-Inv-loop : pass-lts.InvT-loop
-pass-Inv-loop source tape config errors out₀ left at i₀ ctx₀ out i ctx = Loop source tape config errors left at (always formatPassthrough) formatPassthrough ctx₀ out₀ out i ctx (flagged false)
+pass-Inv-loop source tape config facts out₀ left at i₀ ctx₀ out i ctx = Loop source tape facts config left at (always formatPassthrough) formatPassthrough ctx₀ out₀ out i ctx (flagged false)
 
 abbrev pass-μ-loop : pass-lts.MeasureT-loop
-pass-μ-loop source tape config errors out₀ left at i₀ ctx₀ out i ctx = length tape - i
+pass-μ-loop source tape config facts out₀ left at i₀ ctx₀ out i ctx = length tape - i
 
 pass-add-i : (t : ℕ) → pass-lts.Need-add-i (
   head-at-reads.Asked,
@@ -11421,7 +11422,7 @@ pass-add-i : (t : ℕ) → pass-lts.Need-add-i (
   node-below t,
   node.Post,
 ) (pass-at t) pass.Post pass-Inv-loop pass-μ-loop
-pass-add-i t c = omega (arith, c .before .before .before .pre .1 .inside, c .before .before .before .pre .1 .sizes .tape-fits)
+pass-add-i t c = omega (arith, c .before .before .before .before .pre .1 .inside, c .before .before .before .before .pre .1 .sizes .tape-fits)
 
 pass-loop-holds : (t : ℕ) → pass-lts.Need-loop-holds (
   head-at-reads.Asked,
@@ -11432,7 +11433,7 @@ pass-loop-holds : (t : ℕ) → pass-lts.Need-loop-holds (
   node.Post,
 ) (pass-at t) pass.Post pass-Inv-loop pass-μ-loop
 unfolding formatPassthrough
-pass-loop-holds t c = loop-first (always formatPassthrough) formatPassthrough _ (c .before .before .before .pre .1) (λ all z. refl)
+pass-loop-holds t c = loop-first (always formatPassthrough) formatPassthrough _ (c .before .before .before .before .pre .1) (λ all z. refl)
 
 pass-shared-slice-read-if1 : (t : ℕ) → pass-lts.Need-shared-slice-read-if1 (
   head-at-reads.Asked,
@@ -11452,7 +11453,7 @@ pass-head-at-requires : (t : ℕ) → pass-lts.Need-head-at-requires (
   node-below t,
   node.Post,
 ) (pass-at t) pass.Post pass-Inv-loop pass-μ-loop
-pass-head-at-requires t c κs = loop-fits (c .before .before .before .before .before .before .pre .1) (c .before .before .loop .inv) (c .if1 .taken)
+pass-head-at-requires t c κs = loop-fits (c .before .before .before .before .before .before .before .pre .1) (c .before .before .loop .inv) (c .if1 .taken)
 
 pass-shared-slice-read-if2 : (t : ℕ) → pass-lts.Need-shared-slice-read-if2 (
   head-at-reads.Asked,
@@ -11472,7 +11473,7 @@ pass-passthrough-token-requires : (t : ℕ) → pass-lts.Need-passthrough-token-
   node-below t,
   node.Post,
 ) (pass-at t) pass.Post pass-Inv-loop pass-μ-loop
-pass-passthrough-token-requires t c κs = token-ready (c .before .before .before .before .before .before .before .before .before .before .pre .1) (c .before .before .before .before .before .before .loop .inv) _ (c .before .if2 .taken) (c .before .before .before .head-at .ensures)
+pass-passthrough-token-requires t c κs = token-ready (c .before .before .before .before .before .before .before .before .before .before .before .pre .1) (c .before .before .before .before .before .before .loop .inv) _ (c .before .if2 .taken) (c .before .before .before .head-at .ensures)
 
 pass-add-i-2 : (t : ℕ) → pass-lts.Need-add-i-2 (
   head-at-reads.Asked,
@@ -11482,7 +11483,7 @@ pass-add-i-2 : (t : ℕ) → pass-lts.Need-add-i-2 (
   node-below t,
   node.Post,
 ) (pass-at t) pass.Post pass-Inv-loop pass-μ-loop
-pass-add-i-2 t c = omega (arith, loop-fits (c .before .before .before .before .before .before .before .before .before .before .before .before .before .pre .1) (c .before .before .before .before .before .before .before .before .before .loop .inv) (c .before .before .before .before .before .before .before .if1 .taken), c .before .before .before .before .before .before .before .before .before .before .before .before .before .pre .1 .sizes .tape-fits)
+pass-add-i-2 t c = omega (arith, loop-fits (c .before .before .before .before .before .before .before .before .before .before .before .before .before .before .pre .1) (c .before .before .before .before .before .before .before .before .before .loop .inv) (c .before .before .before .before .before .before .before .if1 .taken), c .before .before .before .before .before .before .before .before .before .before .before .before .before .before .pre .1 .sizes .tape-fits)
 
 pass-loop-less : (t : ℕ) → pass-lts.Need-loop-less (
   head-at-reads.Asked,
@@ -11503,7 +11504,7 @@ pass-loop-again : (t : ℕ) → pass-lts.Need-loop-again (
   node.Post,
 ) (pass-at t) pass.Post pass-Inv-loop pass-μ-loop
 unfolding formatPassthrough
-pass-loop-again t c = token-next (c .before .before .before .before .before .before .before .before .before .before .before .before .before .pre .1) (c .before .before .before .before .before .before .before .before .before .loop .inv) (c .before .before .before .before .if2 .taken) (c .before .before .before .before .before .before .head-at .ensures) (c .before .before .passthrough-token .ensures) refl (c .before .before .passthrough-token .kept .1 .1 .0)
+pass-loop-again t c = token-next (c .before .before .before .before .before .before .before .before .before .before .before .before .before .before .pre .1) (c .before .before .before .before .before .before .before .before .before .loop .inv) (c .before .before .before .before .if2 .taken) (c .before .before .before .before .before .before .head-at .ensures) (c .before .before .passthrough-token .ensures) refl (c .before .before .passthrough-token .kept .1 .1 .0)
 
 pass-sub-node : (t : ℕ) → pass-lts.Need-sub-node (
   head-at-reads.Asked,
@@ -11513,7 +11514,7 @@ pass-sub-node : (t : ℕ) → pass-lts.Need-sub-node (
   node-below t,
   node.Post,
 ) (pass-at t) pass.Post pass-Inv-loop pass-μ-loop
-pass-sub-node t c = left-pos (c .before .before .before .before .before .before .before .before .before .before .pre .1) (c .before .before .before .before .before .before .loop .inv) (c .before .before .before .before .if1 .taken) (c .before .if2 .left)
+pass-sub-node t c = left-pos (c .before .before .before .before .before .before .before .before .before .before .before .pre .1) (c .before .before .before .before .before .before .loop .inv) (c .before .before .before .before .if1 .taken) (c .before .if2 .left)
 
 pass-node-requires : (t : ℕ) → pass-lts.Need-node-requires (
   head-at-reads.Asked,
@@ -11523,7 +11524,7 @@ pass-node-requires : (t : ℕ) → pass-lts.Need-node-requires (
   node-below t,
   node.Post,
 ) (pass-at t) pass.Post pass-Inv-loop pass-μ-loop
-pass-node-requires t c κs = (omega (arith, c .before .before .before .before .before .before .before .before .before .before .pre .0, left-pos (c .before .before .before .before .before .before .before .before .before .before .pre .1) (c .before .before .before .before .before .before .loop .inv) (c .before .before .before .before .if1 .taken) (c .before .if2 .left)), node-ready (c .before .before .before .before .before .before .before .before .before .before .pre .1) (c .before .before .before .before .before .before .loop .inv) (c .before .before .before .before .if1 .taken) (c .before .if2 .left) (c .before .before .before .head-at .ensures) (no-spacing {xs = c .before .before .before .before .before .before .loop .out}) (omega arith))
+pass-node-requires t c κs = (omega (arith, c .before .before .before .before .before .before .before .before .before .before .before .pre .0, left-pos (c .before .before .before .before .before .before .before .before .before .before .before .pre .1) (c .before .before .before .before .before .before .loop .inv) (c .before .before .before .before .if1 .taken) (c .before .if2 .left)), node-ready (c .before .before .before .before .before .before .before .before .before .before .before .pre .1) (c .before .before .before .before .before .before .loop .inv) (c .before .before .before .before .if1 .taken) (c .before .if2 .left) (c .before .before .before .head-at .ensures) (no-spacing {xs = c .before .before .before .before .before .before .loop .out}) (omega arith))
 
 pass-loop-less-2 : (t : ℕ) → pass-lts.Need-loop-less-2 (
   head-at-reads.Asked,
@@ -11544,7 +11545,7 @@ pass-loop-again-2 : (t : ℕ) → pass-lts.Need-loop-again-2 (
   node.Post,
 ) (pass-at t) pass.Post pass-Inv-loop pass-μ-loop
 unfolding formatPassthrough
-pass-loop-again-2 t c = node-next (c .before .before .before .before .before .before .before .before .before .before .before .before .before .before .pre .1) (c .before .before .before .before .before .before .before .before .before .before .loop .inv) (formatPassthrough .atNode (flagged false) (c .before .before .before .before .before .before .before .head-at .result .kind) 0) (c .before .before .before .before .before .before .before .before .if1 .taken) (c .before .before .before .before .before .if2 .left) (c .before .before .before .before .before .before .before .head-at .ensures) (λ k z. refl) (no-spacing {xs = c .before .before .before .before .before .before .before .before .before .before .loop .out}) (c .before .before .before .node .ensures) refl no-spacing (omega arith) (omega arith) (c .before .before .before .node .kept .1 .1 .1 .1 .0)
+pass-loop-again-2 t c = node-next (c .before .before .before .before .before .before .before .before .before .before .before .before .before .before .before .pre .1) (c .before .before .before .before .before .before .before .before .before .before .loop .inv) (formatPassthrough .atNode (flagged false) (c .before .before .before .before .before .before .before .head-at .result .kind) 0) (c .before .before .before .before .before .before .before .before .if1 .taken) (c .before .before .before .before .before .if2 .left) (c .before .before .before .before .before .before .before .head-at .ensures) (λ k z. refl) (no-spacing {xs = c .before .before .before .before .before .before .before .before .before .before .loop .out}) (c .before .before .before .node .ensures) refl no-spacing (omega arith) (omega arith) (c .before .before .before .node .kept .1 .1 .1 .1 .0)
 
 pass-add-t22 : (t : ℕ) → pass-lts.Need-add-t22 (
   head-at-reads.Asked,
@@ -11554,7 +11555,7 @@ pass-add-t22 : (t : ℕ) → pass-lts.Need-add-t22 (
   node-below t,
   node.Post,
 ) (pass-at t) pass.Post pass-Inv-loop pass-μ-loop
-pass-add-t22 t c = omega (arith, c .before .before .loop .inv .inside, c .before .before .before .before .before .before .pre .1 .sizes .tape-fits)
+pass-add-t22 t c = omega (arith, c .before .before .loop .inv .inside, c .before .before .before .before .before .before .before .pre .1 .sizes .tape-fits)
 
 pass-same-length : (t : ℕ) → pass-lts.Need-same-length (
   head-at-reads.Asked,
@@ -11575,13 +11576,13 @@ pass-returns : (t : ℕ) → pass-lts.Need-returns (
   node.Post,
 ) (pass-at t) pass.Post pass-Inv-loop pass-μ-loop
 unfolding formatPassthrough
-pass-returns t c = loop-last (c .before .before .before .before .before .before .pre .1) (c .before .before .loop .inv) (c .if1 .left) no-spacing (omega arith)
+pass-returns t c = loop-last (c .before .before .before .before .before .before .before .pre .1) (c .before .before .loop .inv) (c .if1 .left) no-spacing (omega arith)
 
 abbrev queries-Inv-loop : queries-lts.InvT-loop
-queries-Inv-loop source tape config errors out₀ left at i₀ ctx₀ local₀ out i ctx local = Loop source tape config errors left at (always formatQueryList) formatQueryList ctx₀ out₀ out i ctx local
+queries-Inv-loop source tape config facts out₀ left at i₀ ctx₀ local₀ out i ctx local = Loop source tape facts config left at (always formatQueryList) formatQueryList ctx₀ out₀ out i ctx local
 
 abbrev queries-μ-loop : queries-lts.MeasureT-loop
-queries-μ-loop source tape config errors out₀ left at i₀ ctx₀ local₀ out i ctx local = length tape - i
+queries-μ-loop source tape config facts out₀ left at i₀ ctx₀ local₀ out i ctx local = length tape - i
 
 queries-add-i : (t : ℕ) → queries-lts.Need-add-i (
   head-at-reads.Asked,
@@ -11593,7 +11594,7 @@ queries-add-i : (t : ℕ) → queries-lts.Need-add-i (
   node-below t,
   node.Post,
 ) (queries-at t) queries.Post queries-Inv-loop queries-μ-loop
-queries-add-i t c = omega (arith, c .before .before .before .pre .1 .inside, c .before .before .before .pre .1 .sizes .tape-fits)
+queries-add-i t c = omega (arith, c .before .before .before .before .pre .1 .inside, c .before .before .before .before .pre .1 .sizes .tape-fits)
 
 queries-loop-holds : (t : ℕ) → queries-lts.Need-loop-holds (
   head-at-reads.Asked,
@@ -11606,7 +11607,7 @@ queries-loop-holds : (t : ℕ) → queries-lts.Need-loop-holds (
   node.Post,
 ) (queries-at t) queries.Post queries-Inv-loop queries-μ-loop
 unfolding formatQueryList
-queries-loop-holds t c = loop-first (always formatQueryList) formatQueryList _ (c .before .before .before .pre .1) (λ all z. refl)
+queries-loop-holds t c = loop-first (always formatQueryList) formatQueryList _ (c .before .before .before .before .pre .1) (λ all z. refl)
 
 queries-shared-slice-read-if1 : (t : ℕ) → queries-lts.Need-shared-slice-read-if1 (
   head-at-reads.Asked,
@@ -11630,7 +11631,7 @@ queries-head-at-requires : (t : ℕ) → queries-lts.Need-head-at-requires (
   node-below t,
   node.Post,
 ) (queries-at t) queries.Post queries-Inv-loop queries-μ-loop
-queries-head-at-requires t c κs = loop-fits (c .before .before .before .before .before .before .pre .1) (c .before .before .loop .inv) (c .if1 .taken)
+queries-head-at-requires t c κs = loop-fits (c .before .before .before .before .before .before .before .pre .1) (c .before .before .loop .inv) (c .if1 .taken)
 
 queries-shared-slice-read-if2 : (t : ℕ) → queries-lts.Need-shared-slice-read-if2 (
   head-at-reads.Asked,
@@ -11654,7 +11655,7 @@ queries-query-list-token-requires : (t : ℕ) → queries-lts.Need-query-list-to
   node-below t,
   node.Post,
 ) (queries-at t) queries.Post queries-Inv-loop queries-μ-loop
-queries-query-list-token-requires t c κs = token-ready (c .before .before .before .before .before .before .before .before .before .before .pre .1) (c .before .before .before .before .before .before .loop .inv) _ (c .before .if2 .taken) (c .before .before .before .head-at .ensures)
+queries-query-list-token-requires t c κs = token-ready (c .before .before .before .before .before .before .before .before .before .before .before .pre .1) (c .before .before .before .before .before .before .loop .inv) _ (c .before .if2 .taken) (c .before .before .before .head-at .ensures)
 
 queries-add-i-2 : (t : ℕ) → queries-lts.Need-add-i-2 (
   head-at-reads.Asked,
@@ -11666,7 +11667,7 @@ queries-add-i-2 : (t : ℕ) → queries-lts.Need-add-i-2 (
   node-below t,
   node.Post,
 ) (queries-at t) queries.Post queries-Inv-loop queries-μ-loop
-queries-add-i-2 t c = omega (arith, loop-fits (c .before .before .before .before .before .before .before .before .before .before .before .before .before .pre .1) (c .before .before .before .before .before .before .before .before .before .loop .inv) (c .before .before .before .before .before .before .before .if1 .taken), c .before .before .before .before .before .before .before .before .before .before .before .before .before .pre .1 .sizes .tape-fits)
+queries-add-i-2 t c = omega (arith, loop-fits (c .before .before .before .before .before .before .before .before .before .before .before .before .before .before .pre .1) (c .before .before .before .before .before .before .before .before .before .loop .inv) (c .before .before .before .before .before .before .before .if1 .taken), c .before .before .before .before .before .before .before .before .before .before .before .before .before .before .pre .1 .sizes .tape-fits)
 
 queries-loop-less : (t : ℕ) → queries-lts.Need-loop-less (
   head-at-reads.Asked,
@@ -11691,7 +11692,7 @@ queries-loop-again : (t : ℕ) → queries-lts.Need-loop-again (
   node.Post,
 ) (queries-at t) queries.Post queries-Inv-loop queries-μ-loop
 unfolding formatQueryList
-queries-loop-again t c = token-next (c .before .before .before .before .before .before .before .before .before .before .before .before .before .pre .1) (c .before .before .before .before .before .before .before .before .before .loop .inv) (c .before .before .before .before .if2 .taken) (c .before .before .before .before .before .before .head-at .ensures) (c .before .before .query-list-token .ensures) refl (c .before .before .query-list-token .kept .1 .1 .0)
+queries-loop-again t c = token-next (c .before .before .before .before .before .before .before .before .before .before .before .before .before .before .pre .1) (c .before .before .before .before .before .before .before .before .before .loop .inv) (c .before .before .before .before .if2 .taken) (c .before .before .before .before .before .before .head-at .ensures) (c .before .before .query-list-token .ensures) refl (c .before .before .query-list-token .kept .1 .1 .0)
 
 queries-query-list-before-requires : (t : ℕ) → queries-lts.Need-query-list-before-requires (
   head-at-reads.Asked,
@@ -11703,7 +11704,7 @@ queries-query-list-before-requires : (t : ℕ) → queries-lts.Need-query-list-b
   node-below t,
   node.Post,
 ) (queries-at t) queries.Post queries-Inv-loop queries-μ-loop
-queries-query-list-before-requires t c κs = let r = side-ready (c .before .before .before .before .before .before .before .before .before .before .pre .1) (c .before .before .before .before .before .before .loop .inv) in omega arith
+queries-query-list-before-requires t c κs = let r = side-ready (c .before .before .before .before .before .before .before .before .before .before .before .pre .1) (c .before .before .before .before .before .before .loop .inv) in omega arith
 
 queries-sub-node : (t : ℕ) → queries-lts.Need-sub-node (
   head-at-reads.Asked,
@@ -11715,7 +11716,7 @@ queries-sub-node : (t : ℕ) → queries-lts.Need-sub-node (
   node-below t,
   node.Post,
 ) (queries-at t) queries.Post queries-Inv-loop queries-μ-loop
-queries-sub-node t c = left-pos (c .before .before .before .before .before .before .before .before .before .before .before .before .before .before .pre .1) (c .before .before .before .before .before .before .before .before .before .before .loop .inv) (c .before .before .before .before .before .before .before .before .if1 .taken) (c .before .before .before .before .before .if2 .left)
+queries-sub-node t c = left-pos (c .before .before .before .before .before .before .before .before .before .before .before .before .before .before .before .pre .1) (c .before .before .before .before .before .before .before .before .before .before .loop .inv) (c .before .before .before .before .before .before .before .before .if1 .taken) (c .before .before .before .before .before .if2 .left)
 
 queries-node-requires : (t : ℕ) → queries-lts.Need-node-requires (
   head-at-reads.Asked,
@@ -11727,7 +11728,7 @@ queries-node-requires : (t : ℕ) → queries-lts.Need-node-requires (
   node-below t,
   node.Post,
 ) (queries-at t) queries.Post queries-Inv-loop queries-μ-loop
-queries-node-requires t c κs = (omega (arith, c .before .before .before .before .before .before .before .before .before .before .before .before .before .before .pre .0, left-pos (c .before .before .before .before .before .before .before .before .before .before .before .before .before .before .pre .1) (c .before .before .before .before .before .before .before .before .before .before .loop .inv) (c .before .before .before .before .before .before .before .before .if1 .taken) (c .before .before .before .before .before .if2 .left)), node-ready (c .before .before .before .before .before .before .before .before .before .before .before .before .before .before .pre .1) (c .before .before .before .before .before .before .before .before .before .before .loop .inv) (c .before .before .before .before .before .before .before .before .if1 .taken) (c .before .before .before .before .before .if2 .left) (c .before .before .before .before .before .before .before .head-at .ensures) (c .before .before .before .query-list-before .ensures) (omega arith))
+queries-node-requires t c κs = (omega (arith, c .before .before .before .before .before .before .before .before .before .before .before .before .before .before .before .pre .0, left-pos (c .before .before .before .before .before .before .before .before .before .before .before .before .before .before .before .pre .1) (c .before .before .before .before .before .before .before .before .before .before .loop .inv) (c .before .before .before .before .before .before .before .before .if1 .taken) (c .before .before .before .before .before .if2 .left)), node-ready (c .before .before .before .before .before .before .before .before .before .before .before .before .before .before .before .pre .1) (c .before .before .before .before .before .before .before .before .before .before .loop .inv) (c .before .before .before .before .before .before .before .before .if1 .taken) (c .before .before .before .before .before .if2 .left) (c .before .before .before .before .before .before .before .head-at .ensures) (c .before .before .before .query-list-before .ensures) (omega arith))
 
 queries-loop-less-2 : (t : ℕ) → queries-lts.Need-loop-less-2 (
   head-at-reads.Asked,
@@ -11752,7 +11753,7 @@ queries-loop-again-2 : (t : ℕ) → queries-lts.Need-loop-again-2 (
   node.Post,
 ) (queries-at t) queries.Post queries-Inv-loop queries-μ-loop
 unfolding formatQueryList
-queries-loop-again-2 t c = node-next (c .before .before .before .before .before .before .before .before .before .before .before .before .before .before .before .before .before .before .pre .1) (c .before .before .before .before .before .before .before .before .before .before .before .before .before .before .loop .inv) (formatQueryList .atNode (c .before .before .before .before .before .before .before .before .before .before .before .before .before .before .loop .local) (c .before .before .before .before .before .before .before .before .before .before .before .head-at .result .kind) 0) (c .before .before .before .before .before .before .before .before .before .before .before .before .if1 .taken) (c .before .before .before .before .before .before .before .before .before .if2 .left) (c .before .before .before .before .before .before .before .before .before .before .before .head-at .ensures) (λ k z. refl) (c .before .before .before .before .before .before .before .query-list-before .ensures) (c .before .before .before .node .ensures) refl no-spacing (omega arith) (omega arith) (c .before .before .before .node .kept .1 .1 .1 .1 .0 ∙ c .before .before .before .before .before .before .before .query-list-before .kept .0)
+queries-loop-again-2 t c = node-next (c .before .before .before .before .before .before .before .before .before .before .before .before .before .before .before .before .before .before .before .pre .1) (c .before .before .before .before .before .before .before .before .before .before .before .before .before .before .loop .inv) (formatQueryList .atNode (c .before .before .before .before .before .before .before .before .before .before .before .before .before .before .loop .local) (c .before .before .before .before .before .before .before .before .before .before .before .head-at .result .kind) 0) (c .before .before .before .before .before .before .before .before .before .before .before .before .if1 .taken) (c .before .before .before .before .before .before .before .before .before .if2 .left) (c .before .before .before .before .before .before .before .before .before .before .before .head-at .ensures) (λ k z. refl) (c .before .before .before .before .before .before .before .query-list-before .ensures) (c .before .before .before .node .ensures) refl no-spacing (omega arith) (omega arith) (c .before .before .before .node .kept .1 .1 .1 .1 .0 ∙ c .before .before .before .before .before .before .before .query-list-before .kept .0)
 
 queries-add-t28 : (t : ℕ) → queries-lts.Need-add-t28 (
   head-at-reads.Asked,
@@ -11764,7 +11765,7 @@ queries-add-t28 : (t : ℕ) → queries-lts.Need-add-t28 (
   node-below t,
   node.Post,
 ) (queries-at t) queries.Post queries-Inv-loop queries-μ-loop
-queries-add-t28 t c = omega (arith, c .before .before .loop .inv .inside, c .before .before .before .before .before .before .pre .1 .sizes .tape-fits)
+queries-add-t28 t c = omega (arith, c .before .before .loop .inv .inside, c .before .before .before .before .before .before .before .pre .1 .sizes .tape-fits)
 
 queries-same-length : (t : ℕ) → queries-lts.Need-same-length (
   head-at-reads.Asked,
@@ -11789,13 +11790,13 @@ queries-returns : (t : ℕ) → queries-lts.Need-returns (
   node.Post,
 ) (queries-at t) queries.Post queries-Inv-loop queries-μ-loop
 unfolding formatQueryList
-queries-returns t c = loop-last (c .before .before .before .before .before .before .pre .1) (c .before .before .loop .inv) (c .if1 .left) no-spacing (omega arith)
+queries-returns t c = loop-last (c .before .before .before .before .before .before .before .pre .1) (c .before .before .loop .inv) (c .if1 .left) no-spacing (omega arith)
 
 abbrev sel-stmt-Inv-loop : sel-stmt-lts.InvT-loop
-sel-stmt-Inv-loop source tape config errors out₀ left at i₀ ctx₀ local₀ out i ctx local = Loop source tape config errors left at (always formatSelectStatement) formatSelectStatement ctx₀ out₀ out i ctx local
+sel-stmt-Inv-loop source tape config facts out₀ left at i₀ ctx₀ local₀ out i ctx local = Loop source tape facts config left at (always formatSelectStatement) formatSelectStatement ctx₀ out₀ out i ctx local
 
 abbrev sel-stmt-μ-loop : sel-stmt-lts.MeasureT-loop
-sel-stmt-μ-loop source tape config errors out₀ left at i₀ ctx₀ local₀ out i ctx local = length tape - i
+sel-stmt-μ-loop source tape config facts out₀ left at i₀ ctx₀ local₀ out i ctx local = length tape - i
 
 sel-stmt-add-i : (t : ℕ) → sel-stmt-lts.Need-add-i (
   head-at-reads.Asked,
@@ -11807,7 +11808,7 @@ sel-stmt-add-i : (t : ℕ) → sel-stmt-lts.Need-add-i (
   node-below t,
   node.Post,
 ) (sel-stmt-at t) sel-stmt.Post sel-stmt-Inv-loop sel-stmt-μ-loop
-sel-stmt-add-i t c = omega (arith, c .before .before .before .pre .1 .inside, c .before .before .before .pre .1 .sizes .tape-fits)
+sel-stmt-add-i t c = omega (arith, c .before .before .before .before .pre .1 .inside, c .before .before .before .before .pre .1 .sizes .tape-fits)
 
 sel-stmt-loop-holds : (t : ℕ) → sel-stmt-lts.Need-loop-holds (
   head-at-reads.Asked,
@@ -11820,7 +11821,7 @@ sel-stmt-loop-holds : (t : ℕ) → sel-stmt-lts.Need-loop-holds (
   node.Post,
 ) (sel-stmt-at t) sel-stmt.Post sel-stmt-Inv-loop sel-stmt-μ-loop
 unfolding formatSelectStatement
-sel-stmt-loop-holds t c = loop-first (always formatSelectStatement) formatSelectStatement _ (c .before .before .before .pre .1) (λ all z. refl)
+sel-stmt-loop-holds t c = loop-first (always formatSelectStatement) formatSelectStatement _ (c .before .before .before .before .pre .1) (λ all z. refl)
 
 sel-stmt-shared-slice-read-if1 : (t : ℕ) → sel-stmt-lts.Need-shared-slice-read-if1 (
   head-at-reads.Asked,
@@ -11844,7 +11845,7 @@ sel-stmt-head-at-requires : (t : ℕ) → sel-stmt-lts.Need-head-at-requires (
   node-below t,
   node.Post,
 ) (sel-stmt-at t) sel-stmt.Post sel-stmt-Inv-loop sel-stmt-μ-loop
-sel-stmt-head-at-requires t c κs = loop-fits (c .before .before .before .before .before .before .pre .1) (c .before .before .loop .inv) (c .if1 .taken)
+sel-stmt-head-at-requires t c κs = loop-fits (c .before .before .before .before .before .before .before .pre .1) (c .before .before .loop .inv) (c .if1 .taken)
 
 sel-stmt-shared-slice-read-if2 : (t : ℕ) → sel-stmt-lts.Need-shared-slice-read-if2 (
   head-at-reads.Asked,
@@ -11869,7 +11870,7 @@ sel-stmt-select-statement-token-requires :
       node-below t,
       node.Post,
     ) (sel-stmt-at t) sel-stmt.Post sel-stmt-Inv-loop sel-stmt-μ-loop
-sel-stmt-select-statement-token-requires t c κs = token-ready (c .before .before .before .before .before .before .before .before .before .before .pre .1) (c .before .before .before .before .before .before .loop .inv) _ (c .before .if2 .taken) (c .before .before .before .head-at .ensures)
+sel-stmt-select-statement-token-requires t c κs = token-ready (c .before .before .before .before .before .before .before .before .before .before .before .pre .1) (c .before .before .before .before .before .before .loop .inv) _ (c .before .if2 .taken) (c .before .before .before .head-at .ensures)
 
 sel-stmt-add-i-2 : (t : ℕ) → sel-stmt-lts.Need-add-i-2 (
   head-at-reads.Asked,
@@ -11881,7 +11882,7 @@ sel-stmt-add-i-2 : (t : ℕ) → sel-stmt-lts.Need-add-i-2 (
   node-below t,
   node.Post,
 ) (sel-stmt-at t) sel-stmt.Post sel-stmt-Inv-loop sel-stmt-μ-loop
-sel-stmt-add-i-2 t c = omega (arith, loop-fits (c .before .before .before .before .before .before .before .before .before .before .before .before .before .pre .1) (c .before .before .before .before .before .before .before .before .before .loop .inv) (c .before .before .before .before .before .before .before .if1 .taken), c .before .before .before .before .before .before .before .before .before .before .before .before .before .pre .1 .sizes .tape-fits)
+sel-stmt-add-i-2 t c = omega (arith, loop-fits (c .before .before .before .before .before .before .before .before .before .before .before .before .before .before .pre .1) (c .before .before .before .before .before .before .before .before .before .loop .inv) (c .before .before .before .before .before .before .before .if1 .taken), c .before .before .before .before .before .before .before .before .before .before .before .before .before .before .pre .1 .sizes .tape-fits)
 
 sel-stmt-loop-less : (t : ℕ) → sel-stmt-lts.Need-loop-less (
   head-at-reads.Asked,
@@ -11906,7 +11907,7 @@ sel-stmt-loop-again : (t : ℕ) → sel-stmt-lts.Need-loop-again (
   node.Post,
 ) (sel-stmt-at t) sel-stmt.Post sel-stmt-Inv-loop sel-stmt-μ-loop
 unfolding formatSelectStatement
-sel-stmt-loop-again t c = token-next (c .before .before .before .before .before .before .before .before .before .before .before .before .before .pre .1) (c .before .before .before .before .before .before .before .before .before .loop .inv) (c .before .before .before .before .if2 .taken) (c .before .before .before .before .before .before .head-at .ensures) (c .before .before .select-statement-token .ensures) refl (c .before .before .select-statement-token .kept .1 .1 .0)
+sel-stmt-loop-again t c = token-next (c .before .before .before .before .before .before .before .before .before .before .before .before .before .before .pre .1) (c .before .before .before .before .before .before .before .before .before .loop .inv) (c .before .before .before .before .if2 .taken) (c .before .before .before .before .before .before .head-at .ensures) (c .before .before .select-statement-token .ensures) refl (c .before .before .select-statement-token .kept .1 .1 .0)
 
 sel-stmt-select-statement-before-requires :
     (t : ℕ) → sel-stmt-lts.Need-select-statement-before-requires (
@@ -11919,7 +11920,7 @@ sel-stmt-select-statement-before-requires :
       node-below t,
       node.Post,
     ) (sel-stmt-at t) sel-stmt.Post sel-stmt-Inv-loop sel-stmt-μ-loop
-sel-stmt-select-statement-before-requires t c κs = let r = side-ready (c .before .before .before .before .before .before .before .before .before .before .pre .1) (c .before .before .before .before .before .before .loop .inv) in omega arith
+sel-stmt-select-statement-before-requires t c κs = let r = side-ready (c .before .before .before .before .before .before .before .before .before .before .before .pre .1) (c .before .before .before .before .before .before .loop .inv) in omega arith
 
 sel-stmt-sub-node : (t : ℕ) → sel-stmt-lts.Need-sub-node (
   head-at-reads.Asked,
@@ -11931,7 +11932,7 @@ sel-stmt-sub-node : (t : ℕ) → sel-stmt-lts.Need-sub-node (
   node-below t,
   node.Post,
 ) (sel-stmt-at t) sel-stmt.Post sel-stmt-Inv-loop sel-stmt-μ-loop
-sel-stmt-sub-node t c = left-pos (c .before .before .before .before .before .before .before .before .before .before .before .before .before .before .pre .1) (c .before .before .before .before .before .before .before .before .before .before .loop .inv) (c .before .before .before .before .before .before .before .before .if1 .taken) (c .before .before .before .before .before .if2 .left)
+sel-stmt-sub-node t c = left-pos (c .before .before .before .before .before .before .before .before .before .before .before .before .before .before .before .pre .1) (c .before .before .before .before .before .before .before .before .before .before .loop .inv) (c .before .before .before .before .before .before .before .before .if1 .taken) (c .before .before .before .before .before .if2 .left)
 
 sel-stmt-node-requires : (t : ℕ) → sel-stmt-lts.Need-node-requires (
   head-at-reads.Asked,
@@ -11943,7 +11944,7 @@ sel-stmt-node-requires : (t : ℕ) → sel-stmt-lts.Need-node-requires (
   node-below t,
   node.Post,
 ) (sel-stmt-at t) sel-stmt.Post sel-stmt-Inv-loop sel-stmt-μ-loop
-sel-stmt-node-requires t c κs = (omega (arith, c .before .before .before .before .before .before .before .before .before .before .before .before .before .before .pre .0, left-pos (c .before .before .before .before .before .before .before .before .before .before .before .before .before .before .pre .1) (c .before .before .before .before .before .before .before .before .before .before .loop .inv) (c .before .before .before .before .before .before .before .before .if1 .taken) (c .before .before .before .before .before .if2 .left)), node-ready (c .before .before .before .before .before .before .before .before .before .before .before .before .before .before .pre .1) (c .before .before .before .before .before .before .before .before .before .before .loop .inv) (c .before .before .before .before .before .before .before .before .if1 .taken) (c .before .before .before .before .before .if2 .left) (c .before .before .before .before .before .before .before .head-at .ensures) (c .before .before .before .select-statement-before .ensures) (omega arith))
+sel-stmt-node-requires t c κs = (omega (arith, c .before .before .before .before .before .before .before .before .before .before .before .before .before .before .before .pre .0, left-pos (c .before .before .before .before .before .before .before .before .before .before .before .before .before .before .before .pre .1) (c .before .before .before .before .before .before .before .before .before .before .loop .inv) (c .before .before .before .before .before .before .before .before .if1 .taken) (c .before .before .before .before .before .if2 .left)), node-ready (c .before .before .before .before .before .before .before .before .before .before .before .before .before .before .before .pre .1) (c .before .before .before .before .before .before .before .before .before .before .loop .inv) (c .before .before .before .before .before .before .before .before .if1 .taken) (c .before .before .before .before .before .if2 .left) (c .before .before .before .before .before .before .before .head-at .ensures) (c .before .before .before .select-statement-before .ensures) (omega arith))
 
 sel-stmt-loop-less-2 : (t : ℕ) → sel-stmt-lts.Need-loop-less-2 (
   head-at-reads.Asked,
@@ -11968,7 +11969,7 @@ sel-stmt-loop-again-2 : (t : ℕ) → sel-stmt-lts.Need-loop-again-2 (
   node.Post,
 ) (sel-stmt-at t) sel-stmt.Post sel-stmt-Inv-loop sel-stmt-μ-loop
 unfolding formatSelectStatement
-sel-stmt-loop-again-2 t c = node-next (c .before .before .before .before .before .before .before .before .before .before .before .before .before .before .before .before .before .before .pre .1) (c .before .before .before .before .before .before .before .before .before .before .before .before .before .before .loop .inv) (formatSelectStatement .atNode (c .before .before .before .before .before .before .before .before .before .before .before .before .before .before .loop .local) (c .before .before .before .before .before .before .before .before .before .before .before .head-at .result .kind) 0) (c .before .before .before .before .before .before .before .before .before .before .before .before .if1 .taken) (c .before .before .before .before .before .before .before .before .before .if2 .left) (c .before .before .before .before .before .before .before .before .before .before .before .head-at .ensures) (λ k z. refl) (c .before .before .before .before .before .before .before .select-statement-before .ensures) (c .before .before .before .node .ensures) refl no-spacing (omega arith) (omega arith) (c .before .before .before .node .kept .1 .1 .1 .1 .0 ∙ c .before .before .before .before .before .before .before .select-statement-before .kept .0)
+sel-stmt-loop-again-2 t c = node-next (c .before .before .before .before .before .before .before .before .before .before .before .before .before .before .before .before .before .before .before .pre .1) (c .before .before .before .before .before .before .before .before .before .before .before .before .before .before .loop .inv) (formatSelectStatement .atNode (c .before .before .before .before .before .before .before .before .before .before .before .before .before .before .loop .local) (c .before .before .before .before .before .before .before .before .before .before .before .head-at .result .kind) 0) (c .before .before .before .before .before .before .before .before .before .before .before .before .if1 .taken) (c .before .before .before .before .before .before .before .before .before .if2 .left) (c .before .before .before .before .before .before .before .before .before .before .before .head-at .ensures) (λ k z. refl) (c .before .before .before .before .before .before .before .select-statement-before .ensures) (c .before .before .before .node .ensures) refl no-spacing (omega arith) (omega arith) (c .before .before .before .node .kept .1 .1 .1 .1 .0 ∙ c .before .before .before .before .before .before .before .select-statement-before .kept .0)
 
 sel-stmt-add-t28 : (t : ℕ) → sel-stmt-lts.Need-add-t28 (
   head-at-reads.Asked,
@@ -11980,7 +11981,7 @@ sel-stmt-add-t28 : (t : ℕ) → sel-stmt-lts.Need-add-t28 (
   node-below t,
   node.Post,
 ) (sel-stmt-at t) sel-stmt.Post sel-stmt-Inv-loop sel-stmt-μ-loop
-sel-stmt-add-t28 t c = omega (arith, c .before .before .loop .inv .inside, c .before .before .before .before .before .before .pre .1 .sizes .tape-fits)
+sel-stmt-add-t28 t c = omega (arith, c .before .before .loop .inv .inside, c .before .before .before .before .before .before .before .pre .1 .sizes .tape-fits)
 
 sel-stmt-same-length : (t : ℕ) → sel-stmt-lts.Need-same-length (
   head-at-reads.Asked,
@@ -12005,13 +12006,13 @@ sel-stmt-returns : (t : ℕ) → sel-stmt-lts.Need-returns (
   node.Post,
 ) (sel-stmt-at t) sel-stmt.Post sel-stmt-Inv-loop sel-stmt-μ-loop
 unfolding formatSelectStatement
-sel-stmt-returns t c = loop-last (c .before .before .before .before .before .before .pre .1) (c .before .before .loop .inv) (c .if1 .left) no-spacing (omega arith)
+sel-stmt-returns t c = loop-last (c .before .before .before .before .before .before .before .pre .1) (c .before .before .loop .inv) (c .if1 .left) no-spacing (omega arith)
 
 abbrev select-Inv-loop : select-lts.InvT-loop
-select-Inv-loop source tape config errors out₀ left at i₀ ctx₀ local out i ctx = Loop source tape config errors left at (always formatSelectClause) formatSelectClause ctx₀ out₀ out i ctx (flagged false)
+select-Inv-loop source tape config facts out₀ left at i₀ ctx₀ local out i ctx = Loop source tape facts config left at (always formatSelectClause) formatSelectClause ctx₀ out₀ out i ctx (flagged false)
 
 abbrev select-μ-loop : select-lts.MeasureT-loop
-select-μ-loop source tape config errors out₀ left at i₀ ctx₀ local out i ctx = length tape - i
+select-μ-loop source tape config facts out₀ left at i₀ ctx₀ local out i ctx = length tape - i
 
 select-add-i : (t : ℕ) → select-lts.Need-add-i (
   head-at-reads.Asked,
@@ -12025,7 +12026,7 @@ select-add-i : (t : ℕ) → select-lts.Need-add-i (
   select-clause-after-reads.Asked,
   select-clause-after-reads.Learnt,
 ) (select-at t) select.Post select-Inv-loop select-μ-loop
-select-add-i t c = omega (arith, c .before .before .before .pre .1 .inside, c .before .before .before .pre .1 .sizes .tape-fits)
+select-add-i t c = omega (arith, c .before .before .before .before .pre .1 .inside, c .before .before .before .before .pre .1 .sizes .tape-fits)
 
 select-loop-holds : (t : ℕ) → select-lts.Need-loop-holds (
   head-at-reads.Asked,
@@ -12040,7 +12041,7 @@ select-loop-holds : (t : ℕ) → select-lts.Need-loop-holds (
   select-clause-after-reads.Learnt,
 ) (select-at t) select.Post select-Inv-loop select-μ-loop
 unfolding formatSelectClause
-select-loop-holds t c = loop-first (always formatSelectClause) formatSelectClause _ (c .before .before .before .pre .1) (λ all z. refl)
+select-loop-holds t c = loop-first (always formatSelectClause) formatSelectClause _ (c .before .before .before .before .pre .1) (λ all z. refl)
 
 select-shared-slice-read-if1 : (t : ℕ) → select-lts.Need-shared-slice-read-if1 (
   head-at-reads.Asked,
@@ -12068,7 +12069,7 @@ select-head-at-requires : (t : ℕ) → select-lts.Need-head-at-requires (
   select-clause-after-reads.Asked,
   select-clause-after-reads.Learnt,
 ) (select-at t) select.Post select-Inv-loop select-μ-loop
-select-head-at-requires t c κs = loop-fits (c .before .before .before .before .before .before .pre .1) (c .before .before .loop .inv) (c .if1 .taken)
+select-head-at-requires t c κs = loop-fits (c .before .before .before .before .before .before .before .pre .1) (c .before .before .loop .inv) (c .if1 .taken)
 
 select-shared-slice-read-if2 : (t : ℕ) → select-lts.Need-shared-slice-read-if2 (
   head-at-reads.Asked,
@@ -12096,7 +12097,7 @@ select-select-clause-token-requires : (t : ℕ) → select-lts.Need-select-claus
   select-clause-after-reads.Asked,
   select-clause-after-reads.Learnt,
 ) (select-at t) select.Post select-Inv-loop select-μ-loop
-select-select-clause-token-requires t c κs = token-ready (c .before .before .before .before .before .before .before .before .before .before .pre .1) (c .before .before .before .before .before .before .loop .inv) _ (c .before .if2 .taken) (c .before .before .before .head-at .ensures)
+select-select-clause-token-requires t c κs = token-ready (c .before .before .before .before .before .before .before .before .before .before .before .pre .1) (c .before .before .before .before .before .before .loop .inv) _ (c .before .if2 .taken) (c .before .before .before .head-at .ensures)
 
 select-add-i-2 : (t : ℕ) → select-lts.Need-add-i-2 (
   head-at-reads.Asked,
@@ -12110,7 +12111,7 @@ select-add-i-2 : (t : ℕ) → select-lts.Need-add-i-2 (
   select-clause-after-reads.Asked,
   select-clause-after-reads.Learnt,
 ) (select-at t) select.Post select-Inv-loop select-μ-loop
-select-add-i-2 t c = omega (arith, loop-fits (c .before .before .before .before .before .before .before .before .before .before .before .before .before .pre .1) (c .before .before .before .before .before .before .before .before .before .loop .inv) (c .before .before .before .before .before .before .before .if1 .taken), c .before .before .before .before .before .before .before .before .before .before .before .before .before .pre .1 .sizes .tape-fits)
+select-add-i-2 t c = omega (arith, loop-fits (c .before .before .before .before .before .before .before .before .before .before .before .before .before .before .pre .1) (c .before .before .before .before .before .before .before .before .before .loop .inv) (c .before .before .before .before .before .before .before .if1 .taken), c .before .before .before .before .before .before .before .before .before .before .before .before .before .before .pre .1 .sizes .tape-fits)
 
 select-loop-less : (t : ℕ) → select-lts.Need-loop-less (
   head-at-reads.Asked,
@@ -12139,7 +12140,7 @@ select-loop-again : (t : ℕ) → select-lts.Need-loop-again (
   select-clause-after-reads.Learnt,
 ) (select-at t) select.Post select-Inv-loop select-μ-loop
 unfolding formatSelectClause
-select-loop-again t c = token-next (c .before .before .before .before .before .before .before .before .before .before .before .before .before .pre .1) (c .before .before .before .before .before .before .before .before .before .loop .inv) (c .before .before .before .before .if2 .taken) (c .before .before .before .before .before .before .head-at .ensures) (c .before .before .select-clause-token .ensures) refl (c .before .before .select-clause-token .kept .1 .1 .0)
+select-loop-again t c = token-next (c .before .before .before .before .before .before .before .before .before .before .before .before .before .before .pre .1) (c .before .before .before .before .before .before .before .before .before .loop .inv) (c .before .before .before .before .if2 .taken) (c .before .before .before .before .before .before .head-at .ensures) (c .before .before .select-clause-token .ensures) refl (c .before .before .select-clause-token .kept .1 .1 .0)
 
 select-select-clause-before-requires : (t : ℕ) → select-lts.Need-select-clause-before-requires (
   head-at-reads.Asked,
@@ -12153,7 +12154,7 @@ select-select-clause-before-requires : (t : ℕ) → select-lts.Need-select-clau
   select-clause-after-reads.Asked,
   select-clause-after-reads.Learnt,
 ) (select-at t) select.Post select-Inv-loop select-μ-loop
-select-select-clause-before-requires t c κs = let r = side-ready (c .before .before .before .before .before .before .before .before .before .before .pre .1) (c .before .before .before .before .before .before .loop .inv) in omega arith
+select-select-clause-before-requires t c κs = let r = side-ready (c .before .before .before .before .before .before .before .before .before .before .before .pre .1) (c .before .before .before .before .before .before .loop .inv) in omega arith
 
 select-sub-node : (t : ℕ) → select-lts.Need-sub-node (
   head-at-reads.Asked,
@@ -12167,7 +12168,7 @@ select-sub-node : (t : ℕ) → select-lts.Need-sub-node (
   select-clause-after-reads.Asked,
   select-clause-after-reads.Learnt,
 ) (select-at t) select.Post select-Inv-loop select-μ-loop
-select-sub-node t c = left-pos (c .before .before .before .before .before .before .before .before .before .before .before .before .before .before .pre .1) (c .before .before .before .before .before .before .before .before .before .before .loop .inv) (c .before .before .before .before .before .before .before .before .if1 .taken) (c .before .before .before .before .before .if2 .left)
+select-sub-node t c = left-pos (c .before .before .before .before .before .before .before .before .before .before .before .before .before .before .before .pre .1) (c .before .before .before .before .before .before .before .before .before .before .loop .inv) (c .before .before .before .before .before .before .before .before .if1 .taken) (c .before .before .before .before .before .if2 .left)
 
 select-node-requires : (t : ℕ) → select-lts.Need-node-requires (
   head-at-reads.Asked,
@@ -12181,7 +12182,7 @@ select-node-requires : (t : ℕ) → select-lts.Need-node-requires (
   select-clause-after-reads.Asked,
   select-clause-after-reads.Learnt,
 ) (select-at t) select.Post select-Inv-loop select-μ-loop
-select-node-requires t c κs = (omega (arith, c .before .before .before .before .before .before .before .before .before .before .before .before .before .before .pre .0, left-pos (c .before .before .before .before .before .before .before .before .before .before .before .before .before .before .pre .1) (c .before .before .before .before .before .before .before .before .before .before .loop .inv) (c .before .before .before .before .before .before .before .before .if1 .taken) (c .before .before .before .before .before .if2 .left)), node-ready (c .before .before .before .before .before .before .before .before .before .before .before .before .before .before .pre .1) (c .before .before .before .before .before .before .before .before .before .before .loop .inv) (c .before .before .before .before .before .before .before .before .if1 .taken) (c .before .before .before .before .before .if2 .left) (c .before .before .before .before .before .before .before .head-at .ensures) (c .before .before .before .select-clause-before .ensures) (omega arith))
+select-node-requires t c κs = (omega (arith, c .before .before .before .before .before .before .before .before .before .before .before .before .before .before .before .pre .0, left-pos (c .before .before .before .before .before .before .before .before .before .before .before .before .before .before .before .pre .1) (c .before .before .before .before .before .before .before .before .before .before .loop .inv) (c .before .before .before .before .before .before .before .before .if1 .taken) (c .before .before .before .before .before .if2 .left)), node-ready (c .before .before .before .before .before .before .before .before .before .before .before .before .before .before .before .pre .1) (c .before .before .before .before .before .before .before .before .before .before .loop .inv) (c .before .before .before .before .before .before .before .before .if1 .taken) (c .before .before .before .before .before .if2 .left) (c .before .before .before .before .before .before .before .head-at .ensures) (c .before .before .before .select-clause-before .ensures) (omega arith))
 
 select-select-clause-after-requires : (t : ℕ) → select-lts.Need-select-clause-after-requires (
   head-at-reads.Asked,
@@ -12224,7 +12225,7 @@ select-loop-again-2 : (t : ℕ) → select-lts.Need-loop-again-2 (
   select-clause-after-reads.Learnt,
 ) (select-at t) select.Post select-Inv-loop select-μ-loop
 unfolding formatSelectClause
-select-loop-again-2 t c = node-next (c .before .before .before .before .before .before .before .before .before .before .before .before .before .before .before .before .before .before .before .pre .1) (c .before .before .before .before .before .before .before .before .before .before .before .before .before .before .before .loop .inv) (formatSelectClause .atNode (flagged false) (c .before .before .before .before .before .before .before .before .before .before .before .before .head-at .result .kind) 0) (c .before .before .before .before .before .before .before .before .before .before .before .before .before .if1 .taken) (c .before .before .before .before .before .before .before .before .before .before .if2 .left) (c .before .before .before .before .before .before .before .before .before .before .before .before .head-at .ensures) (λ k z. refl) (c .before .before .before .before .before .before .before .before .select-clause-before .ensures) (c .before .before .before .before .node .ensures) (select-kept (flagged false) (c .before .before .before .before .before .before .before .before .before .before .before .before .head-at .result .kind)) (as-spaced (c .select-clause-after .ensures)) (omega arith) (omega arith) (c .before .before .before .before .node .kept .1 .1 .1 .1 .0 ∙ c .before .before .before .before .before .before .before .before .select-clause-before .kept .0)
+select-loop-again-2 t c = node-next (c .before .before .before .before .before .before .before .before .before .before .before .before .before .before .before .before .before .before .before .before .pre .1) (c .before .before .before .before .before .before .before .before .before .before .before .before .before .before .before .loop .inv) (formatSelectClause .atNode (flagged false) (c .before .before .before .before .before .before .before .before .before .before .before .before .head-at .result .kind) 0) (c .before .before .before .before .before .before .before .before .before .before .before .before .before .if1 .taken) (c .before .before .before .before .before .before .before .before .before .before .if2 .left) (c .before .before .before .before .before .before .before .before .before .before .before .before .head-at .ensures) (λ k z. refl) (c .before .before .before .before .before .before .before .before .select-clause-before .ensures) (c .before .before .before .before .node .ensures) (select-kept (flagged false) (c .before .before .before .before .before .before .before .before .before .before .before .before .head-at .result .kind)) (as-spaced (c .select-clause-after .ensures)) (omega arith) (omega arith) (c .before .before .before .before .node .kept .1 .1 .1 .1 .0 ∙ c .before .before .before .before .before .before .before .before .select-clause-before .kept .0)
 
 select-add-t28 : (t : ℕ) → select-lts.Need-add-t28 (
   head-at-reads.Asked,
@@ -12238,7 +12239,7 @@ select-add-t28 : (t : ℕ) → select-lts.Need-add-t28 (
   select-clause-after-reads.Asked,
   select-clause-after-reads.Learnt,
 ) (select-at t) select.Post select-Inv-loop select-μ-loop
-select-add-t28 t c = omega (arith, c .before .before .loop .inv .inside, c .before .before .before .before .before .before .pre .1 .sizes .tape-fits)
+select-add-t28 t c = omega (arith, c .before .before .loop .inv .inside, c .before .before .before .before .before .before .before .pre .1 .sizes .tape-fits)
 
 select-same-length : (t : ℕ) → select-lts.Need-same-length (
   head-at-reads.Asked,
@@ -12267,13 +12268,13 @@ select-returns : (t : ℕ) → select-lts.Need-returns (
   select-clause-after-reads.Learnt,
 ) (select-at t) select.Post select-Inv-loop select-μ-loop
 unfolding formatSelectClause
-select-returns t c = loop-last (c .before .before .before .before .before .before .pre .1) (c .before .before .loop .inv) (c .if1 .left) no-spacing (omega arith)
+select-returns t c = loop-last (c .before .before .before .before .before .before .before .pre .1) (c .before .before .loop .inv) (c .if1 .left) no-spacing (omega arith)
 
 abbrev settings-Inv-loop : settings-lts.InvT-loop
-settings-Inv-loop source tape config errors out₀ left at i₀ ctx₀ local out i ctx = Loop source tape config errors left at (always formatSettingsClause) formatSettingsClause ctx₀ out₀ out i ctx (flagged false)
+settings-Inv-loop source tape config facts out₀ left at i₀ ctx₀ local out i ctx = Loop source tape facts config left at (always formatSettingsClause) formatSettingsClause ctx₀ out₀ out i ctx (flagged false)
 
 abbrev settings-μ-loop : settings-lts.MeasureT-loop
-settings-μ-loop source tape config errors out₀ left at i₀ ctx₀ local out i ctx = length tape - i
+settings-μ-loop source tape config facts out₀ left at i₀ ctx₀ local out i ctx = length tape - i
 
 settings-add-i : (t : ℕ) → settings-lts.Need-add-i (
   head-at-reads.Asked,
@@ -12287,7 +12288,7 @@ settings-add-i : (t : ℕ) → settings-lts.Need-add-i (
   settings-clause-after-reads.Asked,
   settings-clause-after-reads.Learnt,
 ) (settings-at t) settings.Post settings-Inv-loop settings-μ-loop
-settings-add-i t c = omega (arith, c .before .before .before .pre .1 .inside, c .before .before .before .pre .1 .sizes .tape-fits)
+settings-add-i t c = omega (arith, c .before .before .before .before .pre .1 .inside, c .before .before .before .before .pre .1 .sizes .tape-fits)
 
 settings-loop-holds : (t : ℕ) → settings-lts.Need-loop-holds (
   head-at-reads.Asked,
@@ -12302,7 +12303,7 @@ settings-loop-holds : (t : ℕ) → settings-lts.Need-loop-holds (
   settings-clause-after-reads.Learnt,
 ) (settings-at t) settings.Post settings-Inv-loop settings-μ-loop
 unfolding formatSettingsClause
-settings-loop-holds t c = loop-first (always formatSettingsClause) formatSettingsClause _ (c .before .before .before .pre .1) (λ all z. refl)
+settings-loop-holds t c = loop-first (always formatSettingsClause) formatSettingsClause _ (c .before .before .before .before .pre .1) (λ all z. refl)
 
 settings-shared-slice-read-if1 : (t : ℕ) → settings-lts.Need-shared-slice-read-if1 (
   head-at-reads.Asked,
@@ -12330,7 +12331,7 @@ settings-head-at-requires : (t : ℕ) → settings-lts.Need-head-at-requires (
   settings-clause-after-reads.Asked,
   settings-clause-after-reads.Learnt,
 ) (settings-at t) settings.Post settings-Inv-loop settings-μ-loop
-settings-head-at-requires t c κs = loop-fits (c .before .before .before .before .before .before .pre .1) (c .before .before .loop .inv) (c .if1 .taken)
+settings-head-at-requires t c κs = loop-fits (c .before .before .before .before .before .before .before .pre .1) (c .before .before .loop .inv) (c .if1 .taken)
 
 settings-shared-slice-read-if2 : (t : ℕ) → settings-lts.Need-shared-slice-read-if2 (
   head-at-reads.Asked,
@@ -12358,7 +12359,7 @@ settings-select-clause-token-requires : (t : ℕ) → settings-lts.Need-select-c
   settings-clause-after-reads.Asked,
   settings-clause-after-reads.Learnt,
 ) (settings-at t) settings.Post settings-Inv-loop settings-μ-loop
-settings-select-clause-token-requires t c κs = token-ready (c .before .before .before .before .before .before .before .before .before .before .pre .1) (c .before .before .before .before .before .before .loop .inv) _ (c .before .if2 .taken) (c .before .before .before .head-at .ensures)
+settings-select-clause-token-requires t c κs = token-ready (c .before .before .before .before .before .before .before .before .before .before .before .pre .1) (c .before .before .before .before .before .before .loop .inv) _ (c .before .if2 .taken) (c .before .before .before .head-at .ensures)
 
 settings-add-i-2 : (t : ℕ) → settings-lts.Need-add-i-2 (
   head-at-reads.Asked,
@@ -12372,7 +12373,7 @@ settings-add-i-2 : (t : ℕ) → settings-lts.Need-add-i-2 (
   settings-clause-after-reads.Asked,
   settings-clause-after-reads.Learnt,
 ) (settings-at t) settings.Post settings-Inv-loop settings-μ-loop
-settings-add-i-2 t c = omega (arith, loop-fits (c .before .before .before .before .before .before .before .before .before .before .before .before .before .pre .1) (c .before .before .before .before .before .before .before .before .before .loop .inv) (c .before .before .before .before .before .before .before .if1 .taken), c .before .before .before .before .before .before .before .before .before .before .before .before .before .pre .1 .sizes .tape-fits)
+settings-add-i-2 t c = omega (arith, loop-fits (c .before .before .before .before .before .before .before .before .before .before .before .before .before .before .pre .1) (c .before .before .before .before .before .before .before .before .before .loop .inv) (c .before .before .before .before .before .before .before .if1 .taken), c .before .before .before .before .before .before .before .before .before .before .before .before .before .before .pre .1 .sizes .tape-fits)
 
 settings-loop-less : (t : ℕ) → settings-lts.Need-loop-less (
   head-at-reads.Asked,
@@ -12401,7 +12402,7 @@ settings-loop-again : (t : ℕ) → settings-lts.Need-loop-again (
   settings-clause-after-reads.Learnt,
 ) (settings-at t) settings.Post settings-Inv-loop settings-μ-loop
 unfolding formatSettingsClause
-settings-loop-again t c = token-next (c .before .before .before .before .before .before .before .before .before .before .before .before .before .pre .1) (c .before .before .before .before .before .before .before .before .before .loop .inv) (c .before .before .before .before .if2 .taken) (c .before .before .before .before .before .before .head-at .ensures) (c .before .before .select-clause-token .ensures) refl (c .before .before .select-clause-token .kept .1 .1 .0)
+settings-loop-again t c = token-next (c .before .before .before .before .before .before .before .before .before .before .before .before .before .before .pre .1) (c .before .before .before .before .before .before .before .before .before .loop .inv) (c .before .before .before .before .if2 .taken) (c .before .before .before .before .before .before .head-at .ensures) (c .before .before .select-clause-token .ensures) refl (c .before .before .select-clause-token .kept .1 .1 .0)
 
 settings-settings-clause-before-requires :
     (t : ℕ) → settings-lts.Need-settings-clause-before-requires (
@@ -12416,7 +12417,7 @@ settings-settings-clause-before-requires :
       settings-clause-after-reads.Asked,
       settings-clause-after-reads.Learnt,
     ) (settings-at t) settings.Post settings-Inv-loop settings-μ-loop
-settings-settings-clause-before-requires t c κs = let r = side-ready (c .before .before .before .before .before .before .before .before .before .before .pre .1) (c .before .before .before .before .before .before .loop .inv) in omega arith
+settings-settings-clause-before-requires t c κs = let r = side-ready (c .before .before .before .before .before .before .before .before .before .before .before .pre .1) (c .before .before .before .before .before .before .loop .inv) in omega arith
 
 settings-sub-node : (t : ℕ) → settings-lts.Need-sub-node (
   head-at-reads.Asked,
@@ -12430,7 +12431,7 @@ settings-sub-node : (t : ℕ) → settings-lts.Need-sub-node (
   settings-clause-after-reads.Asked,
   settings-clause-after-reads.Learnt,
 ) (settings-at t) settings.Post settings-Inv-loop settings-μ-loop
-settings-sub-node t c = left-pos (c .before .before .before .before .before .before .before .before .before .before .before .before .before .before .pre .1) (c .before .before .before .before .before .before .before .before .before .before .loop .inv) (c .before .before .before .before .before .before .before .before .if1 .taken) (c .before .before .before .before .before .if2 .left)
+settings-sub-node t c = left-pos (c .before .before .before .before .before .before .before .before .before .before .before .before .before .before .before .pre .1) (c .before .before .before .before .before .before .before .before .before .before .loop .inv) (c .before .before .before .before .before .before .before .before .if1 .taken) (c .before .before .before .before .before .if2 .left)
 
 settings-node-requires : (t : ℕ) → settings-lts.Need-node-requires (
   head-at-reads.Asked,
@@ -12444,7 +12445,7 @@ settings-node-requires : (t : ℕ) → settings-lts.Need-node-requires (
   settings-clause-after-reads.Asked,
   settings-clause-after-reads.Learnt,
 ) (settings-at t) settings.Post settings-Inv-loop settings-μ-loop
-settings-node-requires t c κs = (omega (arith, c .before .before .before .before .before .before .before .before .before .before .before .before .before .before .pre .0, left-pos (c .before .before .before .before .before .before .before .before .before .before .before .before .before .before .pre .1) (c .before .before .before .before .before .before .before .before .before .before .loop .inv) (c .before .before .before .before .before .before .before .before .if1 .taken) (c .before .before .before .before .before .if2 .left)), node-ready (c .before .before .before .before .before .before .before .before .before .before .before .before .before .before .pre .1) (c .before .before .before .before .before .before .before .before .before .before .loop .inv) (c .before .before .before .before .before .before .before .before .if1 .taken) (c .before .before .before .before .before .if2 .left) (c .before .before .before .before .before .before .before .head-at .ensures) (c .before .before .before .settings-clause-before .ensures) (omega arith))
+settings-node-requires t c κs = (omega (arith, c .before .before .before .before .before .before .before .before .before .before .before .before .before .before .before .pre .0, left-pos (c .before .before .before .before .before .before .before .before .before .before .before .before .before .before .before .pre .1) (c .before .before .before .before .before .before .before .before .before .before .loop .inv) (c .before .before .before .before .before .before .before .before .if1 .taken) (c .before .before .before .before .before .if2 .left)), node-ready (c .before .before .before .before .before .before .before .before .before .before .before .before .before .before .before .pre .1) (c .before .before .before .before .before .before .before .before .before .before .loop .inv) (c .before .before .before .before .before .before .before .before .if1 .taken) (c .before .before .before .before .before .if2 .left) (c .before .before .before .before .before .before .before .head-at .ensures) (c .before .before .before .settings-clause-before .ensures) (omega arith))
 
 settings-settings-clause-after-requires :
     (t : ℕ) → settings-lts.Need-settings-clause-after-requires (
@@ -12488,7 +12489,7 @@ settings-loop-again-2 : (t : ℕ) → settings-lts.Need-loop-again-2 (
   settings-clause-after-reads.Learnt,
 ) (settings-at t) settings.Post settings-Inv-loop settings-μ-loop
 unfolding formatSettingsClause
-settings-loop-again-2 t c = node-next (c .before .before .before .before .before .before .before .before .before .before .before .before .before .before .before .before .before .before .before .pre .1) (c .before .before .before .before .before .before .before .before .before .before .before .before .before .before .before .loop .inv) (formatSettingsClause .atNode (flagged false) (c .before .before .before .before .before .before .before .before .before .before .before .before .head-at .result .kind) 0) (c .before .before .before .before .before .before .before .before .before .before .before .before .before .if1 .taken) (c .before .before .before .before .before .before .before .before .before .before .if2 .left) (c .before .before .before .before .before .before .before .before .before .before .before .before .head-at .ensures) (λ k z. refl) (c .before .before .before .before .before .before .before .before .settings-clause-before .ensures) (c .before .before .before .before .node .ensures) (settings-kept (flagged false) (c .before .before .before .before .before .before .before .before .before .before .before .before .head-at .result .kind)) (as-spaced (c .settings-clause-after .ensures)) (omega arith) (omega arith) (c .before .before .before .before .node .kept .1 .1 .1 .1 .0 ∙ c .before .before .before .before .before .before .before .before .settings-clause-before .kept .0)
+settings-loop-again-2 t c = node-next (c .before .before .before .before .before .before .before .before .before .before .before .before .before .before .before .before .before .before .before .before .pre .1) (c .before .before .before .before .before .before .before .before .before .before .before .before .before .before .before .loop .inv) (formatSettingsClause .atNode (flagged false) (c .before .before .before .before .before .before .before .before .before .before .before .before .head-at .result .kind) 0) (c .before .before .before .before .before .before .before .before .before .before .before .before .before .if1 .taken) (c .before .before .before .before .before .before .before .before .before .before .if2 .left) (c .before .before .before .before .before .before .before .before .before .before .before .before .head-at .ensures) (λ k z. refl) (c .before .before .before .before .before .before .before .before .settings-clause-before .ensures) (c .before .before .before .before .node .ensures) (settings-kept (flagged false) (c .before .before .before .before .before .before .before .before .before .before .before .before .head-at .result .kind)) (as-spaced (c .settings-clause-after .ensures)) (omega arith) (omega arith) (c .before .before .before .before .node .kept .1 .1 .1 .1 .0 ∙ c .before .before .before .before .before .before .before .before .settings-clause-before .kept .0)
 
 settings-add-t28 : (t : ℕ) → settings-lts.Need-add-t28 (
   head-at-reads.Asked,
@@ -12502,7 +12503,7 @@ settings-add-t28 : (t : ℕ) → settings-lts.Need-add-t28 (
   settings-clause-after-reads.Asked,
   settings-clause-after-reads.Learnt,
 ) (settings-at t) settings.Post settings-Inv-loop settings-μ-loop
-settings-add-t28 t c = omega (arith, c .before .before .loop .inv .inside, c .before .before .before .before .before .before .pre .1 .sizes .tape-fits)
+settings-add-t28 t c = omega (arith, c .before .before .loop .inv .inside, c .before .before .before .before .before .before .before .pre .1 .sizes .tape-fits)
 
 settings-same-length : (t : ℕ) → settings-lts.Need-same-length (
   head-at-reads.Asked,
@@ -12531,13 +12532,13 @@ settings-returns : (t : ℕ) → settings-lts.Need-returns (
   settings-clause-after-reads.Learnt,
 ) (settings-at t) settings.Post settings-Inv-loop settings-μ-loop
 unfolding formatSettingsClause
-settings-returns t c = loop-last (c .before .before .before .before .before .before .pre .1) (c .before .before .loop .inv) (c .if1 .left) no-spacing (omega arith)
+settings-returns t c = loop-last (c .before .before .before .before .before .before .before .pre .1) (c .before .before .loop .inv) (c .if1 .left) no-spacing (omega arith)
 
 abbrev simple-Inv-loop : simple-lts.InvT-loop
-simple-Inv-loop source tape config errors out₀ left at i₀ ctx₀ local₀ out i ctx local = Loop source tape config errors left at (always formatSimpleClause) formatSimpleClause ctx₀ out₀ out i ctx local
+simple-Inv-loop source tape config facts out₀ left at i₀ ctx₀ local₀ out i ctx local = Loop source tape facts config left at (always formatSimpleClause) formatSimpleClause ctx₀ out₀ out i ctx local
 
 abbrev simple-μ-loop : simple-lts.MeasureT-loop
-simple-μ-loop source tape config errors out₀ left at i₀ ctx₀ local₀ out i ctx local = length tape - i
+simple-μ-loop source tape config facts out₀ left at i₀ ctx₀ local₀ out i ctx local = length tape - i
 
 simple-add-i : (t : ℕ) → simple-lts.Need-add-i (
   head-at-reads.Asked,
@@ -12549,7 +12550,7 @@ simple-add-i : (t : ℕ) → simple-lts.Need-add-i (
   node-below t,
   node.Post,
 ) (simple-at t) simple.Post simple-Inv-loop simple-μ-loop
-simple-add-i t c = omega (arith, c .before .before .before .pre .1 .inside, c .before .before .before .pre .1 .sizes .tape-fits)
+simple-add-i t c = omega (arith, c .before .before .before .before .pre .1 .inside, c .before .before .before .before .pre .1 .sizes .tape-fits)
 
 simple-loop-holds : (t : ℕ) → simple-lts.Need-loop-holds (
   head-at-reads.Asked,
@@ -12562,7 +12563,7 @@ simple-loop-holds : (t : ℕ) → simple-lts.Need-loop-holds (
   node.Post,
 ) (simple-at t) simple.Post simple-Inv-loop simple-μ-loop
 unfolding formatSimpleClause
-simple-loop-holds t c = loop-first (always formatSimpleClause) formatSimpleClause _ (c .before .before .before .pre .1) (λ all z. refl)
+simple-loop-holds t c = loop-first (always formatSimpleClause) formatSimpleClause _ (c .before .before .before .before .pre .1) (λ all z. refl)
 
 simple-shared-slice-read-if1 : (t : ℕ) → simple-lts.Need-shared-slice-read-if1 (
   head-at-reads.Asked,
@@ -12586,7 +12587,7 @@ simple-head-at-requires : (t : ℕ) → simple-lts.Need-head-at-requires (
   node-below t,
   node.Post,
 ) (simple-at t) simple.Post simple-Inv-loop simple-μ-loop
-simple-head-at-requires t c κs = loop-fits (c .before .before .before .before .before .before .pre .1) (c .before .before .loop .inv) (c .if1 .taken)
+simple-head-at-requires t c κs = loop-fits (c .before .before .before .before .before .before .before .pre .1) (c .before .before .loop .inv) (c .if1 .taken)
 
 simple-shared-slice-read-if2 : (t : ℕ) → simple-lts.Need-shared-slice-read-if2 (
   head-at-reads.Asked,
@@ -12610,7 +12611,7 @@ simple-simple-clause-token-requires : (t : ℕ) → simple-lts.Need-simple-claus
   node-below t,
   node.Post,
 ) (simple-at t) simple.Post simple-Inv-loop simple-μ-loop
-simple-simple-clause-token-requires t c κs = token-ready (c .before .before .before .before .before .before .before .before .before .before .pre .1) (c .before .before .before .before .before .before .loop .inv) _ (c .before .if2 .taken) (c .before .before .before .head-at .ensures)
+simple-simple-clause-token-requires t c κs = token-ready (c .before .before .before .before .before .before .before .before .before .before .before .pre .1) (c .before .before .before .before .before .before .loop .inv) _ (c .before .if2 .taken) (c .before .before .before .head-at .ensures)
 
 simple-add-i-2 : (t : ℕ) → simple-lts.Need-add-i-2 (
   head-at-reads.Asked,
@@ -12622,7 +12623,7 @@ simple-add-i-2 : (t : ℕ) → simple-lts.Need-add-i-2 (
   node-below t,
   node.Post,
 ) (simple-at t) simple.Post simple-Inv-loop simple-μ-loop
-simple-add-i-2 t c = omega (arith, loop-fits (c .before .before .before .before .before .before .before .before .before .before .before .before .before .before .before .pre .1) (c .before .before .before .before .before .before .before .before .before .before .before .loop .inv) (c .before .before .before .before .before .before .before .before .before .if1 .taken), c .before .before .before .before .before .before .before .before .before .before .before .before .before .before .before .pre .1 .sizes .tape-fits)
+simple-add-i-2 t c = omega (arith, loop-fits (c .before .before .before .before .before .before .before .before .before .before .before .before .before .before .before .before .pre .1) (c .before .before .before .before .before .before .before .before .before .before .before .loop .inv) (c .before .before .before .before .before .before .before .before .before .if1 .taken), c .before .before .before .before .before .before .before .before .before .before .before .before .before .before .before .before .pre .1 .sizes .tape-fits)
 
 simple-loop-less : (t : ℕ) → simple-lts.Need-loop-less (
   head-at-reads.Asked,
@@ -12647,7 +12648,7 @@ simple-loop-again : (t : ℕ) → simple-lts.Need-loop-again (
   node.Post,
 ) (simple-at t) simple.Post simple-Inv-loop simple-μ-loop
 unfolding formatSimpleClause
-simple-loop-again t c = token-next (c .before .before .before .before .before .before .before .before .before .before .before .before .before .before .before .pre .1) (c .before .before .before .before .before .before .before .before .before .before .before .loop .inv) (c .before .before .before .before .before .before .if2 .taken) (c .before .before .before .before .before .before .before .before .head-at .ensures) (c .before .before .before .before .simple-clause-token .ensures .acted) (c .before .before .before .before .simple-clause-token .ensures .local) (c .before .before .before .before .simple-clause-token .kept .1 .1 .0)
+simple-loop-again t c = token-next (c .before .before .before .before .before .before .before .before .before .before .before .before .before .before .before .before .pre .1) (c .before .before .before .before .before .before .before .before .before .before .before .loop .inv) (c .before .before .before .before .before .before .if2 .taken) (c .before .before .before .before .before .before .before .before .head-at .ensures) (c .before .before .before .before .simple-clause-token .ensures .acted) (c .before .before .before .before .simple-clause-token .ensures .local) (c .before .before .before .before .simple-clause-token .kept .1 .1 .0)
 
 simple-space-if-requires : (t : ℕ) → simple-lts.Need-space-if-requires (
   head-at-reads.Asked,
@@ -12671,7 +12672,7 @@ simple-sub-node : (t : ℕ) → simple-lts.Need-sub-node (
   node-below t,
   node.Post,
 ) (simple-at t) simple.Post simple-Inv-loop simple-μ-loop
-simple-sub-node t c = left-pos (c .before .before .before .before .before .before .before .before .before .before .before .pre .1) (c .before .before .before .before .before .before .before .loop .inv) (c .before .before .before .before .before .if1 .taken) (c .before .before .if2 .left)
+simple-sub-node t c = left-pos (c .before .before .before .before .before .before .before .before .before .before .before .before .pre .1) (c .before .before .before .before .before .before .before .loop .inv) (c .before .before .before .before .before .if1 .taken) (c .before .before .if2 .left)
 
 simple-node-requires : (t : ℕ) → simple-lts.Need-node-requires (
   head-at-reads.Asked,
@@ -12683,7 +12684,7 @@ simple-node-requires : (t : ℕ) → simple-lts.Need-node-requires (
   node-below t,
   node.Post,
 ) (simple-at t) simple.Post simple-Inv-loop simple-μ-loop
-simple-node-requires t c κs = (omega (arith, c .before .before .before .before .before .before .before .before .before .before .before .pre .0, left-pos (c .before .before .before .before .before .before .before .before .before .before .before .pre .1) (c .before .before .before .before .before .before .before .loop .inv) (c .before .before .before .before .before .if1 .taken) (c .before .before .if2 .left)), node-ready (c .before .before .before .before .before .before .before .before .before .before .before .pre .1) (c .before .before .before .before .before .before .before .loop .inv) (c .before .before .before .before .before .if1 .taken) (c .before .before .if2 .left) (c .before .before .before .before .head-at .ensures) (as-spaced (c .before .space-if .ensures)) (omega arith))
+simple-node-requires t c κs = (omega (arith, c .before .before .before .before .before .before .before .before .before .before .before .before .pre .0, left-pos (c .before .before .before .before .before .before .before .before .before .before .before .before .pre .1) (c .before .before .before .before .before .before .before .loop .inv) (c .before .before .before .before .before .if1 .taken) (c .before .before .if2 .left)), node-ready (c .before .before .before .before .before .before .before .before .before .before .before .before .pre .1) (c .before .before .before .before .before .before .before .loop .inv) (c .before .before .before .before .before .if1 .taken) (c .before .before .if2 .left) (c .before .before .before .before .head-at .ensures) (as-spaced (c .before .space-if .ensures)) (omega arith))
 
 simple-loop-less-2 : (t : ℕ) → simple-lts.Need-loop-less-2 (
   head-at-reads.Asked,
@@ -12708,7 +12709,7 @@ simple-loop-again-2 : (t : ℕ) → simple-lts.Need-loop-again-2 (
   node.Post,
 ) (simple-at t) simple.Post simple-Inv-loop simple-μ-loop
 unfolding formatSimpleClause
-simple-loop-again-2 t c = node-next (c .before .before .before .before .before .before .before .before .before .before .before .before .before .before .before .pre .1) (c .before .before .before .before .before .before .before .before .before .before .before .loop .inv) (formatSimpleClause .atNode (c .before .before .before .before .before .before .before .before .before .before .before .loop .local) (c .before .before .before .before .before .before .before .before .head-at .result .kind) 0) (c .before .before .before .before .before .before .before .before .before .if1 .taken) (c .before .before .before .before .before .before .if2 .left) (c .before .before .before .before .before .before .before .before .head-at .ensures) (λ k z. refl) (as-spaced (c .before .before .before .before .before .space-if .ensures)) (c .before .before .before .node .ensures) refl no-spacing (omega arith) (omega arith) (c .before .before .before .node .kept .1 .1 .1 .1 .0)
+simple-loop-again-2 t c = node-next (c .before .before .before .before .before .before .before .before .before .before .before .before .before .before .before .before .pre .1) (c .before .before .before .before .before .before .before .before .before .before .before .loop .inv) (formatSimpleClause .atNode (c .before .before .before .before .before .before .before .before .before .before .before .loop .local) (c .before .before .before .before .before .before .before .before .head-at .result .kind) 0) (c .before .before .before .before .before .before .before .before .before .if1 .taken) (c .before .before .before .before .before .before .if2 .left) (c .before .before .before .before .before .before .before .before .head-at .ensures) (λ k z. refl) (as-spaced (c .before .before .before .before .before .space-if .ensures)) (c .before .before .before .node .ensures) refl no-spacing (omega arith) (omega arith) (c .before .before .before .node .kept .1 .1 .1 .1 .0)
 
 simple-add-t27 : (t : ℕ) → simple-lts.Need-add-t27 (
   head-at-reads.Asked,
@@ -12720,7 +12721,7 @@ simple-add-t27 : (t : ℕ) → simple-lts.Need-add-t27 (
   node-below t,
   node.Post,
 ) (simple-at t) simple.Post simple-Inv-loop simple-μ-loop
-simple-add-t27 t c = omega (arith, c .before .before .loop .inv .inside, c .before .before .before .before .before .before .pre .1 .sizes .tape-fits)
+simple-add-t27 t c = omega (arith, c .before .before .loop .inv .inside, c .before .before .before .before .before .before .before .pre .1 .sizes .tape-fits)
 
 simple-same-length : (t : ℕ) → simple-lts.Need-same-length (
   head-at-reads.Asked,
@@ -12745,13 +12746,13 @@ simple-returns : (t : ℕ) → simple-lts.Need-returns (
   node.Post,
 ) (simple-at t) simple.Post simple-Inv-loop simple-μ-loop
 unfolding formatSimpleClause
-simple-returns t c = loop-last (c .before .before .before .before .before .before .pre .1) (c .before .before .loop .inv) (c .if1 .left) no-spacing (omega arith)
+simple-returns t c = loop-last (c .before .before .before .before .before .before .before .pre .1) (c .before .before .loop .inv) (c .if1 .left) no-spacing (omega arith)
 
 abbrev subquery-Inv-loop : subquery-lts.InvT-loop
-subquery-Inv-loop source tape config errors out₀ left at i₀ ctx₀ out i ctx = Loop source tape config errors left at (always formatSubquery) formatSubquery ctx₀ out₀ out i ctx (flagged false)
+subquery-Inv-loop source tape config facts out₀ left at i₀ ctx₀ out i ctx = Loop source tape facts config left at (always formatSubquery) formatSubquery ctx₀ out₀ out i ctx (flagged false)
 
 abbrev subquery-μ-loop : subquery-lts.MeasureT-loop
-subquery-μ-loop source tape config errors out₀ left at i₀ ctx₀ out i ctx = length tape - i
+subquery-μ-loop source tape config facts out₀ left at i₀ ctx₀ out i ctx = length tape - i
 
 subquery-add-i : (t : ℕ) → subquery-lts.Need-add-i (
   head-at-reads.Asked,
@@ -12761,7 +12762,7 @@ subquery-add-i : (t : ℕ) → subquery-lts.Need-add-i (
   node-below t,
   node.Post,
 ) (subquery-at t) subquery.Post subquery-Inv-loop subquery-μ-loop
-subquery-add-i t c = omega (arith, c .before .before .before .pre .1 .inside, c .before .before .before .pre .1 .sizes .tape-fits)
+subquery-add-i t c = omega (arith, c .before .before .before .before .pre .1 .inside, c .before .before .before .before .pre .1 .sizes .tape-fits)
 
 subquery-loop-holds : (t : ℕ) → subquery-lts.Need-loop-holds (
   head-at-reads.Asked,
@@ -12772,7 +12773,7 @@ subquery-loop-holds : (t : ℕ) → subquery-lts.Need-loop-holds (
   node.Post,
 ) (subquery-at t) subquery.Post subquery-Inv-loop subquery-μ-loop
 unfolding formatSubquery
-subquery-loop-holds t c = loop-first (always formatSubquery) formatSubquery _ (c .before .before .before .pre .1) (λ all z. refl)
+subquery-loop-holds t c = loop-first (always formatSubquery) formatSubquery _ (c .before .before .before .before .pre .1) (λ all z. refl)
 
 subquery-shared-slice-read-if1 : (t : ℕ) → subquery-lts.Need-shared-slice-read-if1 (
   head-at-reads.Asked,
@@ -12792,7 +12793,7 @@ subquery-head-at-requires : (t : ℕ) → subquery-lts.Need-head-at-requires (
   node-below t,
   node.Post,
 ) (subquery-at t) subquery.Post subquery-Inv-loop subquery-μ-loop
-subquery-head-at-requires t c κs = loop-fits (c .before .before .before .before .before .before .pre .1) (c .before .before .loop .inv) (c .if1 .taken)
+subquery-head-at-requires t c κs = loop-fits (c .before .before .before .before .before .before .before .pre .1) (c .before .before .loop .inv) (c .if1 .taken)
 
 subquery-shared-slice-read-if2 : (t : ℕ) → subquery-lts.Need-shared-slice-read-if2 (
   head-at-reads.Asked,
@@ -12812,7 +12813,7 @@ subquery-subquery-token-requires : (t : ℕ) → subquery-lts.Need-subquery-toke
   node-below t,
   node.Post,
 ) (subquery-at t) subquery.Post subquery-Inv-loop subquery-μ-loop
-subquery-subquery-token-requires t c κs = token-ready (c .before .before .before .before .before .before .before .before .before .before .pre .1) (c .before .before .before .before .before .before .loop .inv) _ (c .before .if2 .taken) (c .before .before .before .head-at .ensures)
+subquery-subquery-token-requires t c κs = token-ready (c .before .before .before .before .before .before .before .before .before .before .before .pre .1) (c .before .before .before .before .before .before .loop .inv) _ (c .before .if2 .taken) (c .before .before .before .head-at .ensures)
 
 subquery-add-i-2 : (t : ℕ) → subquery-lts.Need-add-i-2 (
   head-at-reads.Asked,
@@ -12822,7 +12823,7 @@ subquery-add-i-2 : (t : ℕ) → subquery-lts.Need-add-i-2 (
   node-below t,
   node.Post,
 ) (subquery-at t) subquery.Post subquery-Inv-loop subquery-μ-loop
-subquery-add-i-2 t c = omega (arith, loop-fits (c .before .before .before .before .before .before .before .before .before .before .before .before .before .pre .1) (c .before .before .before .before .before .before .before .before .before .loop .inv) (c .before .before .before .before .before .before .before .if1 .taken), c .before .before .before .before .before .before .before .before .before .before .before .before .before .pre .1 .sizes .tape-fits)
+subquery-add-i-2 t c = omega (arith, loop-fits (c .before .before .before .before .before .before .before .before .before .before .before .before .before .before .pre .1) (c .before .before .before .before .before .before .before .before .before .loop .inv) (c .before .before .before .before .before .before .before .if1 .taken), c .before .before .before .before .before .before .before .before .before .before .before .before .before .before .pre .1 .sizes .tape-fits)
 
 subquery-loop-less : (t : ℕ) → subquery-lts.Need-loop-less (
   head-at-reads.Asked,
@@ -12843,7 +12844,7 @@ subquery-loop-again : (t : ℕ) → subquery-lts.Need-loop-again (
   node.Post,
 ) (subquery-at t) subquery.Post subquery-Inv-loop subquery-μ-loop
 unfolding formatSubquery
-subquery-loop-again t c = token-next (c .before .before .before .before .before .before .before .before .before .before .before .before .before .pre .1) (c .before .before .before .before .before .before .before .before .before .loop .inv) (c .before .before .before .before .if2 .taken) (c .before .before .before .before .before .before .head-at .ensures) (c .before .before .subquery-token .ensures) refl (c .before .before .subquery-token .kept .1 .1 .0)
+subquery-loop-again t c = token-next (c .before .before .before .before .before .before .before .before .before .before .before .before .before .before .pre .1) (c .before .before .before .before .before .before .before .before .before .loop .inv) (c .before .before .before .before .if2 .taken) (c .before .before .before .before .before .before .head-at .ensures) (c .before .before .subquery-token .ensures) refl (c .before .before .subquery-token .kept .1 .1 .0)
 
 subquery-sub-node : (t : ℕ) → subquery-lts.Need-sub-node (
   head-at-reads.Asked,
@@ -12853,7 +12854,7 @@ subquery-sub-node : (t : ℕ) → subquery-lts.Need-sub-node (
   node-below t,
   node.Post,
 ) (subquery-at t) subquery.Post subquery-Inv-loop subquery-μ-loop
-subquery-sub-node t c = left-pos (c .before .before .before .before .before .before .before .before .before .before .pre .1) (c .before .before .before .before .before .before .loop .inv) (c .before .before .before .before .if1 .taken) (c .before .if2 .left)
+subquery-sub-node t c = left-pos (c .before .before .before .before .before .before .before .before .before .before .before .pre .1) (c .before .before .before .before .before .before .loop .inv) (c .before .before .before .before .if1 .taken) (c .before .if2 .left)
 
 subquery-node-requires : (t : ℕ) → subquery-lts.Need-node-requires (
   head-at-reads.Asked,
@@ -12863,7 +12864,7 @@ subquery-node-requires : (t : ℕ) → subquery-lts.Need-node-requires (
   node-below t,
   node.Post,
 ) (subquery-at t) subquery.Post subquery-Inv-loop subquery-μ-loop
-subquery-node-requires t c κs = (omega (arith, c .before .before .before .before .before .before .before .before .before .before .pre .0, left-pos (c .before .before .before .before .before .before .before .before .before .before .pre .1) (c .before .before .before .before .before .before .loop .inv) (c .before .before .before .before .if1 .taken) (c .before .if2 .left)), node-ready (c .before .before .before .before .before .before .before .before .before .before .pre .1) (c .before .before .before .before .before .before .loop .inv) (c .before .before .before .before .if1 .taken) (c .before .if2 .left) (c .before .before .before .head-at .ensures) (no-spacing {xs = c .before .before .before .before .before .before .loop .out}) (omega arith))
+subquery-node-requires t c κs = (omega (arith, c .before .before .before .before .before .before .before .before .before .before .before .pre .0, left-pos (c .before .before .before .before .before .before .before .before .before .before .before .pre .1) (c .before .before .before .before .before .before .loop .inv) (c .before .before .before .before .if1 .taken) (c .before .if2 .left)), node-ready (c .before .before .before .before .before .before .before .before .before .before .before .pre .1) (c .before .before .before .before .before .before .loop .inv) (c .before .before .before .before .if1 .taken) (c .before .if2 .left) (c .before .before .before .head-at .ensures) (no-spacing {xs = c .before .before .before .before .before .before .loop .out}) (omega arith))
 
 subquery-loop-less-2 : (t : ℕ) → subquery-lts.Need-loop-less-2 (
   head-at-reads.Asked,
@@ -12884,7 +12885,7 @@ subquery-loop-again-2 : (t : ℕ) → subquery-lts.Need-loop-again-2 (
   node.Post,
 ) (subquery-at t) subquery.Post subquery-Inv-loop subquery-μ-loop
 unfolding formatSubquery
-subquery-loop-again-2 t c = node-next (c .before .before .before .before .before .before .before .before .before .before .before .before .before .before .pre .1) (c .before .before .before .before .before .before .before .before .before .before .loop .inv) (formatSubquery .atNode (flagged false) (c .before .before .before .before .before .before .before .head-at .result .kind) 0) (c .before .before .before .before .before .before .before .before .if1 .taken) (c .before .before .before .before .before .if2 .left) (c .before .before .before .before .before .before .before .head-at .ensures) (λ k z. refl) (no-spacing {xs = c .before .before .before .before .before .before .before .before .before .before .loop .out}) (c .before .before .before .node .ensures) refl no-spacing (omega arith) (omega arith) (c .before .before .before .node .kept .1 .1 .1 .1 .0)
+subquery-loop-again-2 t c = node-next (c .before .before .before .before .before .before .before .before .before .before .before .before .before .before .before .pre .1) (c .before .before .before .before .before .before .before .before .before .before .loop .inv) (formatSubquery .atNode (flagged false) (c .before .before .before .before .before .before .before .head-at .result .kind) 0) (c .before .before .before .before .before .before .before .before .if1 .taken) (c .before .before .before .before .before .if2 .left) (c .before .before .before .before .before .before .before .head-at .ensures) (λ k z. refl) (no-spacing {xs = c .before .before .before .before .before .before .before .before .before .before .loop .out}) (c .before .before .before .node .ensures) refl no-spacing (omega arith) (omega arith) (c .before .before .before .node .kept .1 .1 .1 .1 .0)
 
 subquery-add-t22 : (t : ℕ) → subquery-lts.Need-add-t22 (
   head-at-reads.Asked,
@@ -12894,7 +12895,7 @@ subquery-add-t22 : (t : ℕ) → subquery-lts.Need-add-t22 (
   node-below t,
   node.Post,
 ) (subquery-at t) subquery.Post subquery-Inv-loop subquery-μ-loop
-subquery-add-t22 t c = omega (arith, c .before .before .loop .inv .inside, c .before .before .before .before .before .before .pre .1 .sizes .tape-fits)
+subquery-add-t22 t c = omega (arith, c .before .before .loop .inv .inside, c .before .before .before .before .before .before .before .pre .1 .sizes .tape-fits)
 
 subquery-same-length : (t : ℕ) → subquery-lts.Need-same-length (
   head-at-reads.Asked,
@@ -12915,13 +12916,13 @@ subquery-returns : (t : ℕ) → subquery-lts.Need-returns (
   node.Post,
 ) (subquery-at t) subquery.Post subquery-Inv-loop subquery-μ-loop
 unfolding formatSubquery
-subquery-returns t c = loop-last (c .before .before .before .before .before .before .pre .1) (c .before .before .loop .inv) (c .if1 .left) no-spacing (omega arith)
+subquery-returns t c = loop-last (c .before .before .before .before .before .before .before .pre .1) (c .before .before .loop .inv) (c .if1 .left) no-spacing (omega arith)
 
 abbrev tight-paren-Inv-loop : tight-paren-lts.InvT-loop
-tight-paren-Inv-loop source tape config errors out₀ left at i₀ ctx₀ local₀ out i ctx local = Loop source tape config errors left at (always formatInlineTightParens) formatInlineTightParens ctx₀ out₀ out i ctx local
+tight-paren-Inv-loop source tape config facts out₀ left at i₀ ctx₀ local₀ out i ctx local = Loop source tape facts config left at (always formatInlineTightParens) formatInlineTightParens ctx₀ out₀ out i ctx local
 
 abbrev tight-paren-μ-loop : tight-paren-lts.MeasureT-loop
-tight-paren-μ-loop source tape config errors out₀ left at i₀ ctx₀ local₀ out i ctx local = length tape - i
+tight-paren-μ-loop source tape config facts out₀ left at i₀ ctx₀ local₀ out i ctx local = length tape - i
 
 tight-paren-add-i : (t : ℕ) → tight-paren-lts.Need-add-i (
   head-at-reads.Asked,
@@ -12935,7 +12936,7 @@ tight-paren-add-i : (t : ℕ) → tight-paren-lts.Need-add-i (
   node-below t,
   node.Post,
 ) (tight-paren-at t) tight-paren.Post tight-paren-Inv-loop tight-paren-μ-loop
-tight-paren-add-i t c = omega (arith, c .before .before .before .pre .1 .inside, c .before .before .before .pre .1 .sizes .tape-fits)
+tight-paren-add-i t c = omega (arith, c .before .before .before .before .pre .1 .inside, c .before .before .before .before .pre .1 .sizes .tape-fits)
 
 tight-paren-loop-holds : (t : ℕ) → tight-paren-lts.Need-loop-holds (
   head-at-reads.Asked,
@@ -12950,7 +12951,7 @@ tight-paren-loop-holds : (t : ℕ) → tight-paren-lts.Need-loop-holds (
   node.Post,
 ) (tight-paren-at t) tight-paren.Post tight-paren-Inv-loop tight-paren-μ-loop
 unfolding formatInlineTightParens inlineNode
-tight-paren-loop-holds t c = loop-first (always formatInlineTightParens) formatInlineTightParens _ (c .before .before .before .pre .1) (λ all z. refl)
+tight-paren-loop-holds t c = loop-first (always formatInlineTightParens) formatInlineTightParens _ (c .before .before .before .before .pre .1) (λ all z. refl)
 
 tight-paren-shared-slice-read-if1 : (t : ℕ) → tight-paren-lts.Need-shared-slice-read-if1 (
   head-at-reads.Asked,
@@ -12978,7 +12979,7 @@ tight-paren-head-at-requires : (t : ℕ) → tight-paren-lts.Need-head-at-requir
   node-below t,
   node.Post,
 ) (tight-paren-at t) tight-paren.Post tight-paren-Inv-loop tight-paren-μ-loop
-tight-paren-head-at-requires t c κs = loop-fits (c .before .before .before .before .before .before .pre .1) (c .before .before .loop .inv) (c .if1 .taken)
+tight-paren-head-at-requires t c κs = loop-fits (c .before .before .before .before .before .before .before .pre .1) (c .before .before .loop .inv) (c .if1 .taken)
 
 tight-paren-shared-slice-read-if2 : (t : ℕ) → tight-paren-lts.Need-shared-slice-read-if2 (
   head-at-reads.Asked,
@@ -13007,7 +13008,7 @@ tight-paren-inline-tight-parens-token-requires :
       node-below t,
       node.Post,
     ) (tight-paren-at t) tight-paren.Post tight-paren-Inv-loop tight-paren-μ-loop
-tight-paren-inline-tight-parens-token-requires t c κs = token-ready (c .before .before .before .before .before .before .before .before .before .before .pre .1) (c .before .before .before .before .before .before .loop .inv) _ (c .before .if2 .taken) (c .before .before .before .head-at .ensures)
+tight-paren-inline-tight-parens-token-requires t c κs = token-ready (c .before .before .before .before .before .before .before .before .before .before .before .pre .1) (c .before .before .before .before .before .before .loop .inv) _ (c .before .if2 .taken) (c .before .before .before .head-at .ensures)
 
 tight-paren-add-i-2 : (t : ℕ) → tight-paren-lts.Need-add-i-2 (
   head-at-reads.Asked,
@@ -13021,7 +13022,7 @@ tight-paren-add-i-2 : (t : ℕ) → tight-paren-lts.Need-add-i-2 (
   node-below t,
   node.Post,
 ) (tight-paren-at t) tight-paren.Post tight-paren-Inv-loop tight-paren-μ-loop
-tight-paren-add-i-2 t c = omega (arith, loop-fits (c .before .before .before .before .before .before .before .before .before .before .before .before .before .before .before .pre .1) (c .before .before .before .before .before .before .before .before .before .before .before .loop .inv) (c .before .before .before .before .before .before .before .before .before .if1 .taken), c .before .before .before .before .before .before .before .before .before .before .before .before .before .before .before .pre .1 .sizes .tape-fits)
+tight-paren-add-i-2 t c = omega (arith, loop-fits (c .before .before .before .before .before .before .before .before .before .before .before .before .before .before .before .before .pre .1) (c .before .before .before .before .before .before .before .before .before .before .before .loop .inv) (c .before .before .before .before .before .before .before .before .before .if1 .taken), c .before .before .before .before .before .before .before .before .before .before .before .before .before .before .before .before .pre .1 .sizes .tape-fits)
 
 tight-paren-loop-less : (t : ℕ) → tight-paren-lts.Need-loop-less (
   head-at-reads.Asked,
@@ -13050,7 +13051,7 @@ tight-paren-loop-again : (t : ℕ) → tight-paren-lts.Need-loop-again (
   node.Post,
 ) (tight-paren-at t) tight-paren.Post tight-paren-Inv-loop tight-paren-μ-loop
 unfolding formatInlineTightParens inlineNode
-tight-paren-loop-again t c = token-next (c .before .before .before .before .before .before .before .before .before .before .before .before .before .before .before .pre .1) (c .before .before .before .before .before .before .before .before .before .before .before .loop .inv) (c .before .before .before .before .before .before .if2 .taken) (c .before .before .before .before .before .before .before .before .head-at .ensures) (c .before .before .before .before .inline-tight-parens-token .ensures .acted) (c .before .before .before .before .inline-tight-parens-token .ensures .local) (c .before .before .before .before .inline-tight-parens-token .kept .1 .1 .0)
+tight-paren-loop-again t c = token-next (c .before .before .before .before .before .before .before .before .before .before .before .before .before .before .before .before .pre .1) (c .before .before .before .before .before .before .before .before .before .before .before .loop .inv) (c .before .before .before .before .before .before .if2 .taken) (c .before .before .before .before .before .before .before .before .head-at .ensures) (c .before .before .before .before .inline-tight-parens-token .ensures .acted) (c .before .before .before .before .inline-tight-parens-token .ensures .local) (c .before .before .before .before .inline-tight-parens-token .kept .1 .1 .0)
 
 tight-paren-space-after-requires : (t : ℕ) → tight-paren-lts.Need-space-after-requires (
   head-at-reads.Asked,
@@ -13092,7 +13093,7 @@ tight-paren-sub-node : (t : ℕ) → tight-paren-lts.Need-sub-node (
   node-below t,
   node.Post,
 ) (tight-paren-at t) tight-paren.Post tight-paren-Inv-loop tight-paren-μ-loop
-tight-paren-sub-node t c = left-pos (c .before .before .before .before .before .before .before .before .before .before .before .before .pre .1) (c .before .before .before .before .before .before .before .before .loop .inv) (c .before .before .before .before .before .before .if1 .taken) (c .before .before .before .if2 .left)
+tight-paren-sub-node t c = left-pos (c .before .before .before .before .before .before .before .before .before .before .before .before .before .pre .1) (c .before .before .before .before .before .before .before .before .loop .inv) (c .before .before .before .before .before .before .if1 .taken) (c .before .before .before .if2 .left)
 
 tight-paren-node-requires : (t : ℕ) → tight-paren-lts.Need-node-requires (
   head-at-reads.Asked,
@@ -13106,7 +13107,7 @@ tight-paren-node-requires : (t : ℕ) → tight-paren-lts.Need-node-requires (
   node-below t,
   node.Post,
 ) (tight-paren-at t) tight-paren.Post tight-paren-Inv-loop tight-paren-μ-loop
-tight-paren-node-requires t c κs = (omega (arith, c .before .before .before .before .before .before .before .before .before .before .before .before .pre .0, left-pos (c .before .before .before .before .before .before .before .before .before .before .before .before .pre .1) (c .before .before .before .before .before .before .before .before .loop .inv) (c .before .before .before .before .before .before .if1 .taken) (c .before .before .before .if2 .left)), node-ready (c .before .before .before .before .before .before .before .before .before .before .before .before .pre .1) (c .before .before .before .before .before .before .before .before .loop .inv) (c .before .before .before .before .before .before .if1 .taken) (c .before .before .before .if2 .left) (c .before .before .before .before .before .head-at .ensures) (spaced 0 (spaceIf (spaceAfter ((c .before .before .before .before .before .before .before .before .loop .local) .prev))) (omega arith) (ap spaceIf (sym (c .before .before .space-after .ensures))) (as-spaced (c .before .space-if .ensures))) (omega arith))
+tight-paren-node-requires t c κs = (omega (arith, c .before .before .before .before .before .before .before .before .before .before .before .before .before .pre .0, left-pos (c .before .before .before .before .before .before .before .before .before .before .before .before .before .pre .1) (c .before .before .before .before .before .before .before .before .loop .inv) (c .before .before .before .before .before .before .if1 .taken) (c .before .before .before .if2 .left)), node-ready (c .before .before .before .before .before .before .before .before .before .before .before .before .before .pre .1) (c .before .before .before .before .before .before .before .before .loop .inv) (c .before .before .before .before .before .before .if1 .taken) (c .before .before .before .if2 .left) (c .before .before .before .before .before .head-at .ensures) (spaced 0 (spaceIf (spaceAfter ((c .before .before .before .before .before .before .before .before .loop .local) .prev))) (omega arith) (ap spaceIf (sym (c .before .before .space-after .ensures))) (as-spaced (c .before .space-if .ensures))) (omega arith))
 
 tight-paren-loop-less-2 : (t : ℕ) → tight-paren-lts.Need-loop-less-2 (
   head-at-reads.Asked,
@@ -13135,7 +13136,7 @@ tight-paren-loop-again-2 : (t : ℕ) → tight-paren-lts.Need-loop-again-2 (
   node.Post,
 ) (tight-paren-at t) tight-paren.Post tight-paren-Inv-loop tight-paren-μ-loop
 unfolding formatInlineTightParens inlineNode
-tight-paren-loop-again-2 t c = node-next (c .before .before .before .before .before .before .before .before .before .before .before .before .before .before .before .before .pre .1) (c .before .before .before .before .before .before .before .before .before .before .before .before .loop .inv) (formatInlineTightParens .atNode (c .before .before .before .before .before .before .before .before .before .before .before .before .loop .local) (c .before .before .before .before .before .before .before .before .before .head-at .result .kind) 0) (c .before .before .before .before .before .before .before .before .before .before .if1 .taken) (c .before .before .before .before .before .before .before .if2 .left) (c .before .before .before .before .before .before .before .before .before .head-at .ensures) (λ k z. refl) (spaced 0 (spaceIf (spaceAfter ((c .before .before .before .before .before .before .before .before .before .before .before .before .loop .local) .prev))) (omega arith) (ap spaceIf (sym (c .before .before .before .before .before .before .space-after .ensures))) (as-spaced (c .before .before .before .before .before .space-if .ensures))) (c .before .before .before .node .ensures) refl no-spacing (omega arith) (omega arith) (c .before .before .before .node .kept .1 .1 .1 .1 .0)
+tight-paren-loop-again-2 t c = node-next (c .before .before .before .before .before .before .before .before .before .before .before .before .before .before .before .before .before .pre .1) (c .before .before .before .before .before .before .before .before .before .before .before .before .loop .inv) (formatInlineTightParens .atNode (c .before .before .before .before .before .before .before .before .before .before .before .before .loop .local) (c .before .before .before .before .before .before .before .before .before .head-at .result .kind) 0) (c .before .before .before .before .before .before .before .before .before .before .if1 .taken) (c .before .before .before .before .before .before .before .if2 .left) (c .before .before .before .before .before .before .before .before .before .head-at .ensures) (λ k z. refl) (spaced 0 (spaceIf (spaceAfter ((c .before .before .before .before .before .before .before .before .before .before .before .before .loop .local) .prev))) (omega arith) (ap spaceIf (sym (c .before .before .before .before .before .before .space-after .ensures))) (as-spaced (c .before .before .before .before .before .space-if .ensures))) (c .before .before .before .node .ensures) refl no-spacing (omega arith) (omega arith) (c .before .before .before .node .kept .1 .1 .1 .1 .0)
 
 tight-paren-add-t29 : (t : ℕ) → tight-paren-lts.Need-add-t29 (
   head-at-reads.Asked,
@@ -13149,7 +13150,7 @@ tight-paren-add-t29 : (t : ℕ) → tight-paren-lts.Need-add-t29 (
   node-below t,
   node.Post,
 ) (tight-paren-at t) tight-paren.Post tight-paren-Inv-loop tight-paren-μ-loop
-tight-paren-add-t29 t c = omega (arith, c .before .before .loop .inv .inside, c .before .before .before .before .before .before .pre .1 .sizes .tape-fits)
+tight-paren-add-t29 t c = omega (arith, c .before .before .loop .inv .inside, c .before .before .before .before .before .before .before .pre .1 .sizes .tape-fits)
 
 tight-paren-same-length : (t : ℕ) → tight-paren-lts.Need-same-length (
   head-at-reads.Asked,
@@ -13178,13 +13179,13 @@ tight-paren-returns : (t : ℕ) → tight-paren-lts.Need-returns (
   node.Post,
 ) (tight-paren-at t) tight-paren.Post tight-paren-Inv-loop tight-paren-μ-loop
 unfolding formatInlineTightParens inlineNode
-tight-paren-returns t c = loop-last (c .before .before .before .before .before .before .pre .1) (c .before .before .loop .inv) (c .if1 .left) no-spacing (omega arith)
+tight-paren-returns t c = loop-last (c .before .before .before .before .before .before .before .pre .1) (c .before .before .loop .inv) (c .if1 .left) no-spacing (omega arith)
 
 abbrev unary-Inv-loop : unary-lts.InvT-loop
-unary-Inv-loop source tape config errors out₀ left at i₀ ctx₀ out i ctx = Loop source tape config errors left at (always formatUnaryExpression) formatUnaryExpression ctx₀ out₀ out i ctx (flagged false)
+unary-Inv-loop source tape config facts out₀ left at i₀ ctx₀ out i ctx = Loop source tape facts config left at (always formatUnaryExpression) formatUnaryExpression ctx₀ out₀ out i ctx (flagged false)
 
 abbrev unary-μ-loop : unary-lts.MeasureT-loop
-unary-μ-loop source tape config errors out₀ left at i₀ ctx₀ out i ctx = length tape - i
+unary-μ-loop source tape config facts out₀ left at i₀ ctx₀ out i ctx = length tape - i
 
 unary-add-i : (t : ℕ) → unary-lts.Need-add-i (
   head-at-reads.Asked,
@@ -13194,7 +13195,7 @@ unary-add-i : (t : ℕ) → unary-lts.Need-add-i (
   node-below t,
   node.Post,
 ) (unary-at t) unary.Post unary-Inv-loop unary-μ-loop
-unary-add-i t c = omega (arith, c .before .before .before .pre .1 .inside, c .before .before .before .pre .1 .sizes .tape-fits)
+unary-add-i t c = omega (arith, c .before .before .before .before .pre .1 .inside, c .before .before .before .before .pre .1 .sizes .tape-fits)
 
 unary-loop-holds : (t : ℕ) → unary-lts.Need-loop-holds (
   head-at-reads.Asked,
@@ -13205,7 +13206,7 @@ unary-loop-holds : (t : ℕ) → unary-lts.Need-loop-holds (
   node.Post,
 ) (unary-at t) unary.Post unary-Inv-loop unary-μ-loop
 unfolding formatUnaryExpression
-unary-loop-holds t c = loop-first (always formatUnaryExpression) formatUnaryExpression _ (c .before .before .before .pre .1) (λ all z. refl)
+unary-loop-holds t c = loop-first (always formatUnaryExpression) formatUnaryExpression _ (c .before .before .before .before .pre .1) (λ all z. refl)
 
 unary-shared-slice-read-if1 : (t : ℕ) → unary-lts.Need-shared-slice-read-if1 (
   head-at-reads.Asked,
@@ -13225,7 +13226,7 @@ unary-head-at-requires : (t : ℕ) → unary-lts.Need-head-at-requires (
   node-below t,
   node.Post,
 ) (unary-at t) unary.Post unary-Inv-loop unary-μ-loop
-unary-head-at-requires t c κs = loop-fits (c .before .before .before .before .before .before .pre .1) (c .before .before .loop .inv) (c .if1 .taken)
+unary-head-at-requires t c κs = loop-fits (c .before .before .before .before .before .before .before .pre .1) (c .before .before .loop .inv) (c .if1 .taken)
 
 unary-shared-slice-read-if2 : (t : ℕ) → unary-lts.Need-shared-slice-read-if2 (
   head-at-reads.Asked,
@@ -13245,7 +13246,7 @@ unary-unary-expression-token-requires : (t : ℕ) → unary-lts.Need-unary-expre
   node-below t,
   node.Post,
 ) (unary-at t) unary.Post unary-Inv-loop unary-μ-loop
-unary-unary-expression-token-requires t c κs = token-ready (c .before .before .before .before .before .before .before .before .before .before .pre .1) (c .before .before .before .before .before .before .loop .inv) _ (c .before .if2 .taken) (c .before .before .before .head-at .ensures)
+unary-unary-expression-token-requires t c κs = token-ready (c .before .before .before .before .before .before .before .before .before .before .before .pre .1) (c .before .before .before .before .before .before .loop .inv) _ (c .before .if2 .taken) (c .before .before .before .head-at .ensures)
 
 unary-add-i-2 : (t : ℕ) → unary-lts.Need-add-i-2 (
   head-at-reads.Asked,
@@ -13255,7 +13256,7 @@ unary-add-i-2 : (t : ℕ) → unary-lts.Need-add-i-2 (
   node-below t,
   node.Post,
 ) (unary-at t) unary.Post unary-Inv-loop unary-μ-loop
-unary-add-i-2 t c = omega (arith, loop-fits (c .before .before .before .before .before .before .before .before .before .before .before .before .before .pre .1) (c .before .before .before .before .before .before .before .before .before .loop .inv) (c .before .before .before .before .before .before .before .if1 .taken), c .before .before .before .before .before .before .before .before .before .before .before .before .before .pre .1 .sizes .tape-fits)
+unary-add-i-2 t c = omega (arith, loop-fits (c .before .before .before .before .before .before .before .before .before .before .before .before .before .before .pre .1) (c .before .before .before .before .before .before .before .before .before .loop .inv) (c .before .before .before .before .before .before .before .if1 .taken), c .before .before .before .before .before .before .before .before .before .before .before .before .before .before .pre .1 .sizes .tape-fits)
 
 unary-loop-less : (t : ℕ) → unary-lts.Need-loop-less (
   head-at-reads.Asked,
@@ -13276,7 +13277,7 @@ unary-loop-again : (t : ℕ) → unary-lts.Need-loop-again (
   node.Post,
 ) (unary-at t) unary.Post unary-Inv-loop unary-μ-loop
 unfolding formatUnaryExpression
-unary-loop-again t c = token-next (c .before .before .before .before .before .before .before .before .before .before .before .before .before .pre .1) (c .before .before .before .before .before .before .before .before .before .loop .inv) (c .before .before .before .before .if2 .taken) (c .before .before .before .before .before .before .head-at .ensures) (c .before .before .unary-expression-token .ensures) refl (c .before .before .unary-expression-token .kept .1 .1 .0)
+unary-loop-again t c = token-next (c .before .before .before .before .before .before .before .before .before .before .before .before .before .before .pre .1) (c .before .before .before .before .before .before .before .before .before .loop .inv) (c .before .before .before .before .if2 .taken) (c .before .before .before .before .before .before .head-at .ensures) (c .before .before .unary-expression-token .ensures) refl (c .before .before .unary-expression-token .kept .1 .1 .0)
 
 unary-sub-node : (t : ℕ) → unary-lts.Need-sub-node (
   head-at-reads.Asked,
@@ -13286,7 +13287,7 @@ unary-sub-node : (t : ℕ) → unary-lts.Need-sub-node (
   node-below t,
   node.Post,
 ) (unary-at t) unary.Post unary-Inv-loop unary-μ-loop
-unary-sub-node t c = left-pos (c .before .before .before .before .before .before .before .before .before .before .pre .1) (c .before .before .before .before .before .before .loop .inv) (c .before .before .before .before .if1 .taken) (c .before .if2 .left)
+unary-sub-node t c = left-pos (c .before .before .before .before .before .before .before .before .before .before .before .pre .1) (c .before .before .before .before .before .before .loop .inv) (c .before .before .before .before .if1 .taken) (c .before .if2 .left)
 
 unary-node-requires : (t : ℕ) → unary-lts.Need-node-requires (
   head-at-reads.Asked,
@@ -13296,7 +13297,7 @@ unary-node-requires : (t : ℕ) → unary-lts.Need-node-requires (
   node-below t,
   node.Post,
 ) (unary-at t) unary.Post unary-Inv-loop unary-μ-loop
-unary-node-requires t c κs = (omega (arith, c .before .before .before .before .before .before .before .before .before .before .pre .0, left-pos (c .before .before .before .before .before .before .before .before .before .before .pre .1) (c .before .before .before .before .before .before .loop .inv) (c .before .before .before .before .if1 .taken) (c .before .if2 .left)), node-ready (c .before .before .before .before .before .before .before .before .before .before .pre .1) (c .before .before .before .before .before .before .loop .inv) (c .before .before .before .before .if1 .taken) (c .before .if2 .left) (c .before .before .before .head-at .ensures) (no-spacing {xs = c .before .before .before .before .before .before .loop .out}) (omega arith))
+unary-node-requires t c κs = (omega (arith, c .before .before .before .before .before .before .before .before .before .before .before .pre .0, left-pos (c .before .before .before .before .before .before .before .before .before .before .before .pre .1) (c .before .before .before .before .before .before .loop .inv) (c .before .before .before .before .if1 .taken) (c .before .if2 .left)), node-ready (c .before .before .before .before .before .before .before .before .before .before .before .pre .1) (c .before .before .before .before .before .before .loop .inv) (c .before .before .before .before .if1 .taken) (c .before .if2 .left) (c .before .before .before .head-at .ensures) (no-spacing {xs = c .before .before .before .before .before .before .loop .out}) (omega arith))
 
 unary-loop-less-2 : (t : ℕ) → unary-lts.Need-loop-less-2 (
   head-at-reads.Asked,
@@ -13317,7 +13318,7 @@ unary-loop-again-2 : (t : ℕ) → unary-lts.Need-loop-again-2 (
   node.Post,
 ) (unary-at t) unary.Post unary-Inv-loop unary-μ-loop
 unfolding formatUnaryExpression
-unary-loop-again-2 t c = node-next (c .before .before .before .before .before .before .before .before .before .before .before .before .before .before .pre .1) (c .before .before .before .before .before .before .before .before .before .before .loop .inv) (formatUnaryExpression .atNode (flagged false) (c .before .before .before .before .before .before .before .head-at .result .kind) 0) (c .before .before .before .before .before .before .before .before .if1 .taken) (c .before .before .before .before .before .if2 .left) (c .before .before .before .before .before .before .before .head-at .ensures) (λ k z. refl) (no-spacing {xs = c .before .before .before .before .before .before .before .before .before .before .loop .out}) (c .before .before .before .node .ensures) refl no-spacing (omega arith) (omega arith) (c .before .before .before .node .kept .1 .1 .1 .1 .0)
+unary-loop-again-2 t c = node-next (c .before .before .before .before .before .before .before .before .before .before .before .before .before .before .before .pre .1) (c .before .before .before .before .before .before .before .before .before .before .loop .inv) (formatUnaryExpression .atNode (flagged false) (c .before .before .before .before .before .before .before .head-at .result .kind) 0) (c .before .before .before .before .before .before .before .before .if1 .taken) (c .before .before .before .before .before .if2 .left) (c .before .before .before .before .before .before .before .head-at .ensures) (λ k z. refl) (no-spacing {xs = c .before .before .before .before .before .before .before .before .before .before .loop .out}) (c .before .before .before .node .ensures) refl no-spacing (omega arith) (omega arith) (c .before .before .before .node .kept .1 .1 .1 .1 .0)
 
 unary-add-t22 : (t : ℕ) → unary-lts.Need-add-t22 (
   head-at-reads.Asked,
@@ -13327,7 +13328,7 @@ unary-add-t22 : (t : ℕ) → unary-lts.Need-add-t22 (
   node-below t,
   node.Post,
 ) (unary-at t) unary.Post unary-Inv-loop unary-μ-loop
-unary-add-t22 t c = omega (arith, c .before .before .loop .inv .inside, c .before .before .before .before .before .before .pre .1 .sizes .tape-fits)
+unary-add-t22 t c = omega (arith, c .before .before .loop .inv .inside, c .before .before .before .before .before .before .before .pre .1 .sizes .tape-fits)
 
 unary-same-length : (t : ℕ) → unary-lts.Need-same-length (
   head-at-reads.Asked,
@@ -13348,13 +13349,13 @@ unary-returns : (t : ℕ) → unary-lts.Need-returns (
   node.Post,
 ) (unary-at t) unary.Post unary-Inv-loop unary-μ-loop
 unfolding formatUnaryExpression
-unary-returns t c = loop-last (c .before .before .before .before .before .before .pre .1) (c .before .before .loop .inv) (c .if1 .left) no-spacing (omega arith)
+unary-returns t c = loop-last (c .before .before .before .before .before .before .before .pre .1) (c .before .before .loop .inv) (c .if1 .left) no-spacing (omega arith)
 
 abbrev union-Inv-loop : union-lts.InvT-loop
-union-Inv-loop source tape config errors out₀ left at i₀ ctx₀ local₀ out i ctx local = Loop source tape config errors left at (always formatUnionClause) formatUnionClause ctx₀ out₀ out i ctx local
+union-Inv-loop source tape config facts out₀ left at i₀ ctx₀ local₀ out i ctx local = Loop source tape facts config left at (always formatUnionClause) formatUnionClause ctx₀ out₀ out i ctx local
 
 abbrev union-μ-loop : union-lts.MeasureT-loop
-union-μ-loop source tape config errors out₀ left at i₀ ctx₀ local₀ out i ctx local = length tape - i
+union-μ-loop source tape config facts out₀ left at i₀ ctx₀ local₀ out i ctx local = length tape - i
 
 union-add-i : (t : ℕ) → union-lts.Need-add-i (
   head-at-reads.Asked,
@@ -13368,7 +13369,7 @@ union-add-i : (t : ℕ) → union-lts.Need-add-i (
   union-clause-local-reads.Asked,
   union-clause-local-reads.Learnt,
 ) (union-at t) union.Post union-Inv-loop union-μ-loop
-union-add-i t c = omega (arith, c .before .before .before .pre .1 .inside, c .before .before .before .pre .1 .sizes .tape-fits)
+union-add-i t c = omega (arith, c .before .before .before .before .pre .1 .inside, c .before .before .before .before .pre .1 .sizes .tape-fits)
 
 union-loop-holds : (t : ℕ) → union-lts.Need-loop-holds (
   head-at-reads.Asked,
@@ -13383,7 +13384,7 @@ union-loop-holds : (t : ℕ) → union-lts.Need-loop-holds (
   union-clause-local-reads.Learnt,
 ) (union-at t) union.Post union-Inv-loop union-μ-loop
 unfolding formatUnionClause
-union-loop-holds t c = loop-first (always formatUnionClause) formatUnionClause _ (c .before .before .before .pre .1) (λ all z. refl)
+union-loop-holds t c = loop-first (always formatUnionClause) formatUnionClause _ (c .before .before .before .before .pre .1) (λ all z. refl)
 
 union-shared-slice-read-if1 : (t : ℕ) → union-lts.Need-shared-slice-read-if1 (
   head-at-reads.Asked,
@@ -13411,7 +13412,7 @@ union-head-at-requires : (t : ℕ) → union-lts.Need-head-at-requires (
   union-clause-local-reads.Asked,
   union-clause-local-reads.Learnt,
 ) (union-at t) union.Post union-Inv-loop union-μ-loop
-union-head-at-requires t c κs = loop-fits (c .before .before .before .before .before .before .pre .1) (c .before .before .loop .inv) (c .if1 .taken)
+union-head-at-requires t c κs = loop-fits (c .before .before .before .before .before .before .before .pre .1) (c .before .before .loop .inv) (c .if1 .taken)
 
 union-shared-slice-read-if2 : (t : ℕ) → union-lts.Need-shared-slice-read-if2 (
   head-at-reads.Asked,
@@ -13439,7 +13440,7 @@ union-union-clause-token-requires : (t : ℕ) → union-lts.Need-union-clause-to
   union-clause-local-reads.Asked,
   union-clause-local-reads.Learnt,
 ) (union-at t) union.Post union-Inv-loop union-μ-loop
-union-union-clause-token-requires t c κs = token-ready (c .before .before .before .before .before .before .before .before .before .before .pre .1) (c .before .before .before .before .before .before .loop .inv) _ (c .before .if2 .taken) (c .before .before .before .head-at .ensures)
+union-union-clause-token-requires t c κs = token-ready (c .before .before .before .before .before .before .before .before .before .before .before .pre .1) (c .before .before .before .before .before .before .loop .inv) _ (c .before .if2 .taken) (c .before .before .before .head-at .ensures)
 
 union-add-i-2 : (t : ℕ) → union-lts.Need-add-i-2 (
   head-at-reads.Asked,
@@ -13453,7 +13454,7 @@ union-add-i-2 : (t : ℕ) → union-lts.Need-add-i-2 (
   union-clause-local-reads.Asked,
   union-clause-local-reads.Learnt,
 ) (union-at t) union.Post union-Inv-loop union-μ-loop
-union-add-i-2 t c = omega (arith, loop-fits (c .before .before .before .before .before .before .before .before .before .before .before .before .before .pre .1) (c .before .before .before .before .before .before .before .before .before .loop .inv) (c .before .before .before .before .before .before .before .if1 .taken), c .before .before .before .before .before .before .before .before .before .before .before .before .before .pre .1 .sizes .tape-fits)
+union-add-i-2 t c = omega (arith, loop-fits (c .before .before .before .before .before .before .before .before .before .before .before .before .before .before .pre .1) (c .before .before .before .before .before .before .before .before .before .loop .inv) (c .before .before .before .before .before .before .before .if1 .taken), c .before .before .before .before .before .before .before .before .before .before .before .before .before .before .pre .1 .sizes .tape-fits)
 
 union-loop-less : (t : ℕ) → union-lts.Need-loop-less (
   head-at-reads.Asked,
@@ -13482,7 +13483,7 @@ union-loop-again : (t : ℕ) → union-lts.Need-loop-again (
   union-clause-local-reads.Learnt,
 ) (union-at t) union.Post union-Inv-loop union-μ-loop
 unfolding formatUnionClause unionToken
-union-loop-again t c = token-next (c .before .before .before .before .before .before .before .before .before .before .before .before .before .pre .1) (c .before .before .before .before .before .before .before .before .before .loop .inv) (c .before .before .before .before .if2 .taken) (c .before .before .before .before .before .before .head-at .ensures) (c .before .before .union-clause-token .ensures) refl (c .before .before .union-clause-token .kept .1 .1 .0)
+union-loop-again t c = token-next (c .before .before .before .before .before .before .before .before .before .before .before .before .before .before .pre .1) (c .before .before .before .before .before .before .before .before .before .loop .inv) (c .before .before .before .before .if2 .taken) (c .before .before .before .before .before .before .head-at .ensures) (c .before .before .union-clause-token .ensures) refl (c .before .before .union-clause-token .kept .1 .1 .0)
 
 union-union-clause-before-requires : (t : ℕ) → union-lts.Need-union-clause-before-requires (
   head-at-reads.Asked,
@@ -13496,7 +13497,7 @@ union-union-clause-before-requires : (t : ℕ) → union-lts.Need-union-clause-b
   union-clause-local-reads.Asked,
   union-clause-local-reads.Learnt,
 ) (union-at t) union.Post union-Inv-loop union-μ-loop
-union-union-clause-before-requires t c κs = let r = side-ready (c .before .before .before .before .before .before .before .before .before .before .pre .1) (c .before .before .before .before .before .before .loop .inv) in omega arith
+union-union-clause-before-requires t c κs = let r = side-ready (c .before .before .before .before .before .before .before .before .before .before .before .pre .1) (c .before .before .before .before .before .before .loop .inv) in omega arith
 
 union-sub-node : (t : ℕ) → union-lts.Need-sub-node (
   head-at-reads.Asked,
@@ -13510,7 +13511,7 @@ union-sub-node : (t : ℕ) → union-lts.Need-sub-node (
   union-clause-local-reads.Asked,
   union-clause-local-reads.Learnt,
 ) (union-at t) union.Post union-Inv-loop union-μ-loop
-union-sub-node t c = left-pos (c .before .before .before .before .before .before .before .before .before .before .before .before .before .before .pre .1) (c .before .before .before .before .before .before .before .before .before .before .loop .inv) (c .before .before .before .before .before .before .before .before .if1 .taken) (c .before .before .before .before .before .if2 .left)
+union-sub-node t c = left-pos (c .before .before .before .before .before .before .before .before .before .before .before .before .before .before .before .pre .1) (c .before .before .before .before .before .before .before .before .before .before .loop .inv) (c .before .before .before .before .before .before .before .before .if1 .taken) (c .before .before .before .before .before .if2 .left)
 
 union-node-requires : (t : ℕ) → union-lts.Need-node-requires (
   head-at-reads.Asked,
@@ -13524,7 +13525,7 @@ union-node-requires : (t : ℕ) → union-lts.Need-node-requires (
   union-clause-local-reads.Asked,
   union-clause-local-reads.Learnt,
 ) (union-at t) union.Post union-Inv-loop union-μ-loop
-union-node-requires t c κs = (omega (arith, c .before .before .before .before .before .before .before .before .before .before .before .before .before .before .pre .0, left-pos (c .before .before .before .before .before .before .before .before .before .before .before .before .before .before .pre .1) (c .before .before .before .before .before .before .before .before .before .before .loop .inv) (c .before .before .before .before .before .before .before .before .if1 .taken) (c .before .before .before .before .before .if2 .left)), node-ready (c .before .before .before .before .before .before .before .before .before .before .before .before .before .before .pre .1) (c .before .before .before .before .before .before .before .before .before .before .loop .inv) (c .before .before .before .before .before .before .before .before .if1 .taken) (c .before .before .before .before .before .if2 .left) (c .before .before .before .before .before .before .before .head-at .ensures) (c .before .before .before .union-clause-before .ensures) (omega arith))
+union-node-requires t c κs = (omega (arith, c .before .before .before .before .before .before .before .before .before .before .before .before .before .before .before .pre .0, left-pos (c .before .before .before .before .before .before .before .before .before .before .before .before .before .before .before .pre .1) (c .before .before .before .before .before .before .before .before .before .before .loop .inv) (c .before .before .before .before .before .before .before .before .if1 .taken) (c .before .before .before .before .before .if2 .left)), node-ready (c .before .before .before .before .before .before .before .before .before .before .before .before .before .before .before .pre .1) (c .before .before .before .before .before .before .before .before .before .before .loop .inv) (c .before .before .before .before .before .before .before .before .if1 .taken) (c .before .before .before .before .before .if2 .left) (c .before .before .before .before .before .before .before .head-at .ensures) (c .before .before .before .union-clause-before .ensures) (omega arith))
 
 union-union-clause-local-requires : (t : ℕ) → union-lts.Need-union-clause-local-requires (
   head-at-reads.Asked,
@@ -13567,7 +13568,7 @@ union-loop-again-2 : (t : ℕ) → union-lts.Need-loop-again-2 (
   union-clause-local-reads.Learnt,
 ) (union-at t) union.Post union-Inv-loop union-μ-loop
 unfolding formatUnionClause
-union-loop-again-2 t c = node-next (c .before .before .before .before .before .before .before .before .before .before .before .before .before .before .before .before .before .before .before .pre .1) (c .before .before .before .before .before .before .before .before .before .before .before .before .before .before .before .loop .inv) (formatUnionClause .atNode (c .before .before .before .before .before .before .before .before .before .before .before .before .before .before .before .loop .local) (c .before .before .before .before .before .before .before .before .before .before .before .before .head-at .result .kind) 0) (c .before .before .before .before .before .before .before .before .before .before .before .before .before .if1 .taken) (c .before .before .before .before .before .before .before .before .before .before .if2 .left) (c .before .before .before .before .before .before .before .before .before .before .before .before .head-at .ensures) (λ k z. refl) (c .before .before .before .before .before .before .before .before .union-clause-before .ensures) (c .before .before .before .before .node .ensures) (c .union-clause-local .ensures) (spaced 0 _ (omega arith) (sym (union-after (c .before .before .before .before .before .before .before .before .before .before .before .before .before .before .before .loop .local) (c .before .before .before .before .before .before .before .before .before .before .before .before .head-at .result .kind))) no-spacing) (omega arith) (omega arith) (c .before .before .before .before .node .kept .1 .1 .1 .1 .0 ∙ c .before .before .before .before .before .before .before .before .union-clause-before .kept .0)
+union-loop-again-2 t c = node-next (c .before .before .before .before .before .before .before .before .before .before .before .before .before .before .before .before .before .before .before .before .pre .1) (c .before .before .before .before .before .before .before .before .before .before .before .before .before .before .before .loop .inv) (formatUnionClause .atNode (c .before .before .before .before .before .before .before .before .before .before .before .before .before .before .before .loop .local) (c .before .before .before .before .before .before .before .before .before .before .before .before .head-at .result .kind) 0) (c .before .before .before .before .before .before .before .before .before .before .before .before .before .if1 .taken) (c .before .before .before .before .before .before .before .before .before .before .if2 .left) (c .before .before .before .before .before .before .before .before .before .before .before .before .head-at .ensures) (λ k z. refl) (c .before .before .before .before .before .before .before .before .union-clause-before .ensures) (c .before .before .before .before .node .ensures) (c .union-clause-local .ensures) (spaced 0 _ (omega arith) (sym (union-after (c .before .before .before .before .before .before .before .before .before .before .before .before .before .before .before .loop .local) (c .before .before .before .before .before .before .before .before .before .before .before .before .head-at .result .kind))) no-spacing) (omega arith) (omega arith) (c .before .before .before .before .node .kept .1 .1 .1 .1 .0 ∙ c .before .before .before .before .before .before .before .before .union-clause-before .kept .0)
 
 union-add-t27 : (t : ℕ) → union-lts.Need-add-t27 (
   head-at-reads.Asked,
@@ -13581,7 +13582,7 @@ union-add-t27 : (t : ℕ) → union-lts.Need-add-t27 (
   union-clause-local-reads.Asked,
   union-clause-local-reads.Learnt,
 ) (union-at t) union.Post union-Inv-loop union-μ-loop
-union-add-t27 t c = omega (arith, c .before .before .loop .inv .inside, c .before .before .before .before .before .before .pre .1 .sizes .tape-fits)
+union-add-t27 t c = omega (arith, c .before .before .loop .inv .inside, c .before .before .before .before .before .before .before .pre .1 .sizes .tape-fits)
 
 union-same-length : (t : ℕ) → union-lts.Need-same-length (
   head-at-reads.Asked,
@@ -13610,13 +13611,13 @@ union-returns : (t : ℕ) → union-lts.Need-returns (
   union-clause-local-reads.Learnt,
 ) (union-at t) union.Post union-Inv-loop union-μ-loop
 unfolding formatUnionClause
-union-returns t c = loop-last (c .before .before .before .before .before .before .pre .1) (c .before .before .loop .inv) (c .if1 .left) no-spacing (omega arith)
+union-returns t c = loop-last (c .before .before .before .before .before .before .before .pre .1) (c .before .before .loop .inv) (c .if1 .left) no-spacing (omega arith)
 
 abbrev when-Inv-loop : when-lts.InvT-loop
-when-Inv-loop source tape config errors out₀ left at i₀ ctx₀ out i ctx = Loop source tape config errors left at (always formatWhenClause) formatWhenClause ctx₀ out₀ out i ctx (flagged false)
+when-Inv-loop source tape config facts out₀ left at i₀ ctx₀ out i ctx = Loop source tape facts config left at (always formatWhenClause) formatWhenClause ctx₀ out₀ out i ctx (flagged false)
 
 abbrev when-μ-loop : when-lts.MeasureT-loop
-when-μ-loop source tape config errors out₀ left at i₀ ctx₀ out i ctx = length tape - i
+when-μ-loop source tape config facts out₀ left at i₀ ctx₀ out i ctx = length tape - i
 
 when-add-i : (t : ℕ) → when-lts.Need-add-i (
   head-at-reads.Asked,
@@ -13626,7 +13627,7 @@ when-add-i : (t : ℕ) → when-lts.Need-add-i (
   node-below t,
   node.Post,
 ) (when-at t) when.Post when-Inv-loop when-μ-loop
-when-add-i t c = omega (arith, c .before .before .before .pre .1 .inside, c .before .before .before .pre .1 .sizes .tape-fits)
+when-add-i t c = omega (arith, c .before .before .before .before .pre .1 .inside, c .before .before .before .before .pre .1 .sizes .tape-fits)
 
 when-loop-holds : (t : ℕ) → when-lts.Need-loop-holds (
   head-at-reads.Asked,
@@ -13637,7 +13638,7 @@ when-loop-holds : (t : ℕ) → when-lts.Need-loop-holds (
   node.Post,
 ) (when-at t) when.Post when-Inv-loop when-μ-loop
 unfolding formatWhenClause
-when-loop-holds t c = loop-first (always formatWhenClause) formatWhenClause _ (c .before .before .before .pre .1) (λ all z. refl)
+when-loop-holds t c = loop-first (always formatWhenClause) formatWhenClause _ (c .before .before .before .before .pre .1) (λ all z. refl)
 
 when-shared-slice-read-if1 : (t : ℕ) → when-lts.Need-shared-slice-read-if1 (
   head-at-reads.Asked,
@@ -13657,7 +13658,7 @@ when-head-at-requires : (t : ℕ) → when-lts.Need-head-at-requires (
   node-below t,
   node.Post,
 ) (when-at t) when.Post when-Inv-loop when-μ-loop
-when-head-at-requires t c κs = loop-fits (c .before .before .before .before .before .before .pre .1) (c .before .before .loop .inv) (c .if1 .taken)
+when-head-at-requires t c κs = loop-fits (c .before .before .before .before .before .before .before .pre .1) (c .before .before .loop .inv) (c .if1 .taken)
 
 when-shared-slice-read-if2 : (t : ℕ) → when-lts.Need-shared-slice-read-if2 (
   head-at-reads.Asked,
@@ -13677,7 +13678,7 @@ when-when-clause-token-requires : (t : ℕ) → when-lts.Need-when-clause-token-
   node-below t,
   node.Post,
 ) (when-at t) when.Post when-Inv-loop when-μ-loop
-when-when-clause-token-requires t c κs = token-ready (c .before .before .before .before .before .before .before .before .before .before .pre .1) (c .before .before .before .before .before .before .loop .inv) _ (c .before .if2 .taken) (c .before .before .before .head-at .ensures)
+when-when-clause-token-requires t c κs = token-ready (c .before .before .before .before .before .before .before .before .before .before .before .pre .1) (c .before .before .before .before .before .before .loop .inv) _ (c .before .if2 .taken) (c .before .before .before .head-at .ensures)
 
 when-add-i-2 : (t : ℕ) → when-lts.Need-add-i-2 (
   head-at-reads.Asked,
@@ -13687,7 +13688,7 @@ when-add-i-2 : (t : ℕ) → when-lts.Need-add-i-2 (
   node-below t,
   node.Post,
 ) (when-at t) when.Post when-Inv-loop when-μ-loop
-when-add-i-2 t c = omega (arith, loop-fits (c .before .before .before .before .before .before .before .before .before .before .before .before .before .pre .1) (c .before .before .before .before .before .before .before .before .before .loop .inv) (c .before .before .before .before .before .before .before .if1 .taken), c .before .before .before .before .before .before .before .before .before .before .before .before .before .pre .1 .sizes .tape-fits)
+when-add-i-2 t c = omega (arith, loop-fits (c .before .before .before .before .before .before .before .before .before .before .before .before .before .before .pre .1) (c .before .before .before .before .before .before .before .before .before .loop .inv) (c .before .before .before .before .before .before .before .if1 .taken), c .before .before .before .before .before .before .before .before .before .before .before .before .before .before .pre .1 .sizes .tape-fits)
 
 when-loop-less : (t : ℕ) → when-lts.Need-loop-less (
   head-at-reads.Asked,
@@ -13708,7 +13709,7 @@ when-loop-again : (t : ℕ) → when-lts.Need-loop-again (
   node.Post,
 ) (when-at t) when.Post when-Inv-loop when-μ-loop
 unfolding formatWhenClause
-when-loop-again t c = token-next (c .before .before .before .before .before .before .before .before .before .before .before .before .before .pre .1) (c .before .before .before .before .before .before .before .before .before .loop .inv) (c .before .before .before .before .if2 .taken) (c .before .before .before .before .before .before .head-at .ensures) (c .before .before .when-clause-token .ensures) refl (c .before .before .when-clause-token .kept .1 .1 .0)
+when-loop-again t c = token-next (c .before .before .before .before .before .before .before .before .before .before .before .before .before .before .pre .1) (c .before .before .before .before .before .before .before .before .before .loop .inv) (c .before .before .before .before .if2 .taken) (c .before .before .before .before .before .before .head-at .ensures) (c .before .before .when-clause-token .ensures) refl (c .before .before .when-clause-token .kept .1 .1 .0)
 
 when-sub-node : (t : ℕ) → when-lts.Need-sub-node (
   head-at-reads.Asked,
@@ -13718,7 +13719,7 @@ when-sub-node : (t : ℕ) → when-lts.Need-sub-node (
   node-below t,
   node.Post,
 ) (when-at t) when.Post when-Inv-loop when-μ-loop
-when-sub-node t c = left-pos (c .before .before .before .before .before .before .before .before .before .before .pre .1) (c .before .before .before .before .before .before .loop .inv) (c .before .before .before .before .if1 .taken) (c .before .if2 .left)
+when-sub-node t c = left-pos (c .before .before .before .before .before .before .before .before .before .before .before .pre .1) (c .before .before .before .before .before .before .loop .inv) (c .before .before .before .before .if1 .taken) (c .before .if2 .left)
 
 when-node-requires : (t : ℕ) → when-lts.Need-node-requires (
   head-at-reads.Asked,
@@ -13728,7 +13729,7 @@ when-node-requires : (t : ℕ) → when-lts.Need-node-requires (
   node-below t,
   node.Post,
 ) (when-at t) when.Post when-Inv-loop when-μ-loop
-when-node-requires t c κs = (omega (arith, c .before .before .before .before .before .before .before .before .before .before .pre .0, left-pos (c .before .before .before .before .before .before .before .before .before .before .pre .1) (c .before .before .before .before .before .before .loop .inv) (c .before .before .before .before .if1 .taken) (c .before .if2 .left)), node-ready (c .before .before .before .before .before .before .before .before .before .before .pre .1) (c .before .before .before .before .before .before .loop .inv) (c .before .before .before .before .if1 .taken) (c .before .if2 .left) (c .before .before .before .head-at .ensures) (no-spacing {xs = c .before .before .before .before .before .before .loop .out}) (omega arith))
+when-node-requires t c κs = (omega (arith, c .before .before .before .before .before .before .before .before .before .before .before .pre .0, left-pos (c .before .before .before .before .before .before .before .before .before .before .before .pre .1) (c .before .before .before .before .before .before .loop .inv) (c .before .before .before .before .if1 .taken) (c .before .if2 .left)), node-ready (c .before .before .before .before .before .before .before .before .before .before .before .pre .1) (c .before .before .before .before .before .before .loop .inv) (c .before .before .before .before .if1 .taken) (c .before .if2 .left) (c .before .before .before .head-at .ensures) (no-spacing {xs = c .before .before .before .before .before .before .loop .out}) (omega arith))
 
 when-loop-less-2 : (t : ℕ) → when-lts.Need-loop-less-2 (
   head-at-reads.Asked,
@@ -13749,7 +13750,7 @@ when-loop-again-2 : (t : ℕ) → when-lts.Need-loop-again-2 (
   node.Post,
 ) (when-at t) when.Post when-Inv-loop when-μ-loop
 unfolding formatWhenClause
-when-loop-again-2 t c = node-next (c .before .before .before .before .before .before .before .before .before .before .before .before .before .before .pre .1) (c .before .before .before .before .before .before .before .before .before .before .loop .inv) (formatWhenClause .atNode (flagged false) (c .before .before .before .before .before .before .before .head-at .result .kind) 0) (c .before .before .before .before .before .before .before .before .if1 .taken) (c .before .before .before .before .before .if2 .left) (c .before .before .before .before .before .before .before .head-at .ensures) (λ k z. refl) (no-spacing {xs = c .before .before .before .before .before .before .before .before .before .before .loop .out}) (c .before .before .before .node .ensures) refl no-spacing (omega arith) (omega arith) (c .before .before .before .node .kept .1 .1 .1 .1 .0)
+when-loop-again-2 t c = node-next (c .before .before .before .before .before .before .before .before .before .before .before .before .before .before .before .pre .1) (c .before .before .before .before .before .before .before .before .before .before .loop .inv) (formatWhenClause .atNode (flagged false) (c .before .before .before .before .before .before .before .head-at .result .kind) 0) (c .before .before .before .before .before .before .before .before .if1 .taken) (c .before .before .before .before .before .if2 .left) (c .before .before .before .before .before .before .before .head-at .ensures) (λ k z. refl) (no-spacing {xs = c .before .before .before .before .before .before .before .before .before .before .loop .out}) (c .before .before .before .node .ensures) refl no-spacing (omega arith) (omega arith) (c .before .before .before .node .kept .1 .1 .1 .1 .0)
 
 when-add-t22 : (t : ℕ) → when-lts.Need-add-t22 (
   head-at-reads.Asked,
@@ -13759,7 +13760,7 @@ when-add-t22 : (t : ℕ) → when-lts.Need-add-t22 (
   node-below t,
   node.Post,
 ) (when-at t) when.Post when-Inv-loop when-μ-loop
-when-add-t22 t c = omega (arith, c .before .before .loop .inv .inside, c .before .before .before .before .before .before .pre .1 .sizes .tape-fits)
+when-add-t22 t c = omega (arith, c .before .before .loop .inv .inside, c .before .before .before .before .before .before .before .pre .1 .sizes .tape-fits)
 
 when-same-length : (t : ℕ) → when-lts.Need-same-length (
   head-at-reads.Asked,
@@ -13780,13 +13781,13 @@ when-returns : (t : ℕ) → when-lts.Need-returns (
   node.Post,
 ) (when-at t) when.Post when-Inv-loop when-μ-loop
 unfolding formatWhenClause
-when-returns t c = loop-last (c .before .before .before .before .before .before .pre .1) (c .before .before .loop .inv) (c .if1 .left) no-spacing (omega arith)
+when-returns t c = loop-last (c .before .before .before .before .before .before .before .pre .1) (c .before .before .loop .inv) (c .if1 .left) no-spacing (omega arith)
 
 abbrev with-Inv-loop : with-lts.InvT-loop
-with-Inv-loop source tape config errors out₀ left at i₀ ctx₀ out i ctx = Loop source tape config errors left at (always formatWithClause) formatWithClause ctx₀ out₀ out i ctx (flagged false)
+with-Inv-loop source tape config facts out₀ left at i₀ ctx₀ out i ctx = Loop source tape facts config left at (always formatWithClause) formatWithClause ctx₀ out₀ out i ctx (flagged false)
 
 abbrev with-μ-loop : with-lts.MeasureT-loop
-with-μ-loop source tape config errors out₀ left at i₀ ctx₀ out i ctx = length tape - i
+with-μ-loop source tape config facts out₀ left at i₀ ctx₀ out i ctx = length tape - i
 
 with-add-i : (t : ℕ) → with-lts.Need-add-i (
   head-at-reads.Asked,
@@ -13800,7 +13801,7 @@ with-add-i : (t : ℕ) → with-lts.Need-add-i (
   with-clause-after-reads.Asked,
   with-clause-after-reads.Learnt,
 ) (with-at t) with.Post with-Inv-loop with-μ-loop
-with-add-i t c = omega (arith, c .before .before .before .pre .1 .inside, c .before .before .before .pre .1 .sizes .tape-fits)
+with-add-i t c = omega (arith, c .before .before .before .before .pre .1 .inside, c .before .before .before .before .pre .1 .sizes .tape-fits)
 
 with-loop-holds : (t : ℕ) → with-lts.Need-loop-holds (
   head-at-reads.Asked,
@@ -13815,7 +13816,7 @@ with-loop-holds : (t : ℕ) → with-lts.Need-loop-holds (
   with-clause-after-reads.Learnt,
 ) (with-at t) with.Post with-Inv-loop with-μ-loop
 unfolding formatWithClause
-with-loop-holds t c = loop-first (always formatWithClause) formatWithClause _ (c .before .before .before .pre .1) (λ all z. refl)
+with-loop-holds t c = loop-first (always formatWithClause) formatWithClause _ (c .before .before .before .before .pre .1) (λ all z. refl)
 
 with-shared-slice-read-if1 : (t : ℕ) → with-lts.Need-shared-slice-read-if1 (
   head-at-reads.Asked,
@@ -13843,7 +13844,7 @@ with-head-at-requires : (t : ℕ) → with-lts.Need-head-at-requires (
   with-clause-after-reads.Asked,
   with-clause-after-reads.Learnt,
 ) (with-at t) with.Post with-Inv-loop with-μ-loop
-with-head-at-requires t c κs = loop-fits (c .before .before .before .before .before .before .pre .1) (c .before .before .loop .inv) (c .if1 .taken)
+with-head-at-requires t c κs = loop-fits (c .before .before .before .before .before .before .before .pre .1) (c .before .before .loop .inv) (c .if1 .taken)
 
 with-shared-slice-read-if2 : (t : ℕ) → with-lts.Need-shared-slice-read-if2 (
   head-at-reads.Asked,
@@ -13871,7 +13872,7 @@ with-select-clause-token-requires : (t : ℕ) → with-lts.Need-select-clause-to
   with-clause-after-reads.Asked,
   with-clause-after-reads.Learnt,
 ) (with-at t) with.Post with-Inv-loop with-μ-loop
-with-select-clause-token-requires t c κs = token-ready (c .before .before .before .before .before .before .before .before .before .before .pre .1) (c .before .before .before .before .before .before .loop .inv) _ (c .before .if2 .taken) (c .before .before .before .head-at .ensures)
+with-select-clause-token-requires t c κs = token-ready (c .before .before .before .before .before .before .before .before .before .before .before .pre .1) (c .before .before .before .before .before .before .loop .inv) _ (c .before .if2 .taken) (c .before .before .before .head-at .ensures)
 
 with-add-i-2 : (t : ℕ) → with-lts.Need-add-i-2 (
   head-at-reads.Asked,
@@ -13885,7 +13886,7 @@ with-add-i-2 : (t : ℕ) → with-lts.Need-add-i-2 (
   with-clause-after-reads.Asked,
   with-clause-after-reads.Learnt,
 ) (with-at t) with.Post with-Inv-loop with-μ-loop
-with-add-i-2 t c = omega (arith, loop-fits (c .before .before .before .before .before .before .before .before .before .before .before .before .before .pre .1) (c .before .before .before .before .before .before .before .before .before .loop .inv) (c .before .before .before .before .before .before .before .if1 .taken), c .before .before .before .before .before .before .before .before .before .before .before .before .before .pre .1 .sizes .tape-fits)
+with-add-i-2 t c = omega (arith, loop-fits (c .before .before .before .before .before .before .before .before .before .before .before .before .before .before .pre .1) (c .before .before .before .before .before .before .before .before .before .loop .inv) (c .before .before .before .before .before .before .before .if1 .taken), c .before .before .before .before .before .before .before .before .before .before .before .before .before .before .pre .1 .sizes .tape-fits)
 
 with-loop-less : (t : ℕ) → with-lts.Need-loop-less (
   head-at-reads.Asked,
@@ -13914,7 +13915,7 @@ with-loop-again : (t : ℕ) → with-lts.Need-loop-again (
   with-clause-after-reads.Learnt,
 ) (with-at t) with.Post with-Inv-loop with-μ-loop
 unfolding formatWithClause
-with-loop-again t c = token-next (c .before .before .before .before .before .before .before .before .before .before .before .before .before .pre .1) (c .before .before .before .before .before .before .before .before .before .loop .inv) (c .before .before .before .before .if2 .taken) (c .before .before .before .before .before .before .head-at .ensures) (c .before .before .select-clause-token .ensures) refl (c .before .before .select-clause-token .kept .1 .1 .0)
+with-loop-again t c = token-next (c .before .before .before .before .before .before .before .before .before .before .before .before .before .before .pre .1) (c .before .before .before .before .before .before .before .before .before .loop .inv) (c .before .before .before .before .if2 .taken) (c .before .before .before .before .before .before .head-at .ensures) (c .before .before .select-clause-token .ensures) refl (c .before .before .select-clause-token .kept .1 .1 .0)
 
 with-with-clause-before-requires : (t : ℕ) → with-lts.Need-with-clause-before-requires (
   head-at-reads.Asked,
@@ -13928,7 +13929,7 @@ with-with-clause-before-requires : (t : ℕ) → with-lts.Need-with-clause-befor
   with-clause-after-reads.Asked,
   with-clause-after-reads.Learnt,
 ) (with-at t) with.Post with-Inv-loop with-μ-loop
-with-with-clause-before-requires t c κs = let r = side-ready (c .before .before .before .before .before .before .before .before .before .before .pre .1) (c .before .before .before .before .before .before .loop .inv) in omega arith
+with-with-clause-before-requires t c κs = let r = side-ready (c .before .before .before .before .before .before .before .before .before .before .before .pre .1) (c .before .before .before .before .before .before .loop .inv) in omega arith
 
 with-sub-node : (t : ℕ) → with-lts.Need-sub-node (
   head-at-reads.Asked,
@@ -13942,7 +13943,7 @@ with-sub-node : (t : ℕ) → with-lts.Need-sub-node (
   with-clause-after-reads.Asked,
   with-clause-after-reads.Learnt,
 ) (with-at t) with.Post with-Inv-loop with-μ-loop
-with-sub-node t c = left-pos (c .before .before .before .before .before .before .before .before .before .before .before .before .before .before .pre .1) (c .before .before .before .before .before .before .before .before .before .before .loop .inv) (c .before .before .before .before .before .before .before .before .if1 .taken) (c .before .before .before .before .before .if2 .left)
+with-sub-node t c = left-pos (c .before .before .before .before .before .before .before .before .before .before .before .before .before .before .before .pre .1) (c .before .before .before .before .before .before .before .before .before .before .loop .inv) (c .before .before .before .before .before .before .before .before .if1 .taken) (c .before .before .before .before .before .if2 .left)
 
 with-node-requires : (t : ℕ) → with-lts.Need-node-requires (
   head-at-reads.Asked,
@@ -13956,7 +13957,7 @@ with-node-requires : (t : ℕ) → with-lts.Need-node-requires (
   with-clause-after-reads.Asked,
   with-clause-after-reads.Learnt,
 ) (with-at t) with.Post with-Inv-loop with-μ-loop
-with-node-requires t c κs = (omega (arith, c .before .before .before .before .before .before .before .before .before .before .before .before .before .before .pre .0, left-pos (c .before .before .before .before .before .before .before .before .before .before .before .before .before .before .pre .1) (c .before .before .before .before .before .before .before .before .before .before .loop .inv) (c .before .before .before .before .before .before .before .before .if1 .taken) (c .before .before .before .before .before .if2 .left)), node-ready (c .before .before .before .before .before .before .before .before .before .before .before .before .before .before .pre .1) (c .before .before .before .before .before .before .before .before .before .before .loop .inv) (c .before .before .before .before .before .before .before .before .if1 .taken) (c .before .before .before .before .before .if2 .left) (c .before .before .before .before .before .before .before .head-at .ensures) (c .before .before .before .with-clause-before .ensures) (omega arith))
+with-node-requires t c κs = (omega (arith, c .before .before .before .before .before .before .before .before .before .before .before .before .before .before .before .pre .0, left-pos (c .before .before .before .before .before .before .before .before .before .before .before .before .before .before .before .pre .1) (c .before .before .before .before .before .before .before .before .before .before .loop .inv) (c .before .before .before .before .before .before .before .before .if1 .taken) (c .before .before .before .before .before .if2 .left)), node-ready (c .before .before .before .before .before .before .before .before .before .before .before .before .before .before .before .pre .1) (c .before .before .before .before .before .before .before .before .before .before .loop .inv) (c .before .before .before .before .before .before .before .before .if1 .taken) (c .before .before .before .before .before .if2 .left) (c .before .before .before .before .before .before .before .head-at .ensures) (c .before .before .before .with-clause-before .ensures) (omega arith))
 
 with-with-clause-after-requires : (t : ℕ) → with-lts.Need-with-clause-after-requires (
   head-at-reads.Asked,
@@ -13999,7 +14000,7 @@ with-loop-again-2 : (t : ℕ) → with-lts.Need-loop-again-2 (
   with-clause-after-reads.Learnt,
 ) (with-at t) with.Post with-Inv-loop with-μ-loop
 unfolding formatWithClause
-with-loop-again-2 t c = node-next (c .before .before .before .before .before .before .before .before .before .before .before .before .before .before .before .before .before .before .before .pre .1) (c .before .before .before .before .before .before .before .before .before .before .before .before .before .before .before .loop .inv) (formatWithClause .atNode (flagged false) (c .before .before .before .before .before .before .before .before .before .before .before .before .head-at .result .kind) 0) (c .before .before .before .before .before .before .before .before .before .before .before .before .before .if1 .taken) (c .before .before .before .before .before .before .before .before .before .before .if2 .left) (c .before .before .before .before .before .before .before .before .before .before .before .before .head-at .ensures) (λ k z. refl) (c .before .before .before .before .before .before .before .before .with-clause-before .ensures) (c .before .before .before .before .node .ensures) refl (as-spaced (c .with-clause-after .ensures)) (omega arith) (omega arith) (c .before .before .before .before .node .kept .1 .1 .1 .1 .0 ∙ c .before .before .before .before .before .before .before .before .with-clause-before .kept .0)
+with-loop-again-2 t c = node-next (c .before .before .before .before .before .before .before .before .before .before .before .before .before .before .before .before .before .before .before .before .pre .1) (c .before .before .before .before .before .before .before .before .before .before .before .before .before .before .before .loop .inv) (formatWithClause .atNode (flagged false) (c .before .before .before .before .before .before .before .before .before .before .before .before .head-at .result .kind) 0) (c .before .before .before .before .before .before .before .before .before .before .before .before .before .if1 .taken) (c .before .before .before .before .before .before .before .before .before .before .if2 .left) (c .before .before .before .before .before .before .before .before .before .before .before .before .head-at .ensures) (λ k z. refl) (c .before .before .before .before .before .before .before .before .with-clause-before .ensures) (c .before .before .before .before .node .ensures) refl (as-spaced (c .with-clause-after .ensures)) (omega arith) (omega arith) (c .before .before .before .before .node .kept .1 .1 .1 .1 .0 ∙ c .before .before .before .before .before .before .before .before .with-clause-before .kept .0)
 
 with-add-t26 : (t : ℕ) → with-lts.Need-add-t26 (
   head-at-reads.Asked,
@@ -14013,7 +14014,7 @@ with-add-t26 : (t : ℕ) → with-lts.Need-add-t26 (
   with-clause-after-reads.Asked,
   with-clause-after-reads.Learnt,
 ) (with-at t) with.Post with-Inv-loop with-μ-loop
-with-add-t26 t c = omega (arith, c .before .before .loop .inv .inside, c .before .before .before .before .before .before .pre .1 .sizes .tape-fits)
+with-add-t26 t c = omega (arith, c .before .before .loop .inv .inside, c .before .before .before .before .before .before .before .pre .1 .sizes .tape-fits)
 
 with-same-length : (t : ℕ) → with-lts.Need-same-length (
   head-at-reads.Asked,
@@ -14042,7 +14043,7 @@ with-returns : (t : ℕ) → with-lts.Need-returns (
   with-clause-after-reads.Learnt,
 ) (with-at t) with.Post with-Inv-loop with-μ-loop
 unfolding formatWithClause
-with-returns t c = loop-last (c .before .before .before .before .before .before .pre .1) (c .before .before .loop .inv) (c .if1 .left) no-spacing (omega arith)
+with-returns t c = loop-last (c .before .before .before .before .before .before .before .pre .1) (c .before .before .loop .inv) (c .if1 .left) no-spacing (omega arith)
 
 pub +alter+binary+brace+bracket+call+case+comma+dtype+file+inl-list+inline+join+list-by+no-spaces+node+paren+pass+queries+sel-stmt+select+settings+simple+subquery+tight-paren+unary+union+when+with-spec :
     {M : Type 1} → statement M
@@ -14505,8 +14506,8 @@ pub +alter+binary+brace+bracket+call+case+comma+dtype+file+inl-list+inline+join+
     (no-spaces-same-length t)
     (no-spaces-returns t))
     (λ t. node-lts.spec (
-      is-copied-reads.Asked,
-      is-copied-reads.Learnt,
+      has-error-reads.Asked,
+      has-error-reads.Learnt,
       head-at-reads.Asked,
       head-at-reads.Learnt,
       skip-reads.Asked,
@@ -14572,7 +14573,7 @@ pub +alter+binary+brace+bracket+call+case+comma+dtype+file+inl-list+inline+join+
     )
     (node-at t)
     node.Post
-    (node-is-copied-requires t)
+    (node-has-error-requires t)
     (node-head-at-requires t)
     (node-skip-requires t)
     (node-format-error-verbatim-requires t)
