@@ -10,7 +10,7 @@ use Rattle.context.specs.Cells.{Cell, isWhiteSpace, toCase, bytesOf, fix
 use Rattle.context.specs.Trim.{trim, trimmedLength, trimmedAfter}
 use Rattle.context.specs.Splice.{splice}
 use Rattle.context.specs.Context.{Step, afterWrite, lead, writeToken, writeKeyword, writeRaw, endsInNewline}
-use Rattle.context.specs.Store.{advanced, Store, appended, stored, withState, Spent, Wrote}
+use Rattle.context.specs.Store.{advanced, Store, appended, stored, withState, afterText, Spent, Wrote}
 use Rattle.context.specs.declared.FormatConfig.{FormatConfig}
 use Rattle.context.specs.declared.State.{State}
 use Rattle.context.specs.declared.Position.{Position}
@@ -127,3 +127,17 @@ module _ (config : FormatConfig) (bs : List ℕ) (c : FormatterContext) (n : ℕ
       let u = config .«uppercase_keywords» in
       token-wrote config (map (cellInCase u) (fixed bs)) (map (toCase u) bs) (bytes-in-case u (fixed bs) ∙ ap (map (toCase u)) (bytes-fixed bs)) c n b xs h (rw length-map k)
       f (g ∙ advanced-in-case u n bs (c .position)) v w
+
+-- the same by `put` and `after_text`: the blanks and the text with its trimmed length
+module _ (config : FormatConfig) (bs : List ℕ) (c : FormatterContext) (n : ℕ) (b : bytesOf (lead config (c .state)) ≡ replicate n 32) (h : n ≤ 2 ^ 24) (k : length bs ≤ 2 ^ 18) where
+  put-position : {j : ℕ} → j ≡ trimmedLength isWhiteSpace bs → afterText n (length bs) j c .position ≡ advanced (replicate n 32 ++ bs) (c .position)
+  put-position {j} e = advanced-blanks n bs (c .position) _ _ refl (ap (trimmedAfter (c .position .length + n) (c .position .trimmed)) e)
+
+  pub token-put : {j : ℕ} (xs : List ℕ) {r : FormatterContext} {zs : List ℕ} → j ≡ trimmedLength isWhiteSpace bs → r ≡ afterText n (length bs) j c
+      → zs ≡ splice (c .position .length + n) bs (splice (c .position .length) (replicate n 32) xs) → Wrote 1 (stored (writeToken config (fixed bs) (c .state)) (c, xs)) c r zs
+  token-put xs e f w = rw f (token-wrote config (fixed bs) bs (bytes-fixed bs) c n b xs h k refl (put-position e) refl w)
+
+  pub keyword-put : {j : ℕ} (xs : List ℕ) {r : FormatterContext} {zs : List ℕ} → j ≡ trimmedLength isWhiteSpace bs → r ≡ afterText n (length bs) j c
+      → zs ≡ splice (c .position .length + n) (map (toCase (config .«uppercase_keywords»)) bs) (splice (c .position .length) (replicate n 32) xs)
+      → Wrote 1 (stored (writeKeyword config (fixed bs) (c .state)) (c, xs)) c r zs
+  keyword-put xs e f w = rw f (keyword-wrote config bs c n b xs h k refl (put-position e) refl w)

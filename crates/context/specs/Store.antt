@@ -1,13 +1,13 @@
 -- The write position and the lent output space, and what code promises of them.
 use Prim.Native.Nat.{ℕ, _+_, _*_, _^_, _≤_}
 use mathlib.Core.Path.{_≡_}
-use mathlib.Core.Bool.{Bool}
+use mathlib.Core.Bool.{Bool, false}
 use mathlib.Core.List.{List, _++_}
 use lib.ListN.{length}
 use Rattle.context.specs.Cells.{bytesOf, isWhiteSpace}
 use Rattle.context.specs.Trim.{trimmedLength, trimmedAfter}
 use Rattle.context.specs.Splice.{splice}
-use Rattle.context.specs.Context.{Step, newState}
+use Rattle.context.specs.Context.{Step, newState, afterWrite}
 use Rattle.context.specs.declared.State.{State}
 use Rattle.context.specs.declared.Position.{Position}
 use Rattle.context.specs.declared.FormatterContext.{FormatterContext}
@@ -39,6 +39,15 @@ stored r w = appended (r .0) (bytesOf (r .1 .lead ++ r .1 .body)) w
 -- another state at the same position
 abbrev pub withState : State → FormatterContext → FormatterContext
 withState s c = record { state = s; position = c .position }
+
+-- c once so many blanks and a text of n bytes are written, j of which are left when its trailing white space is dropped
+abbrev pub afterText : ℕ → ℕ → ℕ → FormatterContext → FormatterContext
+afterText blanks n j c =
+    let from = c .position .length + blanks in
+    record {
+      state = afterWrite false (c .state);
+      position = record { length = from + n; trimmed = trimmedAfter from (c .position .trimmed) j };
+    }
 
 -- ── what the code asks and promises
 

@@ -108,7 +108,28 @@ pub(crate) fn copy_in_case_at(out: &mut [u8], at: usize, uppercase: bool, text: 
     }
 }
 
-pub(crate) fn trimmed_length(text: &[u8]) -> usize
+// So many blanks and then the text, from offset `at` on; and how long the text is once its trailing white space is dropped. Numbers go in and out: a
+// caller that has the context in registers keeps it there.
+pub fn put(out: &mut [u8], at: usize, blanks: usize, text: &[u8]) -> usize
+    requires { ⌜ at + blanks < 2 ^ 64 ⌝ }
+    ensures { λ r. ⌜ (r ≡ trimmedLength isWhiteSpace (now (text .entry))) × (now (out .exit) ≡ splice (at + blanks) (now (text .entry)) (splice at (replicate blanks 32) (now (out .entry)))) ⌝ }
+{
+    fill_at(out, at, blanks, 32);
+    copy_at(out, at + blanks, text);
+    trimmed_length(text)
+}
+
+// The same in upper or lower case.
+pub fn put_in_case(out: &mut [u8], at: usize, blanks: usize, uppercase: bool, text: &[u8]) -> usize
+    requires { ⌜ at + blanks < 2 ^ 64 ⌝ }
+    ensures { λ r. ⌜ (r ≡ trimmedLength isWhiteSpace (now (text .entry))) × (now (out .exit) ≡ splice (at + blanks) (map (toCase uppercase) (now (text .entry))) (splice at (replicate blanks 32) (now (out .entry)))) ⌝ }
+{
+    fill_at(out, at, blanks, 32);
+    copy_in_case_at(out, at + blanks, uppercase, text);
+    trimmed_length(text)
+}
+
+pub fn trimmed_length(text: &[u8]) -> usize
     ensures { λ r. ⌜ r ≡ trimmedLength isWhiteSpace (now (text .entry)) ⌝ }
 {
     let mut n = text.len();

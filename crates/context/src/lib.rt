@@ -3,6 +3,9 @@
 mod buffer;
 
 pub use buffer::copy;
+pub use buffer::put;
+pub use buffer::put_in_case;
+pub use buffer::trimmed_length;
 ghost use mathlib.Core.Path.{_≡_};
 ghost use mathlib.Core.List.{[], _∷_, _++_};
 ghost use Prim.Native.Nat.{_+_, _^_, _≤_, _<_};
@@ -22,7 +25,8 @@ ghost use Rattle.context.specs.Context.{
   writeSpace,
   writeToken,
 };
-ghost use Rattle.context.specs.Store.{Changed, Room, Took, Wrote, advanced, new, stored};
+ghost use Rattle.context.specs.Trim.{trimmedAfter};
+ghost use Rattle.context.specs.Store.{Changed, Room, Took, Wrote, advanced, afterText, new, stored};
 
 // What the caller sets.
 pub struct FormatConfig {
@@ -100,6 +104,18 @@ impl Position {
         }
     }
 
+    // The same of a text of n bytes, j of which are left once its trailing white space is dropped.
+    fn after_text(self, blanks: usize, n: usize, j: usize) -> Position
+        requires { ⌜ (self .length + blanks + n < 2 ^ 64) × (j ≤ n) ⌝ }
+        ensures { λ r. ⌜ r ≡ record { length = self .length + blanks + n; trimmed = trimmedAfter (self .length + blanks) (self .trimmed) j } ⌝ }
+    {
+        let from = self.length + blanks;
+        Position {
+            length: from + n,
+            trimmed: buffer::trimmed_after(from, self.trimmed, j),
+        }
+    }
+
     // The position after so many blanks and a byte.
     fn after_byte(self, blanks: usize, b: u8) -> Position
         requires { ⌜ self .length + blanks + 1 < 2 ^ 64 ⌝ }
@@ -136,6 +152,28 @@ impl FormatterContext {
                 length: 0,
                 trimmed: 0,
             },
+        }
+    }
+
+    // How many blanks stand before a token.
+    pub fn lead_blanks(self, config: FormatConfig) -> usize
+        requires { ⌜ (self .state .«indent_level» ≤ 2 ^ 20) × (config .«indent_width» ≤ 16) ⌝ }
+        ensures { λ r. ⌜ (bytesOf (lead config (self .state)) ≡ replicate r 32) × (r ≤ 2 ^ 24) ⌝ }
+    {
+        let s = self.state;
+        s.lead_blanks(config)
+    }
+
+    // What write_token hands back once `put` has written so many blanks and a text of n bytes, and has answered j.
+    pub fn after_text(self, blanks: usize, n: usize, j: usize) -> FormatterContext
+        requires { ⌜ (self .position .length + blanks + n < 2 ^ 64) × (j ≤ n) ⌝ }
+        ensures { λ r. ⌜ r ≡ afterText blanks n j self ⌝ }
+    {
+        let s = self.state;
+        let p = self.position;
+        FormatterContext {
+            state: s.after_write(false),
+            position: p.after_text(blanks, n, j),
         }
     }
 

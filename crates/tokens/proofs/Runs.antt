@@ -4,22 +4,22 @@ use native.Mathlib.Omega.{arith}
 use mathlib.Core.Path.{_≡_, refl, sym, ap, _∙_}
 use mathlib.Core.Bool.{Bool, true, false, cond, not, _&&_}
 use mathlib.Core.List.{List, [], _∷_, _++_, map}
-use lib.ListN.{length, getD, length-append, length-map}
+use lib.ListN.{length, getD, replicate}
 use lib.Dec.{eqb}
 use borrow.Author.Tests.{eqb-true, ne-eqb, le-leb, lt-leb}
 use Rattle.keywords.specs.Words.{isKeyword, isValueKeyword}
-use Rattle.context.specs.Cells.{Text, Cell, fixed, fresh, bytesOf, tokenText, spanCells, cellInCase, isWhiteSpace}
-use Rattle.context.specs.Trim.{trimmedLength, trimmedAfter}
-use Rattle.context.specs.Context.{Step, afterWrite, lead, writeNewline, writeToken, writeSpace, noteSkippedWhitespace, takePendingNewline, takePendingBlankLine, indent, dedent, writeRaw, cellIsWhiteSpace}
+use Rattle.context.specs.Cells.{Text, fixed, fresh, bytesOf, tokenText, spanCells, isWhiteSpace, toCase}
+use Rattle.context.specs.Trim.{trimmedLength}
+use Rattle.context.specs.Splice.{splice}
+use Rattle.context.specs.Context.{Step, lead, writeNewline, writeToken, writeSpace, noteSkippedWhitespace, takePendingNewline, takePendingBlankLine, indent, dedent, writeRaw}
 use Rattle.context.specs.Context as context
-use Rattle.context.specs.Store.{Store, advanced, appended, stored, withState, Wrote, Changed}
+use Rattle.context.specs.Store.{Store, advanced, appended, stored, withState, afterText, Wrote, Changed}
 use Rattle.context.specs.declared.FormatConfig.{FormatConfig}
 use Rattle.context.specs.declared.FormatterContext.{FormatterContext}
 use Rattle.context.specs.declared.State.{State}
 use Rattle.context.proofs.Splicing.{splice-past}
-use Rattle.context.proofs.Trimming.{trimmed-append}
-use Rattle.context.proofs.Bytes.{bytes-span, token-length, trimmed-bytes, trimmed-cells-in-case}
-use Rattle.context.proofs.Writes.{appended-none, spent-none, spent-twice, stored-token, stored-keyword, stored-raw}
+use Rattle.context.proofs.Bytes.{bytes-span, token-length}
+use Rattle.context.proofs.Writes.{appended-none, spent-none, spent-twice, stored-token, stored-keyword, stored-raw, token-put, keyword-put}
 use Rattle.tape.specs.Kinds.{Whitespace, BareWord}
 use Rattle.tape.specs.declared.Head.{Head}
 use Rattle.layout.specs.Arms as arms
@@ -29,7 +29,7 @@ use Rattle.layout.specs.Calls.{Call, actAt, formatErrorVerbatim}
 use Rattle.layout.specs.Layout.{nothingWritten, doSpacing, step}
 use Rattle.layout.specs.Run.{runSpacing, run}
 use Rattle.layout.proofs.Running.{run-append}
-use Rattle.tokens.specs.TokenPromises.{Ran, SpacedUnwritten, Spaced, TokenReady, Acted}
+use Rattle.tokens.specs.TokenPromises.{Ran, SpacedUnwritten, Spaced, TokenReady, TextReady, PutText, Acted, ActedOn, emitTrivia}
 
 -- ── spacing
 
@@ -245,25 +245,42 @@ token-acts source token h =
     go true e = rw (eqb-true (token .kind) BareWord e)
     go false e = refl
 
--- where the space is full the case does not matter
-pub full-case : (config : FormatConfig) (cs : List Cell) (s : State) (c : FormatterContext) (xs : List ℕ) → length xs ≤ c .position .length
-    → stored (writeToken config cs s) (c, xs) ≡ stored (context.writeKeyword config cs s) (c, xs)
-unfolding context.writeKeyword writeToken appended advanced
-full-case config cs s c xs h =
-    let u = config .«uppercase_keywords» in
-    let l = lead config s in
-    let ds = map (cellInCase u) cs in
-    let n : length (bytesOf (l ++ cs)) ≡ length (bytesOf (l ++ ds)) = rw (length-map, length-map, length-append, length-append, length-map) in
-    let k : trimmedLength isWhiteSpace (bytesOf (l ++ cs)) ≡ trimmedLength isWhiteSpace (bytesOf (l ++ ds)) =
-    rw (trimmed-bytes (l ++ cs), trimmed-bytes (l ++ ds), trimmed-append cellIsWhiteSpace l cs, trimmed-append cellIsWhiteSpace l ds, trimmed-cells-in-case u cs) in
-    let p = splice-past (c .position .length) (bytesOf (l ++ cs)) xs h ∙ sym (splice-past (c .position .length) (bytesOf (l ++ ds)) xs h) in
-    λ i. (record { state = afterWrite false s; position = record { length = c .position .length + n i; trimmed = trimmedAfter (c .position .length) (c .position .trimmed) (k i) } }, p i)
+-- a token that is ready has a text that is, with room for fewer writes too
+pub text-ready : {m n : ℕ} {source bs : List ℕ} {config : FormatConfig} {token : Head} {c : FormatterContext} → n ≤ m → TokenReady m source config token c
+    → bs ≡ tokenText source (token .start) (token .end) → TextReady n config bs c
+text-ready l p e = record { text-fits = text-fits p e; width-fits = p .width-fits; room = record { level = omega (arith, p .room .level); length = omega (arith, p .room .length) } }
 
-module _ {config : FormatConfig} {source : Text} {token : Head} {c r : FormatterContext} {xs ys : List ℕ} (bs : List ℕ) (e : bs ≡ tokenText source (token .start) (token .end)) where
-  pub full-text : (b : Bool) → length xs ≤ c .position .length → Wrote 1 (stored (writeToken config (fixed bs) (c .state)) (c, xs)) c r ys
-      → Acted 1 config source token (cond b (writeKeyword ∷ []) (writeText ∷ [])) c xs r ys
-  full-text true h w = did-keyword bs e (record { did = w .did ∙ full-case config (fixed bs) (c .state) c xs h; spent = w .spent })
-  full-text false h w = did-text bs e w
+-- white space or a comment at the token that has the text
+pub trivia-acted : (white : Bool) {config : FormatConfig} {source bs : List ℕ} {token : Head} {c r : FormatterContext} {xs ys : List ℕ} → bs ≡ tokenText source (token .start) (token .end)
+    → ActedOn 3 config bs (emitTrivia white bs) c xs r ys → Acted 3 config source token (emitTrivia white (tokenText source (token .start) (token .end))) c xs r ys
+trivia-acted white {source = source} {token = token} e w = acted 3 _ (omega arith) (ap (emitTrivia white) (sym e)) (w .all source token e)
+
+-- where the space is full nothing is written, whatever the text is
+pub full-put : (at blanks : ℕ) (bs us xs : List ℕ) → length xs ≤ at → xs ≡ splice (at + blanks) us (splice at bs xs)
+full-put at blanks bs us xs h = sym (rw (splice-past at bs xs h) (splice-past (at + blanks) us xs (omega arith)))
+
+-- a token's text as `put_text` and `after_text` write it
+put-acted : {config : FormatConfig} {source : Text} {token : Head} {c r : FormatterContext} {xs ys : List ℕ} {j : ℕ} (bs : List ℕ) → bs ≡ tokenText source (token .start) (token .end) → length bs ≤ 2 ^ 18
+    → (n : ℕ) → (bytesOf (lead config (c .state)) ≡ replicate n 32) × (n ≤ 2 ^ 24) → (b : Bool) → j ≡ trimmedLength isWhiteSpace bs
+    → ys ≡ splice (c .position .length + n) (cond b (map (toCase (config .«uppercase_keywords»)) bs) bs) (splice (c .position .length) (replicate n 32) xs)
+    → r ≡ afterText n (length bs) j c → Acted 1 config source token (cond b (writeKeyword ∷ []) (writeText ∷ [])) c xs r ys
+put-acted {config} {c = c} {xs = xs} bs e k n l true p w a = did-keyword bs e (keyword-put config bs c n (l .0) (l .1) k xs p a w)
+put-acted {config} {c = c} {xs = xs} bs e k n l false p w a = did-text bs e (token-put config bs c n (l .0) (l .1) k xs p a w)
+
+module _ {n : ℕ} {config : FormatConfig} {source : List ℕ} {token : Head} {c r : FormatterContext} {xs ys bs : List ℕ} {m j : ℕ} (p : TokenReady n source config token c)
+    (e : bs ≡ tokenText source (token .start) (token .end)) (l : (bytesOf (lead config (c .state)) ≡ replicate m 32) × (m ≤ 2 ^ 24)) (a : r ≡ afterText m (length bs) j c) where
+  -- as it stands
+  pub put-typed : {u : Bool} → PutText (c .position .length) m bs false u xs j ys → Acted 1 config source token (writeText ∷ []) c xs r ys
+  put-typed w = put-acted bs e (text-fits p e) m l false (w .left) (w .written) a
+
+  -- by the word list
+  pub put-token : {t : Bool} → (token .kind ≡ Whitespace → ⊥) → t ≡ eqb (token .kind) BareWord
+      → PutText (c .position .length) m bs (t && (isKeyword bs && not (isValueKeyword bs))) (config .«uppercase_keywords») xs j ys
+      → Acted 1 config source token (emitToken (seen source token)) c xs r ys
+  put-token {t} h q w =
+      acted 1 _ (omega arith)
+      (token-acts source token h ∙ ap (λ (b : Bool). cond b (writeKeyword ∷ []) (writeText ∷ [])) (ap (changesCase (token .kind)) (sym e) ∙ ap (λ (b : Bool). b && (isKeyword bs && not (isValueKeyword bs))) (sym q)))
+      (put-acted bs e (text-fits p e) m l (t && (isKeyword bs && not (isValueKeyword bs))) (w .left) (w .written) a)
 
 -- ── format_error_verbatim
 

@@ -1,12 +1,14 @@
 -- What the functions of this crate ask and promise.
-use Prim.Native.Nat.{ℕ, _≤_}
+use Prim.Native.Nat.{ℕ, _+_, _^_, _≤_}
 use mathlib.Core.Path.{_≡_}
 use mathlib.Core.Bool.{Bool, cond, _||_}
 use mathlib.Core.List.{List, [], _∷_, map}
-use lib.ListN.{length}
+use lib.ListN.{length, replicate}
 use lib.Dec.{eqb}
 use Rattle.basics.specs.Match.{match}
-use Rattle.context.specs.Cells.{Text}
+use Rattle.context.specs.Cells.{Text, isWhiteSpace, toCase, tokenText}
+use Rattle.context.specs.Trim.{trimmedLength}
+use Rattle.context.specs.Splice.{splice}
 use Rattle.context.specs.Store.{Store, Room, Spent}
 use Rattle.context.specs.declared.FormatConfig.{FormatConfig}
 use Rattle.context.specs.declared.FormatterContext.{FormatterContext}
@@ -43,10 +45,25 @@ pub record TokenReady (n : ℕ) (source : Text) (config : FormatConfig) (token :
   pub within : token .end ≤ length source
   pub room : Room n c
 
+-- the same of a token's text
+pub record TextReady (n : ℕ) (config : FormatConfig) (text : List ℕ) (c : FormatterContext) : Type 0 where
+  pub text-fits : length text ≤ 2 ^ 18
+  pub width-fits : config .«indent_width» ≤ 16
+  pub room : Room n c
+
+-- so many blanks and the text, or the text in another case, were written at a place: j is left of it once its trailing white space is dropped
+pub record PutText (at blanks : ℕ) (text : List ℕ) (cased uppercase : Bool) (xs : List ℕ) (j : ℕ) (ys : List ℕ) : Type 0 where
+  pub left : j ≡ trimmedLength isWhiteSpace text
+  pub written : ys ≡ splice (at + blanks) (cond cased (map (toCase uppercase) text) text) (splice at (replicate blanks 32) xs)
+
 -- the acts were done at the token
 pub record Acted (n : ℕ) (config : FormatConfig) (source : Text) (token : Head) (acts : List Act) (c : FormatterContext) (xs : List ℕ) (r : FormatterContext) (ys : List ℕ) : Type 0 where
   pub did : _≡_ {A = Store} (r, ys) (run config source (map (actAt token) acts) (c, xs))
   pub spent : Spent n c r
+
+-- the acts were done at whatever token has the text
+pub record ActedOn (n : ℕ) (config : FormatConfig) (text : List ℕ) (acts : List Act) (c : FormatterContext) (xs : List ℕ) (r : FormatterContext) (ys : List ℕ) : Type 0 where
+  pub all : (source : Text) (token : Head) → text ≡ tokenText source (token .start) (token .end) → Acted n config source token acts c xs r ys
 
 -- what a routine does at the token was done, and its local variables were set
 pub record TokenDone (config : FormatConfig) (source : Text) (atToken : Local → Seen → Local × List Act) (l : Local) (token : Head) (c : FormatterContext) (xs : List ℕ) (a : Arm) (ys : List ℕ) : Type 0 where

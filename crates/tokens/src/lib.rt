@@ -1,7 +1,10 @@
 // The token helpers of format_node.rs.
 use context::FormatConfig;
 use context::FormatterContext;
+use context::put;
+use context::put_in_case;
 use context::token_text;
+use context::trimmed_length;
 use keywords::is_keyword;
 use keywords::is_value_keyword;
 use layout::Local;
@@ -11,18 +14,18 @@ use tape::syntax_kind;
 ghost use mathlib.Core.Path.{_≡_};
 ghost use mathlib.Core.Bool.{not, true, _&&_};
 ghost use mathlib.Core.List.{[], _∷_};
-ghost use Prim.Native.Nat.{_≤_};
+ghost use Prim.Native.Nat.{_+_, _^_, _≤_, _<_};
 ghost use lib.ListN.{length};
 ghost use Rattle.context.specs.Store.{Room};
 ghost use lib.Dec.{eqb};
 ghost use Rattle.context.specs.Cells.{tokenText};
 ghost use Rattle.keywords.specs.Words.{isKeyword, isValueKeyword};
-ghost use Rattle.tape.specs.Kinds.{BareWord, Whitespace};
+ghost use Rattle.tape.specs.Kinds.{Whitespace};
 ghost use Rattle.layout.specs.Arms.{blankLine, blankLineBeforeComment, lineOrSpace, seen, writeKeyword, writeText};
 ghost use Rattle.layout.specs.Calls.{formatErrorVerbatim};
 ghost use Rattle.layout.specs.Routines.{nameBefore, spaceAfter, spaceIf};
 ghost use Rattle.layout.specs.Tokens.{emitComment, emitOther, emitToken, isLineComment, isOperator, noSpaceAfter, noSpaceBefore, noteSkippedWhitespace};
-ghost use Rattle.tokens.specs.TokenPromises.{Acted, Ran, Spaced, SpacedUnwritten, TokenReady, TriviaDone, emitTrivia, emitUncommented, isTrivia};
+ghost use Rattle.tokens.specs.TokenPromises.{Acted, ActedOn, PutText, Ran, Spaced, SpacedUnwritten, TextReady, TokenReady, TriviaDone, emitTrivia, emitUncommented, isTrivia};
 
 // After a token: the context, and the routine's local variables.
 pub struct Arm {
@@ -133,6 +136,40 @@ pub fn note(
     ctx.note_skipped_whitespace(text)
 }
 
+// Whether emit_token changes the case of a bare word: one on the list that is no value.
+fn is_cased(text: &[u8]) -> bool
+    ensures { λ r. ⌜ r ≡ (isKeyword (now (text .entry)) && not (isValueKeyword (now (text .entry)))) ⌝ }
+{
+    if is_keyword(text) {
+        return !is_value_keyword(text);
+    }
+    false
+}
+
+// So many blanks and a text from offset `at` on; where the word list is asked, in upper or lower case if it says so. Where nothing is written any more the
+// case does not matter, and the list is not looked at. The answer is that of `put`. A text that is handed on as `&text[..]` stays in registers.
+fn put_text(
+    out: &mut [u8],
+    at: usize,
+    blanks: usize,
+    text: &[u8],
+    listed: bool,
+    uppercase: bool,
+) -> usize
+    requires { ⌜ at + blanks < 2 ^ 64 ⌝ }
+    ensures { λ r. ⌜ PutText at blanks (now (text .entry)) (listed && (isKeyword (now (text .entry)) && not (isValueKeyword (now (text .entry))))) uppercase (now (out .entry)) r (now (out .exit)) ⌝ }
+{
+    if out.len() <= at {
+        return trimmed_length(&text[..]);
+    }
+    if listed {
+        if is_cased(&text[..]) {
+            return put_in_case(out, at, blanks, uppercase, &text[..]);
+        }
+    }
+    put(out, at, blanks, &text[..])
+}
+
 // write_token of the token's text.
 pub fn write_text(
     source: &[u8],
@@ -147,7 +184,10 @@ pub fn write_text(
     let start = token.start;
     let end = token.end;
     let text = token_text(source, start, end);
-    ctx.write_token(config, out, text)
+    let p = ctx.position;
+    let blanks = ctx.lead_blanks(config);
+    let j = put_text(out, p.length, blanks, text, false, false);
+    ctx.after_text(blanks, text.len(), j)
 }
 
 // write_keyword of the token's text.
@@ -195,6 +235,24 @@ fn line_or_space(out: &mut [u8], ctx: FormatterContext) -> FormatterContext
     next.write_space()
 }
 
+// emit_comment of a text.
+fn write_comment(
+    config: FormatConfig,
+    out: &mut [u8],
+    ctx: FormatterContext,
+    text: &[u8],
+) -> FormatterContext
+    requires { ⌜ TextReady 3 config (now text) ctx ⌝ }
+    ensures { λ r. ⌜ ActedOn 3 config (now (text .entry)) (emitComment (now (text .entry))) ctx (now (out .entry)) r (now (out .exit)) ⌝ }
+{
+    let a = line_or_space(out, ctx);
+    let b = a.write_token(config, out, text);
+    if is_line_comment(text) {
+        return b.write_newline(out);
+    }
+    b
+}
+
 pub fn emit_comment(
     source: &[u8],
     config: FormatConfig,
@@ -205,31 +263,12 @@ pub fn emit_comment(
     requires { ⌜ TokenReady 3 (now source) config token ctx ⌝ }
     ensures { λ r. ⌜ Acted 3 config (now (source .entry)) token (emitComment (tokenText (now (source .entry)) (token .start) (token .end))) ctx (now (out .entry)) r (now (out .exit)) ⌝ }
 {
-    let a = line_or_space(out, ctx);
-    let b = write_text(source, config, out, a, token);
     let start = token.start;
     let end = token.end;
     let text = token_text(source, start, end);
-    if is_line_comment(text) {
-        return b.write_newline(out);
-    }
-    b
+    write_comment(config, out, ctx, text)
 }
 
-// Whether emit_token changes the case: a bare word on the list that is no value.
-fn is_cased(kind: u16, text: &[u8]) -> bool
-    ensures { λ r. ⌜ r ≡ (eqb kind BareWord && (isKeyword (now (text .entry)) && not (isValueKeyword (now (text .entry))))) ⌝ }
-{
-    if kind != syntax_kind::BARE_WORD {
-        return false;
-    }
-    if is_keyword(text) {
-        return !is_value_keyword(text);
-    }
-    false
-}
-
-// Where nothing is written any more the case does not matter, and the list is not looked at.
 pub fn emit_token(
     source: &[u8],
     config: FormatConfig,
@@ -247,30 +286,34 @@ pub fn emit_token(
     let end = token.end;
     let text = token_text(source, start, end);
     let p = ctx.position;
-    if out.len() <= p.length {
-        return ctx.write_token(config, out, text);
-    }
-    if is_cased(token.kind, text) {
-        return ctx.write_keyword(config, out, text);
-    }
-    ctx.write_token(config, out, text)
+    let blanks = ctx.lead_blanks(config);
+    let listed = token.kind == syntax_kind::BARE_WORD;
+    let j = put_text(
+        out,
+        p.length,
+        blanks,
+        text,
+        listed,
+        config.uppercase_keywords,
+    );
+    ctx.after_text(blanks, text.len(), j)
 }
 
 // White space, else a comment. On its own, so that the two below stay small and a token costs one call.
-pub fn emit_trivia(
-    source: &[u8],
+fn emit_trivia(
     config: FormatConfig,
     out: &mut [u8],
     ctx: FormatterContext,
-    token: Head,
+    text: &[u8],
+    kind: u16,
 ) -> FormatterContext
-    requires { ⌜ TokenReady 3 (now source) config token ctx ⌝ }
-    ensures { λ r. ⌜ Acted 3 config (now (source .entry)) token (emitTrivia (eqb (token .kind) Whitespace) (tokenText (now (source .entry)) (token .start) (token .end))) ctx (now (out .entry)) r (now (out .exit)) ⌝ }
+    requires { ⌜ TextReady 3 config (now text) ctx ⌝ }
+    ensures { λ r. ⌜ ActedOn 3 config (now (text .entry)) (emitTrivia (eqb kind Whitespace) (now (text .entry))) ctx (now (out .entry)) r (now (out .exit)) ⌝ }
 {
-    if token.kind == syntax_kind::WHITESPACE {
-        return note(source, config, out, ctx, token);
+    if kind == syntax_kind::WHITESPACE {
+        return ctx.note_skipped_whitespace(&text[..]);
     }
-    emit_comment(source, config, out, ctx, token)
+    write_comment(config, out, ctx, &text[..])
 }
 
 pub fn is_trivia(kind: u16) -> bool
@@ -294,14 +337,18 @@ pub fn trivia_token(
     requires { ⌜ TokenReady 3 (now source) config token ctx × (isTrivia (token .kind) ≡ true) ⌝ }
     ensures { λ r. ⌜ TriviaDone config (now (source .entry)) local token ctx (now (out .entry)) r (now (out .exit)) ⌝ }
 {
-    let a = emit_trivia(source, config, out, ctx, token);
+    let start = token.start;
+    let end = token.end;
+    let text = token_text(source, start, end);
+    let a = emit_trivia(config, out, ctx, text, token.kind);
     Arm {
         context: a,
         local: local,
     }
 }
 
-// The arms that most routines share: white space, comments, and any other token.
+// The arms that most routines share: white space, comments, and any other token. The context that goes to `emit_trivia` is a copy made where it is called, so
+// that the one of any other token stays in registers.
 pub fn emit_other(
     source: &[u8],
     config: FormatConfig,
@@ -313,7 +360,12 @@ pub fn emit_other(
     ensures { λ r. ⌜ Acted 4 config (now (source .entry)) token (emitOther (seen (now (source .entry)) token)) ctx (now (out .entry)) r (now (out .exit)) ⌝ }
 {
     if is_trivia(token.kind) {
-        return emit_trivia(source, config, out, ctx, token);
+        let start = token.start;
+        let end = token.end;
+        let text = token_text(source, start, end);
+        let c = ctx;
+        let a = emit_trivia(config, out, c, text, token.kind);
+        return a;
     }
     emit_token(source, config, out, ctx, token)
 }
@@ -330,7 +382,12 @@ pub fn emit_uncommented(
     ensures { λ r. ⌜ Acted 4 config (now (source .entry)) token (emitUncommented (seen (now (source .entry)) token)) ctx (now (out .entry)) r (now (out .exit)) ⌝ }
 {
     if token.kind == syntax_kind::WHITESPACE {
-        return emit_trivia(source, config, out, ctx, token);
+        let start = token.start;
+        let end = token.end;
+        let text = token_text(source, start, end);
+        let c = ctx;
+        let a = emit_trivia(config, out, c, text, token.kind);
+        return a;
     }
     emit_token(source, config, out, ctx, token)
 }

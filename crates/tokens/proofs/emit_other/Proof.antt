@@ -1,23 +1,28 @@
 -- `emit_other` meets its contract.
-use borrow.Author.Needs.{needs}
 use mathlib.Core.Path.{sym, _∙_}
 use native.Mathlib.Omega.{arith}
-use Rattle.tokens.proofs.Runs.{acted}
+use Rattle.tokens.proofs.Runs.{acted, text-ready, trivia-acted}
 use Rattle.tokens.proofs.Choices.{other-trivia, other-token}
+use borrow.Author.Needs.{needs}
+use lib.Dec.{eqb}
+use Rattle.tape.specs.Kinds.{Whitespace}
 use Rattle.tokens.proofs.emit_other.Statement.{statement}
 use Rattle.tokens.proofs.emit_other.Tie as tie
 
 is-trivia-requires : tie.Need-is-trivia-requires
 is-trivia-requires c κs = search needs
 
+token-text-requires : tie.Need-token-text-requires
+token-text-requires c κs = search needs
+
 emit-trivia-requires : tie.Need-emit-trivia-requires
-emit-trivia-requires c κs = search needs
+emit-trivia-requires c κs = text-ready (omega arith) (c .before .before .before .before .before .before .pre) (c .before .token-text .ensures)
 
 same-length : tie.Need-same-length
 same-length c = search needs
 
 returns : tie.Need-returns
-returns c = acted 4 _ (omega arith) (other-trivia _ _ (sym (c .before .before .before .before .before .is-trivia .ensures) ∙ c .before .before .before .before .if1 .taken)) (c .before .before .emit-trivia .ensures)
+returns c = acted 4 _ (omega arith) (other-trivia _ _ (sym (c .before .before .before .before .before .before .is-trivia .ensures) ∙ c .before .before .before .before .before .if1 .taken)) (trivia-acted (eqb (c .before .before .before .before .before .before .before .before .before .args .token .kind) Whitespace) (c .before .before .before .before .token-text .ensures) (c .before .before .emit-trivia .ensures))
 
 emit-token-requires : tie.Need-emit-token-requires
 emit-token-requires c κs = search needs
@@ -33,6 +38,7 @@ emit-other-spec =
     tie.close
     (tie.spec
     is-trivia-requires
+    token-text-requires
     emit-trivia-requires
     same-length
     returns

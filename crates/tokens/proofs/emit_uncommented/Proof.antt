@@ -1,22 +1,27 @@
 -- `emit_uncommented` meets its contract.
-use borrow.Author.Needs.{needs}
 use native.Mathlib.Omega.{arith}
 use borrow.Author.Tests.{ne-eqb}
-use Rattle.tokens.proofs.Runs.{acted}
-use Rattle.tokens.specs.TokenPromises.{emitUncommented}
 use Rattle.layout.specs.Arms.{seen}
+use Rattle.tokens.specs.TokenPromises.{emitUncommented}
+use Rattle.tokens.proofs.Runs.{acted, text-ready, trivia-acted}
+use borrow.Author.Needs.{needs}
+use lib.Dec.{eqb}
+use Rattle.tape.specs.Kinds.{Whitespace}
 use Rattle.tokens.proofs.emit_uncommented.Statement.{statement}
 use Rattle.tokens.proofs.emit_uncommented.Tie as tie
 
+token-text-requires : tie.Need-token-text-requires
+token-text-requires c κs = search needs
+
 emit-trivia-requires : tie.Need-emit-trivia-requires
-emit-trivia-requires c κs = search needs
+emit-trivia-requires c κs = text-ready (omega arith) (c .before .before .before .before .before .before .pre) (c .before .token-text .ensures)
 
 same-length : tie.Need-same-length
 same-length c = search needs
 
 returns : tie.Need-returns
 unfolding emitUncommented seen
-returns c = acted 4 _ (omega arith) (rw (c .before .before .before .before .if1 .taken)) (c .before .before .emit-trivia .ensures)
+returns c = acted 4 _ (omega arith) (rw (c .before .before .before .before .before .if1 .taken)) (trivia-acted (eqb (c .before .before .before .before .before .before .before .before .before .args .token .kind) Whitespace) (c .before .before .before .before .token-text .ensures) (c .before .before .emit-trivia .ensures))
 
 emit-token-requires : tie.Need-emit-token-requires
 emit-token-requires c κs = search needs
@@ -31,4 +36,11 @@ returns-2 c = acted 4 _ (omega arith) (rw (ne-eqb _ _ (c .before .before .before
 pub emit-uncommented-spec : {M : Type 1} → statement M
 emit-uncommented-spec =
     tie.close
-    (tie.spec emit-trivia-requires same-length returns emit-token-requires same-length-2 returns-2)
+    (tie.spec
+    token-text-requires
+    emit-trivia-requires
+    same-length
+    returns
+    emit-token-requires
+    same-length-2
+    returns-2)

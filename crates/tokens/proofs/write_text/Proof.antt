@@ -1,20 +1,37 @@
 -- `write_text` meets its contract.
+use native.Mathlib.Omega.{arith}
+use Rattle.context.specs.Cells.{isWhiteSpace}
+use Rattle.context.proofs.Trimming.{trimmed-le}
+use Rattle.tokens.proofs.Runs.{put-typed, text-fits}
 use borrow.Author.Needs.{needs}
-use Rattle.tokens.proofs.Runs.{did-text, text-fits}
 use Rattle.tokens.proofs.write_text.Statement.{statement}
 use Rattle.tokens.proofs.write_text.Tie as tie
 
 token-text-requires : tie.Need-token-text-requires
 token-text-requires c κs = search needs
 
-write-token-requires : tie.Need-write-token-requires
-write-token-requires c κs = (c .before .before .before .before .pre .room, (c .before .before .before .before .pre .width-fits, text-fits (c .before .before .before .before .pre) (c .before .token-text .ensures)))
+lead-blanks-requires : tie.Need-lead-blanks-requires
+lead-blanks-requires c κs = search needs
+
+put-text-requires : tie.Need-put-text-requires
+put-text-requires c κs = search needs
+
+after-text-requires : tie.Need-after-text-requires
+after-text-requires c κs = let k = text-fits (c .before .before .before .before .before .before .before .before .before .pre) (c .before .before .before .before .before .before .token-text .ensures) in (omega (arith, k, c .before .before .before .before .lead-blanks .ensures .1, c .before .before .before .before .before .before .before .before .before .pre .room .length), omega (arith, c .before .before .put-text .ensures .left, trimmed-le isWhiteSpace (c .before .before .before .before .before .before .token-text .result .now)))
 
 same-length : tie.Need-same-length
 same-length c = search needs
 
 returns : tie.Need-returns
-returns c = did-text (c .before .before .before .before .token-text .result .now) (c .before .before .before .before .token-text .ensures) (c .before .before .write-token .ensures)
+returns c = put-typed (c .before .before .before .before .before .before .before .before .before .before .pre) (c .before .before .before .before .before .before .before .token-text .ensures) (c .before .before .before .before .before .lead-blanks .ensures) (c .after-text .ensures) (c .before .before .before .put-text .ensures)
 
 pub write-text-spec : {M : Type 1} → statement M
-write-text-spec = tie.close (tie.spec token-text-requires write-token-requires same-length returns)
+write-text-spec =
+    tie.close
+    (tie.spec
+    token-text-requires
+    lead-blanks-requires
+    put-text-requires
+    after-text-requires
+    same-length
+    returns)

@@ -1,0 +1,82 @@
+//! Prints how many bytes of stack the two calls take for trees of 64 levels.
+
+use oracle::answers::Answer;
+use oracle::kinds::{self, COUNT};
+use oracle::tape::{push_close, push_open, push_token};
+use std::arch::asm;
+use std::process::ExitCode;
+
+const USAGE: &str = "usage: stack   prints the bytes of stack that the two calls take at 64 levels; takes no argument";
+
+/// The text of every token, from 0 or from 2 to 8: a line comment, a keyword.
+const TEXT: &[u8; 64] = b"--select xxxxxxxxxxxxxxxxxxxxxxxxxxxxxxxxxxxxxxxxxxxxxxxxxxxxxxx";
+const QUERY_LIST: u16 = 2;
+const LEVELS: usize = 64;
+
+/// The stack that a call runs on here, and what it holds before.
+const STACK: usize = 512 * 1024;
+const PAINT: u8 = 0xA5;
+
+fn main() -> ExitCode {
+    if std::env::args().len() > 1 {
+        eprintln!("stack: {USAGE}");
+        return ExitCode::from(2);
+    }
+    if !bench::AT_HAND {
+        eprintln!("stack: {}", bench::HINT);
+        return ExitCode::from(2);
+    }
+    println!("{:<8} {:>10} {:>14}", "call", "tape bytes", "bytes of stack");
+    for rounds in [1, 2] {
+        let tapes = tapes(rounds);
+        print_most("measure", &tapes, |tape| bench::measure(TEXT, tape, 4, 1));
+        let mut out = vec![0; 1 << 20];
+        print_most("layout", &tapes, |tape| bench::layout(TEXT, tape, 4, 1, &mut out));
+    }
+    ExitCode::SUCCESS
+}
+
+fn print_most(name: &str, tapes: &[Vec<u8>], mut call: impl FnMut(&[u8]) -> Answer) {
+    let mut most = 0;
+    for tape in tapes {
+        let mut answer = None;
+        most = most.max(used(&mut || answer = Some(call(tape))));
+        assert_eq!(answer.map(|answer| answer.number), Some(0));
+    }
+    println!("{name:<8} {:>10} {most:>14}", tapes[0].len());
+}
+
+/// For each carried kind, 64 levels of it, and one below 63 levels of QueryList, which goes on where a child is an Error node. The innermost node
+/// has tokens of every kind, so many times.
+fn tapes(rounds: usize) -> Vec<Vec<u8>> {
+    let carried = (0..COUNT).filter(|kind| kinds::is_carried(*kind));
+    carried.flat_map(|kind| [tape(kind, kind, rounds), tape(QUERY_LIST, kind, rounds)]).collect()
+}
+
+fn tape(outer: u16, inner: u16, rounds: usize) -> Vec<u8> {
+    let mut tape = Vec::new();
+    (1..LEVELS).for_each(|_| push_open(&mut tape, outer, 0, 64));
+    push_open(&mut tape, inner, 0, 64);
+    for kind in (0..rounds).flat_map(|_| 0..COUNT) {
+        push_token(&mut tape, kind, 0, 64);
+        push_token(&mut tape, kind, 2, 8);
+    }
+    (0..LEVELS).for_each(|_| push_close(&mut tape));
+    tape
+}
+
+/// The bytes of stack that the call takes: it runs on a stack of its own, and the lowest byte that it changed tells.
+fn used(mut call: &mut dyn FnMut()) -> usize {
+    extern "C" fn run(call: &mut &mut dyn FnMut()) {
+        call()
+    }
+    let mut stack = vec![PAINT; STACK];
+    let top = stack.as_mut_ptr_range().end;
+    let top = top.wrapping_sub(top as usize % 16);
+    // SAFETY: the stack is good for writes and long enough, `run` keeps r12, and the call does not panic.
+    unsafe {
+        asm!("xchg rsp, r12", "call {run}", "mov rsp, r12", run = sym run, inout("r12") top => _, in("rdi") &mut call,
+             clobber_abi("C"));
+    }
+    STACK - stack.iter().position(|byte| *byte != PAINT).expect("the call takes some")
+}
