@@ -1,5 +1,6 @@
 // format_node.rs: each routine's loop over the children of its node, and the dispatch. They form one cycle of calls over the tape: with
-// each call of `node` a level less is left, and each pass of a loop moves on along the tape. The proof of a cycle is named after all of its
+// each call of `node` a level less is left, and each pass of a loop moves on along the tape. A child's context is a copy (`a`): the loop's own, which
+// no pointer leads to, stays in registers. The proof of a cycle is named after all of its
 // members, and a file's name has at most 255 bytes, so the source's names are shortened:
 //
 //     format_node                                     node
@@ -529,7 +530,8 @@ fn inl_list(
             ctx = inline_comma_list_token(source, config, out, ctx, h);
             i += 11;
         } else {
-            let w = node(source, tape, config, facts, out, left - 1, i, h.kind, ctx);
+            let a = ctx;
+            let w = node(source, tape, config, facts, out, left - 1, i, h.kind, a);
             ctx = w.context;
             i = w.at;
         }
@@ -562,7 +564,8 @@ fn binary(
             ctx = binary_expression_token(source, config, out, ctx, h);
             i += 11;
         } else {
-            let w = node(source, tape, config, facts, out, left - 1, i, h.kind, ctx);
+            let a = ctx;
+            let w = node(source, tape, config, facts, out, left - 1, i, h.kind, a);
             ctx = w.context;
             i = w.at;
         }
@@ -595,7 +598,8 @@ fn unary(
             ctx = unary_expression_token(source, config, out, ctx, h);
             i += 11;
         } else {
-            let w = node(source, tape, config, facts, out, left - 1, i, h.kind, ctx);
+            let a = ctx;
+            let w = node(source, tape, config, facts, out, left - 1, i, h.kind, a);
             ctx = w.context;
             i = w.at;
         }
@@ -628,7 +632,8 @@ fn call(
             ctx = function_call_token(source, config, out, ctx, h);
             i += 11;
         } else {
-            let w = node(source, tape, config, facts, out, left - 1, i, h.kind, ctx);
+            let a = ctx;
+            let w = node(source, tape, config, facts, out, left - 1, i, h.kind, a);
             ctx = w.context;
             i = w.at;
         }
@@ -699,7 +704,8 @@ fn when(
             ctx = when_clause_token(source, config, out, ctx, h);
             i += 11;
         } else {
-            let w = node(source, tape, config, facts, out, left - 1, i, h.kind, ctx);
+            let a = ctx;
+            let w = node(source, tape, config, facts, out, left - 1, i, h.kind, a);
             ctx = w.context;
             i = w.at;
         }
@@ -732,7 +738,8 @@ fn subquery(
             ctx = subquery_token(source, config, out, ctx, h);
             i += 11;
         } else {
-            let w = node(source, tape, config, facts, out, left - 1, i, h.kind, ctx);
+            let a = ctx;
+            let w = node(source, tape, config, facts, out, left - 1, i, h.kind, a);
             ctx = w.context;
             i = w.at;
         }
@@ -765,7 +772,8 @@ fn paren(
             ctx = paren_list_token(source, config, out, ctx, h);
             i += 11;
         } else {
-            let w = node(source, tape, config, facts, out, left - 1, i, h.kind, ctx);
+            let a = ctx;
+            let w = node(source, tape, config, facts, out, left - 1, i, h.kind, a);
             ctx = w.context;
             i = w.at;
         }
@@ -798,7 +806,8 @@ fn bracket(
             ctx = bracket_list_token(source, config, out, ctx, h);
             i += 11;
         } else {
-            let w = node(source, tape, config, facts, out, left - 1, i, h.kind, ctx);
+            let a = ctx;
+            let w = node(source, tape, config, facts, out, left - 1, i, h.kind, a);
             ctx = w.context;
             i = w.at;
         }
@@ -831,7 +840,8 @@ fn brace(
             ctx = brace_list_token(source, config, out, ctx, h);
             i += 11;
         } else {
-            let w = node(source, tape, config, facts, out, left - 1, i, h.kind, ctx);
+            let a = ctx;
+            let w = node(source, tape, config, facts, out, left - 1, i, h.kind, a);
             ctx = w.context;
             i = w.at;
         }
@@ -864,7 +874,8 @@ fn dtype(
             ctx = data_type_token(source, config, out, ctx, h);
             i += 11;
         } else {
-            let w = node(source, tape, config, facts, out, left - 1, i, h.kind, ctx);
+            let a = ctx;
+            let w = node(source, tape, config, facts, out, left - 1, i, h.kind, a);
             ctx = w.context;
             i = w.at;
         }
@@ -987,7 +998,8 @@ fn no_spaces(
             ctx = emit_other(source, config, out, ctx, h);
             i += 11;
         } else {
-            let w = node(source, tape, config, facts, out, left - 1, i, h.kind, ctx);
+            let a = ctx;
+            let w = node(source, tape, config, facts, out, left - 1, i, h.kind, a);
             ctx = w.context;
             i = w.at;
         }
@@ -1020,7 +1032,8 @@ fn pass(
             ctx = passthrough_token(source, config, out, ctx, h);
             i += 11;
         } else {
-            let w = node(source, tape, config, facts, out, left - 1, i, h.kind, ctx);
+            let a = ctx;
+            let w = node(source, tape, config, facts, out, left - 1, i, h.kind, a);
             ctx = w.context;
             i = w.at;
         }
@@ -1053,7 +1066,8 @@ fn alter(
             ctx = alter_command_list_token(source, config, out, ctx, h);
             i += 11;
         } else {
-            let w = node(source, tape, config, facts, out, left - 1, i, h.kind, ctx);
+            let a = ctx;
+            let w = node(source, tape, config, facts, out, left - 1, i, h.kind, a);
             ctx = w.context;
             i = w.at;
         }

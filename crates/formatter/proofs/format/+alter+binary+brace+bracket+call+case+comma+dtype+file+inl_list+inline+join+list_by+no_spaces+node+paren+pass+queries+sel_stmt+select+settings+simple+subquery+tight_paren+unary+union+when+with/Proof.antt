@@ -556,7 +556,7 @@ alter-loop-again-2 : (t : ℕ) → alter-lts.Need-loop-again-2 (
 unfolding formatAlterCommandList
 alter-loop-again-2 t c = node-next (c .before .before .before .before .before .before .before .before .before .before .before .before .before .before .before .pre .1) (c .before .before .before .before .before .before .before .before .before .before .loop .inv) (formatAlterCommandList .atNode (flagged false) (c .before .before .before .before .before .before .before .head-at .result .kind) 0) (c .before .before .before .before .before .before .before .before .if1 .taken) (c .before .before .before .before .before .if2 .left) (c .before .before .before .before .before .before .before .head-at .ensures) (λ k z. refl) (no-spacing {xs = c .before .before .before .before .before .before .before .before .before .before .loop .out}) (c .before .before .before .node .ensures) refl no-spacing (omega arith) (omega arith) (c .before .before .before .node .kept .1 .1 .1 .1 .0)
 
-alter-add-t22 : (t : ℕ) → alter-lts.Need-add-t22 (
+alter-add-t23 : (t : ℕ) → alter-lts.Need-add-t23 (
   head-at-reads.Asked,
   head-at-reads.Learnt,
   alter-command-list-token-reads.Asked,
@@ -564,7 +564,7 @@ alter-add-t22 : (t : ℕ) → alter-lts.Need-add-t22 (
   node-below t,
   node.Post,
 ) (alter-at t) alter.Post alter-Inv-loop alter-μ-loop
-alter-add-t22 t c = omega (arith, c .before .before .loop .inv .inside, c .before .before .before .before .before .before .before .pre .1 .sizes .tape-fits)
+alter-add-t23 t c = omega (arith, c .before .before .loop .inv .inside, c .before .before .before .before .before .before .before .pre .1 .sizes .tape-fits)
 
 alter-same-length : (t : ℕ) → alter-lts.Need-same-length (
   head-at-reads.Asked,
@@ -727,7 +727,7 @@ binary-loop-again-2 : (t : ℕ) → binary-lts.Need-loop-again-2 (
 unfolding formatBinaryExpression
 binary-loop-again-2 t c = node-next (c .before .before .before .before .before .before .before .before .before .before .before .before .before .before .before .pre .1) (c .before .before .before .before .before .before .before .before .before .before .loop .inv) (formatBinaryExpression .atNode (flagged false) (c .before .before .before .before .before .before .before .head-at .result .kind) 0) (c .before .before .before .before .before .before .before .before .if1 .taken) (c .before .before .before .before .before .if2 .left) (c .before .before .before .before .before .before .before .head-at .ensures) (λ k z. refl) (no-spacing {xs = c .before .before .before .before .before .before .before .before .before .before .loop .out}) (c .before .before .before .node .ensures) refl no-spacing (omega arith) (omega arith) (c .before .before .before .node .kept .1 .1 .1 .1 .0)
 
-binary-add-t22 : (t : ℕ) → binary-lts.Need-add-t22 (
+binary-add-t23 : (t : ℕ) → binary-lts.Need-add-t23 (
   head-at-reads.Asked,
   head-at-reads.Learnt,
   binary-expression-token-reads.Asked,
@@ -735,7 +735,7 @@ binary-add-t22 : (t : ℕ) → binary-lts.Need-add-t22 (
   node-below t,
   node.Post,
 ) (binary-at t) binary.Post binary-Inv-loop binary-μ-loop
-binary-add-t22 t c = omega (arith, c .before .before .loop .inv .inside, c .before .before .before .before .before .before .before .pre .1 .sizes .tape-fits)
+binary-add-t23 t c = omega (arith, c .before .before .loop .inv .inside, c .before .before .before .before .before .before .before .pre .1 .sizes .tape-fits)
 
 binary-same-length : (t : ℕ) → binary-lts.Need-same-length (
   head-at-reads.Asked,
@@ -897,7 +897,7 @@ brace-loop-again-2 : (t : ℕ) → brace-lts.Need-loop-again-2 (
 unfolding formatBraceList
 brace-loop-again-2 t c = node-next (c .before .before .before .before .before .before .before .before .before .before .before .before .before .before .before .pre .1) (c .before .before .before .before .before .before .before .before .before .before .loop .inv) (formatBraceList .atNode (flagged false) (c .before .before .before .before .before .before .before .head-at .result .kind) 0) (c .before .before .before .before .before .before .before .before .if1 .taken) (c .before .before .before .before .before .if2 .left) (c .before .before .before .before .before .before .before .head-at .ensures) (λ k z. refl) (no-spacing {xs = c .before .before .before .before .before .before .before .before .before .before .loop .out}) (c .before .before .before .node .ensures) refl no-spacing (omega arith) (omega arith) (c .before .before .before .node .kept .1 .1 .1 .1 .0)
 
-brace-add-t22 : (t : ℕ) → brace-lts.Need-add-t22 (
+brace-add-t23 : (t : ℕ) → brace-lts.Need-add-t23 (
   head-at-reads.Asked,
   head-at-reads.Learnt,
   brace-list-token-reads.Asked,
@@ -905,7 +905,7 @@ brace-add-t22 : (t : ℕ) → brace-lts.Need-add-t22 (
   node-below t,
   node.Post,
 ) (brace-at t) brace.Post brace-Inv-loop brace-μ-loop
-brace-add-t22 t c = omega (arith, c .before .before .loop .inv .inside, c .before .before .before .before .before .before .before .pre .1 .sizes .tape-fits)
+brace-add-t23 t c = omega (arith, c .before .before .loop .inv .inside, c .before .before .before .before .before .before .before .pre .1 .sizes .tape-fits)
 
 brace-same-length : (t : ℕ) → brace-lts.Need-same-length (
   head-at-reads.Asked,
@@ -1067,7 +1067,7 @@ bracket-loop-again-2 : (t : ℕ) → bracket-lts.Need-loop-again-2 (
 unfolding formatBracketList
 bracket-loop-again-2 t c = node-next (c .before .before .before .before .before .before .before .before .before .before .before .before .before .before .before .pre .1) (c .before .before .before .before .before .before .before .before .before .before .loop .inv) (formatBracketList .atNode (flagged false) (c .before .before .before .before .before .before .before .head-at .result .kind) 0) (c .before .before .before .before .before .before .before .before .if1 .taken) (c .before .before .before .before .before .if2 .left) (c .before .before .before .before .before .before .before .head-at .ensures) (λ k z. refl) (no-spacing {xs = c .before .before .before .before .before .before .before .before .before .before .loop .out}) (c .before .before .before .node .ensures) refl no-spacing (omega arith) (omega arith) (c .before .before .before .node .kept .1 .1 .1 .1 .0)
 
-bracket-add-t22 : (t : ℕ) → bracket-lts.Need-add-t22 (
+bracket-add-t23 : (t : ℕ) → bracket-lts.Need-add-t23 (
   head-at-reads.Asked,
   head-at-reads.Learnt,
   bracket-list-token-reads.Asked,
@@ -1075,7 +1075,7 @@ bracket-add-t22 : (t : ℕ) → bracket-lts.Need-add-t22 (
   node-below t,
   node.Post,
 ) (bracket-at t) bracket.Post bracket-Inv-loop bracket-μ-loop
-bracket-add-t22 t c = omega (arith, c .before .before .loop .inv .inside, c .before .before .before .before .before .before .before .pre .1 .sizes .tape-fits)
+bracket-add-t23 t c = omega (arith, c .before .before .loop .inv .inside, c .before .before .before .before .before .before .before .pre .1 .sizes .tape-fits)
 
 bracket-same-length : (t : ℕ) → bracket-lts.Need-same-length (
   head-at-reads.Asked,
@@ -1237,7 +1237,7 @@ call-loop-again-2 : (t : ℕ) → call-lts.Need-loop-again-2 (
 unfolding formatFunctionCall
 call-loop-again-2 t c = node-next (c .before .before .before .before .before .before .before .before .before .before .before .before .before .before .before .pre .1) (c .before .before .before .before .before .before .before .before .before .before .loop .inv) (formatFunctionCall .atNode (flagged false) (c .before .before .before .before .before .before .before .head-at .result .kind) 0) (c .before .before .before .before .before .before .before .before .if1 .taken) (c .before .before .before .before .before .if2 .left) (c .before .before .before .before .before .before .before .head-at .ensures) (λ k z. refl) (no-spacing {xs = c .before .before .before .before .before .before .before .before .before .before .loop .out}) (c .before .before .before .node .ensures) refl no-spacing (omega arith) (omega arith) (c .before .before .before .node .kept .1 .1 .1 .1 .0)
 
-call-add-t22 : (t : ℕ) → call-lts.Need-add-t22 (
+call-add-t23 : (t : ℕ) → call-lts.Need-add-t23 (
   head-at-reads.Asked,
   head-at-reads.Learnt,
   function-call-token-reads.Asked,
@@ -1245,7 +1245,7 @@ call-add-t22 : (t : ℕ) → call-lts.Need-add-t22 (
   node-below t,
   node.Post,
 ) (call-at t) call.Post call-Inv-loop call-μ-loop
-call-add-t22 t c = omega (arith, c .before .before .loop .inv .inside, c .before .before .before .before .before .before .before .pre .1 .sizes .tape-fits)
+call-add-t23 t c = omega (arith, c .before .before .loop .inv .inside, c .before .before .before .before .before .before .before .pre .1 .sizes .tape-fits)
 
 call-same-length : (t : ℕ) → call-lts.Need-same-length (
   head-at-reads.Asked,
@@ -1835,7 +1835,7 @@ dtype-loop-again-2 : (t : ℕ) → dtype-lts.Need-loop-again-2 (
 unfolding formatDataType
 dtype-loop-again-2 t c = node-next (c .before .before .before .before .before .before .before .before .before .before .before .before .before .before .before .pre .1) (c .before .before .before .before .before .before .before .before .before .before .loop .inv) (formatDataType .atNode (flagged false) (c .before .before .before .before .before .before .before .head-at .result .kind) 0) (c .before .before .before .before .before .before .before .before .if1 .taken) (c .before .before .before .before .before .if2 .left) (c .before .before .before .before .before .before .before .head-at .ensures) (λ k z. refl) (no-spacing {xs = c .before .before .before .before .before .before .before .before .before .before .loop .out}) (c .before .before .before .node .ensures) refl no-spacing (omega arith) (omega arith) (c .before .before .before .node .kept .1 .1 .1 .1 .0)
 
-dtype-add-t22 : (t : ℕ) → dtype-lts.Need-add-t22 (
+dtype-add-t23 : (t : ℕ) → dtype-lts.Need-add-t23 (
   head-at-reads.Asked,
   head-at-reads.Learnt,
   data-type-token-reads.Asked,
@@ -1843,7 +1843,7 @@ dtype-add-t22 : (t : ℕ) → dtype-lts.Need-add-t22 (
   node-below t,
   node.Post,
 ) (dtype-at t) dtype.Post dtype-Inv-loop dtype-μ-loop
-dtype-add-t22 t c = omega (arith, c .before .before .loop .inv .inside, c .before .before .before .before .before .before .before .pre .1 .sizes .tape-fits)
+dtype-add-t23 t c = omega (arith, c .before .before .loop .inv .inside, c .before .before .before .before .before .before .before .pre .1 .sizes .tape-fits)
 
 dtype-same-length : (t : ℕ) → dtype-lts.Need-same-length (
   head-at-reads.Asked,
@@ -2220,7 +2220,7 @@ inl-list-loop-again-2 : (t : ℕ) → inl-list-lts.Need-loop-again-2 (
 unfolding formatInlineCommaList
 inl-list-loop-again-2 t c = node-next (c .before .before .before .before .before .before .before .before .before .before .before .before .before .before .before .pre .1) (c .before .before .before .before .before .before .before .before .before .before .loop .inv) (formatInlineCommaList .atNode (flagged false) (c .before .before .before .before .before .before .before .head-at .result .kind) 0) (c .before .before .before .before .before .before .before .before .if1 .taken) (c .before .before .before .before .before .if2 .left) (c .before .before .before .before .before .before .before .head-at .ensures) (λ k z. refl) (no-spacing {xs = c .before .before .before .before .before .before .before .before .before .before .loop .out}) (c .before .before .before .node .ensures) refl no-spacing (omega arith) (omega arith) (c .before .before .before .node .kept .1 .1 .1 .1 .0)
 
-inl-list-add-t22 : (t : ℕ) → inl-list-lts.Need-add-t22 (
+inl-list-add-t23 : (t : ℕ) → inl-list-lts.Need-add-t23 (
   head-at-reads.Asked,
   head-at-reads.Learnt,
   inline-comma-list-token-reads.Asked,
@@ -2228,7 +2228,7 @@ inl-list-add-t22 : (t : ℕ) → inl-list-lts.Need-add-t22 (
   node-below t,
   node.Post,
 ) (inl-list-at t) inl-list.Post inl-list-Inv-loop inl-list-μ-loop
-inl-list-add-t22 t c = omega (arith, c .before .before .loop .inv .inside, c .before .before .before .before .before .before .before .pre .1 .sizes .tape-fits)
+inl-list-add-t23 t c = omega (arith, c .before .before .loop .inv .inside, c .before .before .before .before .before .before .before .pre .1 .sizes .tape-fits)
 
 inl-list-same-length : (t : ℕ) → inl-list-lts.Need-same-length (
   head-at-reads.Asked,
@@ -3360,7 +3360,7 @@ no-spaces-loop-again-2 : (t : ℕ) → no-spaces-lts.Need-loop-again-2 (
 unfolding formatInlineNoSpaces
 no-spaces-loop-again-2 t c = node-next (c .before .before .before .before .before .before .before .before .before .before .before .before .before .before .before .pre .1) (c .before .before .before .before .before .before .before .before .before .before .loop .inv) (formatInlineNoSpaces .atNode (flagged false) (c .before .before .before .before .before .before .before .head-at .result .kind) 0) (c .before .before .before .before .before .before .before .before .if1 .taken) (c .before .before .before .before .before .if2 .left) (c .before .before .before .before .before .before .before .head-at .ensures) (λ k z. refl) (no-spacing {xs = c .before .before .before .before .before .before .before .before .before .before .loop .out}) (c .before .before .before .node .ensures) refl no-spacing (omega arith) (omega arith) (c .before .before .before .node .kept .1 .1 .1 .1 .0)
 
-no-spaces-add-t22 : (t : ℕ) → no-spaces-lts.Need-add-t22 (
+no-spaces-add-t23 : (t : ℕ) → no-spaces-lts.Need-add-t23 (
   head-at-reads.Asked,
   head-at-reads.Learnt,
   emit-other-reads.Asked,
@@ -3368,7 +3368,7 @@ no-spaces-add-t22 : (t : ℕ) → no-spaces-lts.Need-add-t22 (
   node-below t,
   node.Post,
 ) (no-spaces-at t) no-spaces.Post no-spaces-Inv-loop no-spaces-μ-loop
-no-spaces-add-t22 t c = omega (arith, c .before .before .loop .inv .inside, c .before .before .before .before .before .before .before .pre .1 .sizes .tape-fits)
+no-spaces-add-t23 t c = omega (arith, c .before .before .loop .inv .inside, c .before .before .before .before .before .before .before .pre .1 .sizes .tape-fits)
 
 no-spaces-same-length : (t : ℕ) → no-spaces-lts.Need-same-length (
   head-at-reads.Asked,
@@ -11377,7 +11377,7 @@ paren-loop-again-2 : (t : ℕ) → paren-lts.Need-loop-again-2 (
 unfolding formatParenList
 paren-loop-again-2 t c = node-next (c .before .before .before .before .before .before .before .before .before .before .before .before .before .before .before .pre .1) (c .before .before .before .before .before .before .before .before .before .before .loop .inv) (formatParenList .atNode (flagged false) (c .before .before .before .before .before .before .before .head-at .result .kind) 0) (c .before .before .before .before .before .before .before .before .if1 .taken) (c .before .before .before .before .before .if2 .left) (c .before .before .before .before .before .before .before .head-at .ensures) (λ k z. refl) (no-spacing {xs = c .before .before .before .before .before .before .before .before .before .before .loop .out}) (c .before .before .before .node .ensures) refl no-spacing (omega arith) (omega arith) (c .before .before .before .node .kept .1 .1 .1 .1 .0)
 
-paren-add-t22 : (t : ℕ) → paren-lts.Need-add-t22 (
+paren-add-t23 : (t : ℕ) → paren-lts.Need-add-t23 (
   head-at-reads.Asked,
   head-at-reads.Learnt,
   paren-list-token-reads.Asked,
@@ -11385,7 +11385,7 @@ paren-add-t22 : (t : ℕ) → paren-lts.Need-add-t22 (
   node-below t,
   node.Post,
 ) (paren-at t) paren.Post paren-Inv-loop paren-μ-loop
-paren-add-t22 t c = omega (arith, c .before .before .loop .inv .inside, c .before .before .before .before .before .before .before .pre .1 .sizes .tape-fits)
+paren-add-t23 t c = omega (arith, c .before .before .loop .inv .inside, c .before .before .before .before .before .before .before .pre .1 .sizes .tape-fits)
 
 paren-same-length : (t : ℕ) → paren-lts.Need-same-length (
   head-at-reads.Asked,
@@ -11547,7 +11547,7 @@ pass-loop-again-2 : (t : ℕ) → pass-lts.Need-loop-again-2 (
 unfolding formatPassthrough
 pass-loop-again-2 t c = node-next (c .before .before .before .before .before .before .before .before .before .before .before .before .before .before .before .pre .1) (c .before .before .before .before .before .before .before .before .before .before .loop .inv) (formatPassthrough .atNode (flagged false) (c .before .before .before .before .before .before .before .head-at .result .kind) 0) (c .before .before .before .before .before .before .before .before .if1 .taken) (c .before .before .before .before .before .if2 .left) (c .before .before .before .before .before .before .before .head-at .ensures) (λ k z. refl) (no-spacing {xs = c .before .before .before .before .before .before .before .before .before .before .loop .out}) (c .before .before .before .node .ensures) refl no-spacing (omega arith) (omega arith) (c .before .before .before .node .kept .1 .1 .1 .1 .0)
 
-pass-add-t22 : (t : ℕ) → pass-lts.Need-add-t22 (
+pass-add-t23 : (t : ℕ) → pass-lts.Need-add-t23 (
   head-at-reads.Asked,
   head-at-reads.Learnt,
   passthrough-token-reads.Asked,
@@ -11555,7 +11555,7 @@ pass-add-t22 : (t : ℕ) → pass-lts.Need-add-t22 (
   node-below t,
   node.Post,
 ) (pass-at t) pass.Post pass-Inv-loop pass-μ-loop
-pass-add-t22 t c = omega (arith, c .before .before .loop .inv .inside, c .before .before .before .before .before .before .before .pre .1 .sizes .tape-fits)
+pass-add-t23 t c = omega (arith, c .before .before .loop .inv .inside, c .before .before .before .before .before .before .before .pre .1 .sizes .tape-fits)
 
 pass-same-length : (t : ℕ) → pass-lts.Need-same-length (
   head-at-reads.Asked,
@@ -12887,7 +12887,7 @@ subquery-loop-again-2 : (t : ℕ) → subquery-lts.Need-loop-again-2 (
 unfolding formatSubquery
 subquery-loop-again-2 t c = node-next (c .before .before .before .before .before .before .before .before .before .before .before .before .before .before .before .pre .1) (c .before .before .before .before .before .before .before .before .before .before .loop .inv) (formatSubquery .atNode (flagged false) (c .before .before .before .before .before .before .before .head-at .result .kind) 0) (c .before .before .before .before .before .before .before .before .if1 .taken) (c .before .before .before .before .before .if2 .left) (c .before .before .before .before .before .before .before .head-at .ensures) (λ k z. refl) (no-spacing {xs = c .before .before .before .before .before .before .before .before .before .before .loop .out}) (c .before .before .before .node .ensures) refl no-spacing (omega arith) (omega arith) (c .before .before .before .node .kept .1 .1 .1 .1 .0)
 
-subquery-add-t22 : (t : ℕ) → subquery-lts.Need-add-t22 (
+subquery-add-t23 : (t : ℕ) → subquery-lts.Need-add-t23 (
   head-at-reads.Asked,
   head-at-reads.Learnt,
   subquery-token-reads.Asked,
@@ -12895,7 +12895,7 @@ subquery-add-t22 : (t : ℕ) → subquery-lts.Need-add-t22 (
   node-below t,
   node.Post,
 ) (subquery-at t) subquery.Post subquery-Inv-loop subquery-μ-loop
-subquery-add-t22 t c = omega (arith, c .before .before .loop .inv .inside, c .before .before .before .before .before .before .before .pre .1 .sizes .tape-fits)
+subquery-add-t23 t c = omega (arith, c .before .before .loop .inv .inside, c .before .before .before .before .before .before .before .pre .1 .sizes .tape-fits)
 
 subquery-same-length : (t : ℕ) → subquery-lts.Need-same-length (
   head-at-reads.Asked,
@@ -13320,7 +13320,7 @@ unary-loop-again-2 : (t : ℕ) → unary-lts.Need-loop-again-2 (
 unfolding formatUnaryExpression
 unary-loop-again-2 t c = node-next (c .before .before .before .before .before .before .before .before .before .before .before .before .before .before .before .pre .1) (c .before .before .before .before .before .before .before .before .before .before .loop .inv) (formatUnaryExpression .atNode (flagged false) (c .before .before .before .before .before .before .before .head-at .result .kind) 0) (c .before .before .before .before .before .before .before .before .if1 .taken) (c .before .before .before .before .before .if2 .left) (c .before .before .before .before .before .before .before .head-at .ensures) (λ k z. refl) (no-spacing {xs = c .before .before .before .before .before .before .before .before .before .before .loop .out}) (c .before .before .before .node .ensures) refl no-spacing (omega arith) (omega arith) (c .before .before .before .node .kept .1 .1 .1 .1 .0)
 
-unary-add-t22 : (t : ℕ) → unary-lts.Need-add-t22 (
+unary-add-t23 : (t : ℕ) → unary-lts.Need-add-t23 (
   head-at-reads.Asked,
   head-at-reads.Learnt,
   unary-expression-token-reads.Asked,
@@ -13328,7 +13328,7 @@ unary-add-t22 : (t : ℕ) → unary-lts.Need-add-t22 (
   node-below t,
   node.Post,
 ) (unary-at t) unary.Post unary-Inv-loop unary-μ-loop
-unary-add-t22 t c = omega (arith, c .before .before .loop .inv .inside, c .before .before .before .before .before .before .before .pre .1 .sizes .tape-fits)
+unary-add-t23 t c = omega (arith, c .before .before .loop .inv .inside, c .before .before .before .before .before .before .before .pre .1 .sizes .tape-fits)
 
 unary-same-length : (t : ℕ) → unary-lts.Need-same-length (
   head-at-reads.Asked,
@@ -13752,7 +13752,7 @@ when-loop-again-2 : (t : ℕ) → when-lts.Need-loop-again-2 (
 unfolding formatWhenClause
 when-loop-again-2 t c = node-next (c .before .before .before .before .before .before .before .before .before .before .before .before .before .before .before .pre .1) (c .before .before .before .before .before .before .before .before .before .before .loop .inv) (formatWhenClause .atNode (flagged false) (c .before .before .before .before .before .before .before .head-at .result .kind) 0) (c .before .before .before .before .before .before .before .before .if1 .taken) (c .before .before .before .before .before .if2 .left) (c .before .before .before .before .before .before .before .head-at .ensures) (λ k z. refl) (no-spacing {xs = c .before .before .before .before .before .before .before .before .before .before .loop .out}) (c .before .before .before .node .ensures) refl no-spacing (omega arith) (omega arith) (c .before .before .before .node .kept .1 .1 .1 .1 .0)
 
-when-add-t22 : (t : ℕ) → when-lts.Need-add-t22 (
+when-add-t23 : (t : ℕ) → when-lts.Need-add-t23 (
   head-at-reads.Asked,
   head-at-reads.Learnt,
   when-clause-token-reads.Asked,
@@ -13760,7 +13760,7 @@ when-add-t22 : (t : ℕ) → when-lts.Need-add-t22 (
   node-below t,
   node.Post,
 ) (when-at t) when.Post when-Inv-loop when-μ-loop
-when-add-t22 t c = omega (arith, c .before .before .loop .inv .inside, c .before .before .before .before .before .before .before .pre .1 .sizes .tape-fits)
+when-add-t23 t c = omega (arith, c .before .before .loop .inv .inside, c .before .before .before .before .before .before .before .pre .1 .sizes .tape-fits)
 
 when-same-length : (t : ℕ) → when-lts.Need-same-length (
   head-at-reads.Asked,
@@ -14102,7 +14102,7 @@ pub +alter+binary+brace+bracket+call+case+comma+dtype+file+inl-list+inline+join+
     (alter-node-requires t)
     (alter-loop-less-2 t)
     (alter-loop-again-2 t)
-    (alter-add-t22 t)
+    (alter-add-t23 t)
     (alter-same-length t)
     (alter-returns t))
     (λ t. binary-lts.spec (
@@ -14130,7 +14130,7 @@ pub +alter+binary+brace+bracket+call+case+comma+dtype+file+inl-list+inline+join+
     (binary-node-requires t)
     (binary-loop-less-2 t)
     (binary-loop-again-2 t)
-    (binary-add-t22 t)
+    (binary-add-t23 t)
     (binary-same-length t)
     (binary-returns t))
     (λ t. brace-lts.spec (
@@ -14158,7 +14158,7 @@ pub +alter+binary+brace+bracket+call+case+comma+dtype+file+inl-list+inline+join+
     (brace-node-requires t)
     (brace-loop-less-2 t)
     (brace-loop-again-2 t)
-    (brace-add-t22 t)
+    (brace-add-t23 t)
     (brace-same-length t)
     (brace-returns t))
     (λ t. bracket-lts.spec (
@@ -14186,7 +14186,7 @@ pub +alter+binary+brace+bracket+call+case+comma+dtype+file+inl-list+inline+join+
     (bracket-node-requires t)
     (bracket-loop-less-2 t)
     (bracket-loop-again-2 t)
-    (bracket-add-t22 t)
+    (bracket-add-t23 t)
     (bracket-same-length t)
     (bracket-returns t))
     (λ t. call-lts.spec (
@@ -14214,7 +14214,7 @@ pub +alter+binary+brace+bracket+call+case+comma+dtype+file+inl-list+inline+join+
     (call-node-requires t)
     (call-loop-less-2 t)
     (call-loop-again-2 t)
-    (call-add-t22 t)
+    (call-add-t23 t)
     (call-same-length t)
     (call-returns t))
     (λ t. case-lts.spec (
@@ -14304,7 +14304,7 @@ pub +alter+binary+brace+bracket+call+case+comma+dtype+file+inl-list+inline+join+
     (dtype-node-requires t)
     (dtype-loop-less-2 t)
     (dtype-loop-again-2 t)
-    (dtype-add-t22 t)
+    (dtype-add-t23 t)
     (dtype-same-length t)
     (dtype-returns t))
     (λ t. file-lts.spec (
@@ -14363,7 +14363,7 @@ pub +alter+binary+brace+bracket+call+case+comma+dtype+file+inl-list+inline+join+
     (inl-list-node-requires t)
     (inl-list-loop-less-2 t)
     (inl-list-loop-again-2 t)
-    (inl-list-add-t22 t)
+    (inl-list-add-t23 t)
     (inl-list-same-length t)
     (inl-list-returns t))
     (λ t. inline-lts.spec (
@@ -14502,7 +14502,7 @@ pub +alter+binary+brace+bracket+call+case+comma+dtype+file+inl-list+inline+join+
     (no-spaces-node-requires t)
     (no-spaces-loop-less-2 t)
     (no-spaces-loop-again-2 t)
-    (no-spaces-add-t22 t)
+    (no-spaces-add-t23 t)
     (no-spaces-same-length t)
     (no-spaces-returns t))
     (λ t. node-lts.spec (
@@ -14713,7 +14713,7 @@ pub +alter+binary+brace+bracket+call+case+comma+dtype+file+inl-list+inline+join+
     (paren-node-requires t)
     (paren-loop-less-2 t)
     (paren-loop-again-2 t)
-    (paren-add-t22 t)
+    (paren-add-t23 t)
     (paren-same-length t)
     (paren-returns t))
     (λ t. pass-lts.spec (
@@ -14741,7 +14741,7 @@ pub +alter+binary+brace+bracket+call+case+comma+dtype+file+inl-list+inline+join+
     (pass-node-requires t)
     (pass-loop-less-2 t)
     (pass-loop-again-2 t)
-    (pass-add-t22 t)
+    (pass-add-t23 t)
     (pass-same-length t)
     (pass-returns t))
     (λ t. queries-lts.spec (
@@ -14930,7 +14930,7 @@ pub +alter+binary+brace+bracket+call+case+comma+dtype+file+inl-list+inline+join+
     (subquery-node-requires t)
     (subquery-loop-less-2 t)
     (subquery-loop-again-2 t)
-    (subquery-add-t22 t)
+    (subquery-add-t23 t)
     (subquery-same-length t)
     (subquery-returns t))
     (λ t. tight-paren-lts.spec (
@@ -14992,7 +14992,7 @@ pub +alter+binary+brace+bracket+call+case+comma+dtype+file+inl-list+inline+join+
     (unary-node-requires t)
     (unary-loop-less-2 t)
     (unary-loop-again-2 t)
-    (unary-add-t22 t)
+    (unary-add-t23 t)
     (unary-same-length t)
     (unary-returns t))
     (λ t. union-lts.spec (
@@ -15054,7 +15054,7 @@ pub +alter+binary+brace+bracket+call+case+comma+dtype+file+inl-list+inline+join+
     (when-node-requires t)
     (when-loop-less-2 t)
     (when-loop-again-2 t)
-    (when-add-t22 t)
+    (when-add-t23 t)
     (when-same-length t)
     (when-returns t))
     λ t. with-lts.spec (
