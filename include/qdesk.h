@@ -29,8 +29,8 @@
  *   - An accepted layout of length L is in the first L bytes of `out`. Later bytes stay as they were.
  *   - A refusal writes no byte. Measuring never writes.
  *
- * The calls use no heap and keep no state: any number of threads may make them at once. Their stack is that of 64 nested nodes; 128 KiB
- * are enough for it (by tests, not by proof).
+ * The calls use no heap and keep no state: any number of threads may make them at once. They take about 40 KB of stack, and less than 1 KB
+ * more for each of at most 64 nested nodes: 128 KiB are enough (by tests, not by proof).
  */
 #ifndef QDESK_H
 #define QDESK_H

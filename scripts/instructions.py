@@ -82,7 +82,7 @@ def print_row(corpus, seed):
     source = profile(corpus, seed, "ready-tree", "bench::rounds::ready_tree")
     check = layout.instructions_in(CHECK)
     measuring = measure.instructions_in(WALK)
-    # One walk for a layout of at most 4,096 bytes, else two.
+    # One walk where the layout fits the space on the stack (4,096 bytes, or 16,384 for tapes above 8,206), else two.
     walks = layout.instructions_in(WALK)
     whole, mispredicted = layout.a_token()
     source_whole, source_mispredicted = source.a_token()

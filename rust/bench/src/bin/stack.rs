@@ -3,17 +3,19 @@
 use oracle::answers::Answer;
 use oracle::kinds::{self, COUNT};
 use oracle::tape::{push_close, push_open, push_token};
-use std::arch::asm;
 use std::process::ExitCode;
 
 const USAGE: &str = "usage: stack   prints the bytes of stack that the two calls take at 64 levels; takes no argument";
 
-/// The text of every token, from 0 or from 2 to 8: a line comment, a keyword.
-const TEXT: &[u8; 64] = b"--select xxxxxxxxxxxxxxxxxxxxxxxxxxxxxxxxxxxxxxxxxxxxxxxxxxxxxxx";
-const QUERY_LIST: u16 = 2;
 const LEVELS: usize = 64;
 
-/// The stack that a call runs on here, and what it holds before.
+/// A token from 0 to 64 is a line comment, one from 2 to 8 a keyword.
+const TEXT: &[u8; 64] = b"--select xxxxxxxxxxxxxxxxxxxxxxxxxxxxxxxxxxxxxxxxxxxxxxxxxxxxxxx";
+
+/// The kind that is walked even where a child is an Error node.
+const QUERY_LIST: u16 = 2;
+
+/// The stack that a call is given here, and what it holds before.
 const STACK: usize = 512 * 1024;
 const PAINT: u8 = 0xA5;
 
@@ -27,27 +29,16 @@ fn main() -> ExitCode {
         return ExitCode::from(2);
     }
     println!("{:<8} {:>10} {:>14}", "call", "tape bytes", "bytes of stack");
+    let mut out = vec![0; 1 << 20];
     for rounds in [1, 2] {
         let tapes = tapes(rounds);
         print_most("measure", &tapes, |tape| bench::measure(TEXT, tape, 4, 1));
-        let mut out = vec![0; 1 << 20];
         print_most("layout", &tapes, |tape| bench::layout(TEXT, tape, 4, 1, &mut out));
     }
     ExitCode::SUCCESS
 }
 
-fn print_most(name: &str, tapes: &[Vec<u8>], mut call: impl FnMut(&[u8]) -> Answer) {
-    let mut most = 0;
-    for tape in tapes {
-        let mut answer = None;
-        most = most.max(used(&mut || answer = Some(call(tape))));
-        assert_eq!(answer.map(|answer| answer.number), Some(0));
-    }
-    println!("{name:<8} {:>10} {most:>14}", tapes[0].len());
-}
-
-/// For each carried kind, 64 levels of it, and one below 63 levels of QueryList, which goes on where a child is an Error node. The innermost node
-/// has tokens of every kind, so many times.
+/// For each carried kind, 64 levels of it, and 63 levels of QueryList around one. The innermost node has tokens of every kind, so many times.
 fn tapes(rounds: usize) -> Vec<Vec<u8>> {
     let carried = (0..COUNT).filter(|kind| kinds::is_carried(*kind));
     carried.flat_map(|kind| [tape(kind, kind, rounds), tape(QUERY_LIST, kind, rounds)]).collect()
@@ -65,7 +56,17 @@ fn tape(outer: u16, inner: u16, rounds: usize) -> Vec<u8> {
     tape
 }
 
-/// The bytes of stack that the call takes: it runs on a stack of its own, and the lowest byte that it changed tells.
+fn print_most(name: &str, tapes: &[Vec<u8>], mut call: impl FnMut(&[u8]) -> Answer) {
+    let mut most = 0;
+    for tape in tapes {
+        let mut answer = None;
+        most = most.max(used(&mut || answer = Some(call(tape))));
+        assert_eq!(answer.map(|answer| answer.number), Some(0));
+    }
+    println!("{name:<8} {:>10} {most:>14}", tapes[0].len());
+}
+
+/// The bytes of stack that the call takes, with the Rust around it: it runs on a stack of its own, and the lowest byte that changes tells.
 fn used(mut call: &mut dyn FnMut()) -> usize {
     extern "C" fn run(call: &mut &mut dyn FnMut()) {
         call()
@@ -73,10 +74,19 @@ fn used(mut call: &mut dyn FnMut()) -> usize {
     let mut stack = vec![PAINT; STACK];
     let top = stack.as_mut_ptr_range().end;
     let top = top.wrapping_sub(top as usize % 16);
-    // SAFETY: the stack is good for writes and long enough, `run` keeps r12, and the call does not panic.
+    // SAFETY: the stack is valid for writes and long enough, `run` gives r12 back as it was, and the call does not panic.
+    #[cfg(target_arch = "x86_64")]
     unsafe {
-        asm!("xchg rsp, r12", "call {run}", "mov rsp, r12", run = sym run, inout("r12") top => _, in("rdi") &mut call,
-             clobber_abi("C"));
+        std::arch::asm!(
+            "xchg rsp, r12",
+            "call {run}",
+            "mov rsp, r12",
+            run = sym run,
+            inout("r12") top => _,
+            in("rdi") &mut call,
+            clobber_abi("C"),
+        );
     }
-    STACK - stack.iter().position(|byte| *byte != PAINT).expect("the call takes some")
+    let lowest = stack.iter().position(|byte| *byte != PAINT);
+    STACK - lowest.expect("a call of the library, which is for x86-64, takes some")
 }
