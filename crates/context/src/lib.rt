@@ -34,8 +34,9 @@ pub struct FormatConfig {
     pub uppercase_keywords: bool,
 }
 
+// Eight bytes, with none left over: bytes between the fields would be handed on as if they were some.
 pub struct State {
-    pub indent_level: usize,
+    pub indent_level: u32,
     pub at_line_start: bool,
     pub needs_space: bool,
     // Skipped white space held a newline: a following comment may start a line.
@@ -75,7 +76,7 @@ impl State {
         requires { ⌜ (self .«indent_level» ≤ 2 ^ 20) × (config .«indent_width» ≤ 16) ⌝ }
         ensures { λ r. ⌜ (bytesOf (lead config self) ≡ replicate r 32) × (r ≤ 2 ^ 24) ⌝ }
     {
-        let indent = self.indent_level * config.indent_width;
+        let indent = self.indent_level as usize * config.indent_width;
         let blank = self.needs_space as usize;
         if self.at_line_start { indent } else { blank }
     }

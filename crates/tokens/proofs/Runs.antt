@@ -2,13 +2,13 @@
 use Prim.Native.Nat.{ℕ, _+_, _^_, _≤_, _<_}
 use native.Mathlib.Omega.{arith}
 use mathlib.Core.Path.{_≡_, refl, sym, ap, _∙_}
-use mathlib.Core.Bool.{Bool, true, false, cond, not, _&&_}
+use mathlib.Core.Bool.{Bool, true, false, cond, not, _&&_, false≢true}
 use mathlib.Core.List.{List, [], _∷_, _++_, map}
 use lib.ListN.{length, getD, replicate}
 use lib.Dec.{eqb}
 use borrow.Author.Tests.{eqb-true, ne-eqb, le-leb, lt-leb}
 use Rattle.keywords.specs.Words.{isKeyword, isValueKeyword}
-use Rattle.context.specs.Cells.{Text, fixed, fresh, bytesOf, tokenText, spanCells, isWhiteSpace, toCase}
+use Rattle.context.specs.Cells.{Text, count, fixed, fresh, bytesOf, tokenText, spanCells, isWhiteSpace, toCase}
 use Rattle.context.specs.Trim.{trimmedLength}
 use Rattle.context.specs.Splice.{splice}
 use Rattle.context.specs.Context.{Step, lead, writeNewline, writeToken, writeSpace, noteSkippedWhitespace, takePendingNewline, takePendingBlankLine, indent, dedent, writeRaw}
@@ -254,6 +254,25 @@ text-ready l p e = record { text-fits = text-fits p e; width-fits = p .width-fit
 pub trivia-acted : (white : Bool) {config : FormatConfig} {source bs : List ℕ} {token : Head} {c r : FormatterContext} {xs ys : List ℕ} → bs ≡ tokenText source (token .start) (token .end)
     → ActedOn 3 config bs (emitTrivia white bs) c xs r ys → Acted 3 config source token (emitTrivia white (tokenText source (token .start) (token .end))) c xs r ys
 trivia-acted white {source = source} {token = token} e w = acted 3 _ (omega arith) (ap (emitTrivia white) (sym e)) (w .all source token e)
+
+-- one byte that is no newline
+pub one-byte : (bs : List ℕ) → length bs ≡ 1 → not (eqb (getD bs 0 0) 10) ≡ true → count 10 bs ≡ 0
+one-byte [] l e = absurd (omega arith)
+one-byte (b ∷ []) l e = go (eqb b 10) refl e
+  where
+    go : (t : Bool) → eqb b 10 ≡ t → not t ≡ true → count 10 (b ∷ []) ≡ 0
+    go true w u = absurd (false≢true u)
+    go false w u = rw w
+one-byte (b ∷ d ∷ bs) l e = absurd (omega arith)
+
+-- white space without a newline changes nothing
+unnoted : (bs : List ℕ) (c : FormatterContext) → count 10 bs ≡ 0 → c ≡ withState (noteSkippedWhitespace bs (c .state)) c
+unfolding noteSkippedWhitespace
+unnoted bs c z = rw z refl
+
+pub blank-acted : (kind : ℕ) {config : FormatConfig} {source bs : List ℕ} {token : Head} {c : FormatterContext} {xs : List ℕ} → bs ≡ tokenText source (token .start) (token .end)
+    → (kind ≡ Whitespace) × (count 10 bs ≡ 0) → Acted 0 config source token (emitTrivia (eqb kind Whitespace) (tokenText source (token .start) (token .end))) c xs c xs
+blank-acted kind {bs = bs} {c = c} e z = rw (z .0) (as-note e (record { did = unnoted bs c (z .1); spent = spent-none }))
 
 -- where the space is full nothing is written, whatever the text is
 pub full-put : (at blanks : ℕ) (bs us xs : List ℕ) → length xs ≤ at → xs ≡ splice (at + blanks) us (splice at bs xs)

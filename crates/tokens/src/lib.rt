@@ -18,7 +18,7 @@ ghost use Prim.Native.Nat.{_+_, _^_, _≤_, _<_};
 ghost use lib.ListN.{length};
 ghost use Rattle.context.specs.Store.{Room};
 ghost use lib.Dec.{eqb};
-ghost use Rattle.context.specs.Cells.{tokenText};
+ghost use Rattle.context.specs.Cells.{count, tokenText};
 ghost use Rattle.keywords.specs.Words.{isKeyword, isValueKeyword};
 ghost use Rattle.tape.specs.Kinds.{Whitespace};
 ghost use Rattle.layout.specs.Arms.{blankLine, blankLineBeforeComment, lineOrSpace, seen, writeKeyword, writeText};
@@ -266,7 +266,15 @@ pub fn emit_comment(
     let start = token.start;
     let end = token.end;
     let text = token_text(source, start, end);
-    write_comment(config, out, ctx, text)
+    let kind = syntax_kind::COMMENT;
+    emit_trivia(
+        config.indent_width,
+        config.uppercase_keywords,
+        out,
+        ctx,
+        text,
+        kind,
+    )
 }
 
 pub fn emit_token(
@@ -299,21 +307,39 @@ pub fn emit_token(
     ctx.after_text(blanks, text.len(), j)
 }
 
-// White space, else a comment. On its own, so that the two below stay small and a token costs one call.
+// White space, else a comment. On its own, so that the two below stay small and a token costs one call; and the only caller of `write_comment`, so that
+// it is large enough to stay on its own. The settings are two numbers, which need no copy in memory.
 fn emit_trivia(
-    config: FormatConfig,
+    width: usize,
+    uppercase: bool,
     out: &mut [u8],
     ctx: FormatterContext,
     text: &[u8],
     kind: u16,
 ) -> FormatterContext
-    requires { ⌜ TextReady 3 config (now text) ctx ⌝ }
-    ensures { λ r. ⌜ ActedOn 3 config (now (text .entry)) (emitTrivia (eqb kind Whitespace) (now (text .entry))) ctx (now (out .entry)) r (now (out .exit)) ⌝ }
+    requires { ⌜ TextReady 3 (record { «indent_width» = width; «uppercase_keywords» = uppercase }) (now text) ctx ⌝ }
+    ensures { λ r. ⌜ ActedOn 3 (record { «indent_width» = width; «uppercase_keywords» = uppercase }) (now (text .entry)) (emitTrivia (eqb kind Whitespace) (now (text .entry))) ctx (now (out .entry)) r (now (out .exit)) ⌝ }
 {
     if kind == syntax_kind::WHITESPACE {
         return ctx.note_skipped_whitespace(&text[..]);
     }
+    let config = FormatConfig {
+        indent_width: width,
+        uppercase_keywords: uppercase,
+    };
     write_comment(config, out, ctx, &text[..])
+}
+
+// Whether it is white space of one byte that is no newline, as most of it is: nothing is to be noted of it.
+fn is_blank(kind: u16, text: &[u8]) -> bool
+    ensures { λ r. ⌜ (r ≡ true → (kind ≡ Whitespace) × (count 10 (now (text .entry)) ≡ 0)) ⌝ }
+{
+    if kind == syntax_kind::WHITESPACE {
+        if text.len() == 1 {
+            return text[0] != 10;
+        }
+    }
+    false
 }
 
 pub fn is_trivia(kind: u16) -> bool
@@ -340,7 +366,14 @@ pub fn trivia_token(
     let start = token.start;
     let end = token.end;
     let text = token_text(source, start, end);
-    let a = emit_trivia(config, out, ctx, text, token.kind);
+    let a = emit_trivia(
+        config.indent_width,
+        config.uppercase_keywords,
+        out,
+        ctx,
+        text,
+        token.kind,
+    );
     Arm {
         context: a,
         local: local,
@@ -363,8 +396,18 @@ pub fn emit_other(
         let start = token.start;
         let end = token.end;
         let text = token_text(source, start, end);
+        if is_blank(token.kind, text) {
+            return ctx;
+        }
         let c = ctx;
-        let a = emit_trivia(config, out, c, text, token.kind);
+        let a = emit_trivia(
+            config.indent_width,
+            config.uppercase_keywords,
+            out,
+            c,
+            text,
+            token.kind,
+        );
         return a;
     }
     emit_token(source, config, out, ctx, token)
@@ -385,8 +428,18 @@ pub fn emit_uncommented(
         let start = token.start;
         let end = token.end;
         let text = token_text(source, start, end);
+        if is_blank(token.kind, text) {
+            return ctx;
+        }
         let c = ctx;
-        let a = emit_trivia(config, out, c, text, token.kind);
+        let a = emit_trivia(
+            config.indent_width,
+            config.uppercase_keywords,
+            out,
+            c,
+            text,
+            token.kind,
+        );
         return a;
     }
     emit_token(source, config, out, ctx, token)

@@ -1,10 +1,10 @@
 -- `trivia_token` meets its contract.
-use Rattle.tokens.proofs.Runs.{text-ready, trivia-acted}
-use Rattle.tokens.proofs.Choices.{trivia-done}
-use borrow.Author.Needs.{needs}
 use native.Mathlib.Omega.{arith}
 use lib.Dec.{eqb}
 use Rattle.tape.specs.Kinds.{Whitespace}
+use Rattle.tokens.proofs.Runs.{text-ready, trivia-acted}
+use Rattle.tokens.proofs.Choices.{trivia-done}
+use borrow.Author.Needs.{needs}
 use Rattle.tokens.proofs.trivia_token.Statement.{statement}
 use Rattle.tokens.proofs.trivia_token.Tie as tie
 

@@ -33,6 +33,9 @@ one : (b : Bool) → boolByte b ≤ 2 ^ 24
 one true = omega arith
 one false = omega arith
 
+cast-indent : tie.Need-cast-indent
+cast-indent c = search needs
+
 mul-indent : tie.Need-mul-indent
 mul-indent c =
     let h = mul-le-mul (c .before .before .pre .0) (c .before .before .pre .1) in
@@ -52,4 +55,4 @@ returns-2 c =
     (within (a .config) (a .self) (c .if1 .left), one (a .self .«needs_space»))
 
 pub lead-blanks-spec : {M : Type 1} → statement M
-lead-blanks-spec = tie.close (tie.spec mul-indent cast-blank returns returns-2)
+lead-blanks-spec = tie.close (tie.spec cast-indent mul-indent cast-blank returns returns-2)
