@@ -47,10 +47,16 @@ pub(crate) fn is_white_space(b: u8) -> bool
     b <= 13
 }
 
-// n times the byte b, from the part's start.
+// n times the byte b, from the part's start. Most often it is one blank, for which the block fill that the loop becomes is slow.
 pub(crate) fn fill(out: &mut [u8], n: usize, b: u8)
     ensures { λ _. ⌜ now (out .exit) ≡ splice 0 (replicate n b) (now (out .entry)) ⌝ }
 {
+    if n == 1 {
+        if 0 < out.len() {
+            out[0] = b;
+        }
+        return;
+    }
     let end = least(n, out.len());
     let mut i: usize = 0;
     while i < end {
