@@ -1,8 +1,8 @@
 // Bytes written into a lent part, as far as it goes, and what is asked of a text before it is written.
 ghost use mathlib.Core.Path.{_≡_};
 ghost use mathlib.Core.List.{map};
-ghost use Prim.Native.Nat.{min, _+_, _^_, _<_};
-ghost use lib.ListN.{replicate};
+ghost use Prim.Native.Nat.{min, _+_, _^_, _≤_, _<_};
+ghost use lib.ListN.{length, replicate, take};
 ghost use Rattle.context.specs.Cells.{count, isWhiteSpace, toCase};
 ghost use Rattle.context.specs.Trim.{trimmedAfter, trimmedLength};
 ghost use Rattle.context.specs.Splice.{splice};
@@ -77,6 +77,52 @@ pub fn copy(out: &mut [u8], text: &[u8])
     }
 }
 
+// The first four bytes of the text, all read before one is written: the compiler makes one move of them.
+fn copy_four(out: &mut [u8], text: &[u8])
+    requires { ⌜ (4 ≤ length (now out)) × (4 ≤ length (now text)) ⌝ }
+    ensures { λ _. ⌜ now (out .exit) ≡ splice 0 (take 4 (now (text .entry))) (now (out .entry)) ⌝ }
+{
+    let a = text[0];
+    let b = text[1];
+    let c = text[2];
+    let d = text[3];
+    out[0] = a;
+    out[1] = b;
+    out[2] = c;
+    out[3] = d;
+}
+
+// The first eight.
+fn copy_eight(out: &mut [u8], text: &[u8])
+    requires { ⌜ (8 ≤ length (now out)) × (8 ≤ length (now text)) ⌝ }
+    ensures { λ _. ⌜ now (out .exit) ≡ splice 0 (take 8 (now (text .entry))) (now (out .entry)) ⌝ }
+{
+    copy_four(out, text);
+    copy_four(&mut out[4..], &text[4..]);
+}
+
+// `copy` of a short text that fits: two moves, which may overlap. One way moves the front first and the other the back, else the compiler joins them
+// and moves single bytes.
+fn copy_short(out: &mut [u8], text: &[u8])
+    requires { ⌜ (length (now text) ≤ 16) × (length (now text) ≤ length (now out)) ⌝ }
+    ensures { λ _. ⌜ now (out .exit) ≡ splice 0 (now (text .entry)) (now (out .entry)) ⌝ }
+{
+    let n = text.len();
+    if n < 4 {
+        copy(out, text);
+        return;
+    }
+    if n <= 8 {
+        let k = n - 4;
+        copy_four(out, text);
+        copy_four(&mut out[k..], &text[k..]);
+        return;
+    }
+    let k = n - 8;
+    copy_eight(&mut out[k..], &text[k..]);
+    copy_eight(out, text);
+}
+
 // The text in upper or lower case. A loop of its own, so that the plain one can be a block copy.
 pub(crate) fn copy_in_case(out: &mut [u8], uppercase: bool, text: &[u8])
     ensures { λ _. ⌜ now (out .exit) ≡ splice 0 (map (toCase uppercase) (now (text .entry))) (now (out .entry)) ⌝ }
@@ -125,7 +171,18 @@ pub fn put(out: &mut [u8], at: usize, blanks: usize, text: &[u8]) -> usize
     trimmed_length(text)
 }
 
-// The same in upper or lower case.
+// The same of at most one blank and 16 bytes, for which there is room.
+pub fn put_short(out: &mut [u8], at: usize, blanks: usize, text: &[u8]) -> usize
+    requires { ⌜ (blanks ≤ 1) × (length (now text) ≤ 16) × (at + blanks + length (now text) ≤ length (now out)) ⌝ }
+    ensures { λ r. ⌜ (r ≡ trimmedLength isWhiteSpace (now (text .entry))) × (now (out .exit) ≡ splice (at + blanks) (now (text .entry)) (splice at (replicate blanks 32) (now (out .entry)))) ⌝ }
+{
+    fill_at(out, at, blanks, 32);
+    let from = at + blanks;
+    copy_short(&mut out[from..], text);
+    trimmed_length(text)
+}
+
+// `put` in upper or lower case.
 pub fn put_in_case(out: &mut [u8], at: usize, blanks: usize, uppercase: bool, text: &[u8]) -> usize
     requires { ⌜ at + blanks < 2 ^ 64 ⌝ }
     ensures { λ r. ⌜ (r ≡ trimmedLength isWhiteSpace (now (text .entry))) × (now (out .exit) ≡ splice (at + blanks) (map (toCase uppercase) (now (text .entry))) (splice at (replicate blanks 32) (now (out .entry)))) ⌝ }

@@ -5,6 +5,7 @@ mod buffer;
 pub use buffer::copy;
 pub use buffer::put;
 pub use buffer::put_in_case;
+pub use buffer::put_short;
 pub use buffer::trimmed_length;
 ghost use mathlib.Core.Path.{_≡_};
 ghost use mathlib.Core.List.{[], _∷_, _++_};
@@ -19,7 +20,6 @@ ghost use Rattle.context.specs.Context.{
   noteSkippedWhitespace,
   takePendingBlankLine,
   takePendingNewline,
-  writeKeyword,
   writeNewline,
   writeRaw,
   writeSpace,
@@ -224,28 +224,6 @@ impl FormatterContext {
         FormatterContext {
             state: s.after_write(false),
             position: p.after_byte(blanks, sign),
-        }
-    }
-
-    pub fn write_keyword(
-        self,
-        config: FormatConfig,
-        out: &mut [u8],
-        text: &[u8],
-    ) -> FormatterContext
-        requires { ⌜ Room 1 self ⌝ }
-        requires { ⌜ (config .«indent_width» ≤ 16) × (length (now text) ≤ 2 ^ 18) ⌝ }
-        ensures { λ r. ⌜ Wrote 1 (stored (writeKeyword config (fixed (now (text .entry))) (self .state)) (self, now (out .entry))) self r (now (out .exit)) ⌝ }
-    {
-        let s = self.state;
-        let p = self.position;
-        let at = p.length;
-        let blanks = s.lead_blanks(config);
-        buffer::fill_at(out, at, blanks, 32);
-        buffer::copy_in_case_at(out, at + blanks, config.uppercase_keywords, text);
-        FormatterContext {
-            state: s.after_write(false),
-            position: p.after(blanks, text),
         }
     }
 

@@ -214,6 +214,10 @@ fn layout_long(text: &[u8], tape: &[u8], width: u64, case: u64, out: &mut [u8]) 
 {
     let mut facts = [0u8; 23832];
     let mut space = [0u8; 16384];
+    // The layout of so long a text seldom fits, and what is written there would be written in vain.
+    if 32768 < text.len() {
+        return layout_in(text, tape, width, case, &mut facts, &mut space[..0], out);
+    }
     layout_in(text, tape, width, case, &mut facts, &mut space, out)
 }
 

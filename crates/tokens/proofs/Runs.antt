@@ -29,7 +29,9 @@ use Rattle.layout.specs.Calls.{Call, actAt, formatErrorVerbatim}
 use Rattle.layout.specs.Layout.{nothingWritten, doSpacing, step}
 use Rattle.layout.specs.Run.{runSpacing, run}
 use Rattle.layout.proofs.Running.{run-append}
-use Rattle.tokens.specs.TokenPromises.{Ran, SpacedUnwritten, Spaced, TokenReady, TextReady, PutText, Acted, ActedOn, emitTrivia}
+use Rattle.tokens.specs.TokenPromises.{Ran, SpacedUnwritten, Spaced, TokenReady, TextReady, PutText, Acted, ActedOn, casingOf, emitTrivia, inCase, isAsTyped}
+use Rattle.tokens.specs.declared.Casing.{Casing}
+use Rattle.tokens.specs.declared.Casing.the-variants.{AsTyped, Listed, Always}
 
 -- ── spacing
 
@@ -228,6 +230,18 @@ comment-acts b bs t e f = rw (← e, f)
 abbrev pub changesCase : ℕ → List ℕ → Bool
 changesCase k b = eqb k BareWord && (isKeyword b && not (isValueKeyword b))
 
+casing-is : (k : ℕ) (b : List ℕ) → inCase (casingOf k) b ≡ changesCase k b
+casing-is k b = go (eqb k BareWord)
+  where
+    go : (t : Bool) → inCase (cond t Listed AsTyped) b ≡ (t && (isKeyword b && not (isValueKeyword b)))
+    go true = refl
+    go false = refl
+
+pub as-typed : (g : Casing) (b : List ℕ) → isAsTyped g ≡ true → inCase g b ≡ false
+as-typed AsTyped b e = refl
+as-typed Listed b e = absurd (false≢true e)
+as-typed Always b e = absurd (false≢true e)
+
 pub token-acts : (source : Text) (token : Head) → (token .kind ≡ Whitespace → ⊥)
     → emitToken (seen source token) ≡ cond (changesCase (token .kind) (tokenText source (token .start) (token .end))) (writeKeyword ∷ []) (writeText ∷ [])
 unfolding emitToken seen
@@ -292,14 +306,17 @@ module _ {n : ℕ} {config : FormatConfig} {source : List ℕ} {token : Head} {c
   pub put-typed : {u : Bool} → PutText (c .position .length) m bs false u xs j ys → Acted 1 config source token (writeText ∷ []) c xs r ys
   put-typed w = put-acted bs e (text-fits p e) m l false (w .left) (w .written) a
 
+  -- in the case that is set
+  pub put-keyword : PutText (c .position .length) m bs true (config .«uppercase_keywords») xs j ys → Acted 1 config source token (writeKeyword ∷ []) c xs r ys
+  put-keyword w = put-acted bs e (text-fits p e) m l true (w .left) (w .written) a
+
   -- by the word list
-  pub put-token : {t : Bool} → (token .kind ≡ Whitespace → ⊥) → t ≡ eqb (token .kind) BareWord
-      → PutText (c .position .length) m bs (t && (isKeyword bs && not (isValueKeyword bs))) (config .«uppercase_keywords») xs j ys
-      → Acted 1 config source token (emitToken (seen source token)) c xs r ys
-  put-token {t} h q w =
+  pub put-token : {g : Casing} → (token .kind ≡ Whitespace → ⊥) → g ≡ casingOf (token .kind)
+      → PutText (c .position .length) m bs (inCase g bs) (config .«uppercase_keywords») xs j ys → Acted 1 config source token (emitToken (seen source token)) c xs r ys
+  put-token {g} h q w =
       acted 1 _ (omega arith)
-      (token-acts source token h ∙ ap (λ (b : Bool). cond b (writeKeyword ∷ []) (writeText ∷ [])) (ap (changesCase (token .kind)) (sym e) ∙ ap (λ (b : Bool). b && (isKeyword bs && not (isValueKeyword bs))) (sym q)))
-      (put-acted bs e (text-fits p e) m l (t && (isKeyword bs && not (isValueKeyword bs))) (w .left) (w .written) a)
+      (token-acts source token h ∙ ap (λ (b : Bool). cond b (writeKeyword ∷ []) (writeText ∷ [])) (ap (changesCase (token .kind)) (sym e) ∙ sym (ap (λ (k : Casing). inCase k bs) q ∙ casing-is (token .kind) bs)))
+      (put-acted bs e (text-fits p e) m l (inCase g bs) (w .left) (w .written) a)
 
 -- ── format_error_verbatim
 

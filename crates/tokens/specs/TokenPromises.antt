@@ -1,7 +1,7 @@
 -- What the functions of this crate ask and promise.
 use Prim.Native.Nat.{ℕ, _+_, _^_, _≤_}
 use mathlib.Core.Path.{_≡_}
-use mathlib.Core.Bool.{Bool, cond, _||_}
+use mathlib.Core.Bool.{Bool, true, false, cond, not, _&&_, _||_}
 use mathlib.Core.List.{List, [], _∷_, map}
 use lib.ListN.{length, replicate}
 use lib.Dec.{eqb}
@@ -12,6 +12,7 @@ use Rattle.context.specs.Splice.{splice}
 use Rattle.context.specs.Store.{Store, Room, Spent}
 use Rattle.context.specs.declared.FormatConfig.{FormatConfig}
 use Rattle.context.specs.declared.FormatterContext.{FormatterContext}
+use Rattle.keywords.specs.Words.{isKeyword, isValueKeyword}
 use Rattle.tape.specs.Kinds
 use Rattle.tape.specs.declared.Head.{Head}
 use Rattle.layout.specs.declared.Local.{Local}
@@ -21,6 +22,8 @@ use Rattle.layout.specs.Routines.{orElse}
 use Rattle.layout.specs.Calls.{Call, actAt}
 use Rattle.layout.specs.Run.{runSpacing, run}
 use Rattle.tokens.specs.declared.Arm.{Arm}
+use Rattle.tokens.specs.declared.Casing.{Casing}
+use Rattle.tokens.specs.declared.Casing.the-variants.{AsTyped, Listed, Always}
 
 -- r and ys are what the calls make of c and xs; they are at most n writes or indents
 pub record Ran (n : ℕ) (config : FormatConfig) (source : Text) (calls : List Call) (c : FormatterContext) (xs : List ℕ) (r : FormatterContext) (ys : List ℕ) : Type 0 where
@@ -50,6 +53,21 @@ pub record TextReady (n : ℕ) (config : FormatConfig) (text : List ℕ) (c : Fo
   pub text-fits : length text ≤ 2 ^ 18
   pub width-fits : config .«indent_width» ≤ 16
   pub room : Room n c
+
+-- the text is written in upper or lower case: none is, a word on the list that is no value, any is
+abbrev pub inCase : Casing → List ℕ → Bool
+inCase AsTyped b = false
+inCase Listed b = isKeyword b && not (isValueKeyword b)
+inCase Always b = true
+
+abbrev pub isAsTyped : Casing → Bool
+isAsTyped AsTyped = true
+isAsTyped Listed = false
+isAsTyped Always = false
+
+-- emit_token asks the list for bare words
+abbrev pub casingOf : ℕ → Casing
+casingOf k = cond (eqb k Kinds.BareWord) Listed AsTyped
 
 -- so many blanks and the text, or the text in another case, were written at a place: j is left of it once its trailing white space is dropped
 pub record PutText (at blanks : ℕ) (text : List ℕ) (cased uppercase : Bool) (xs : List ℕ) (j : ℕ) (ys : List ℕ) : Type 0 where

@@ -3,6 +3,7 @@ use context::FormatConfig;
 use context::FormatterContext;
 use context::put;
 use context::put_in_case;
+use context::put_short;
 use context::token_text;
 use context::trimmed_length;
 use keywords::is_keyword;
@@ -25,7 +26,7 @@ ghost use Rattle.layout.specs.Arms.{blankLine, blankLineBeforeComment, lineOrSp
 ghost use Rattle.layout.specs.Calls.{formatErrorVerbatim};
 ghost use Rattle.layout.specs.Routines.{nameBefore, spaceAfter, spaceIf};
 ghost use Rattle.layout.specs.Tokens.{emitComment, emitOther, emitToken, isLineComment, isOperator, noSpaceAfter, noSpaceBefore, noteSkippedWhitespace};
-ghost use Rattle.tokens.specs.TokenPromises.{Acted, ActedOn, PutText, Ran, Spaced, SpacedUnwritten, TextReady, TokenReady, TriviaDone, emitTrivia, emitUncommented, isTrivia};
+ghost use Rattle.tokens.specs.TokenPromises.{Acted, ActedOn, PutText, Ran, Spaced, SpacedUnwritten, TextReady, TokenReady, TriviaDone, casingOf, emitTrivia, emitUncommented, inCase, isAsTyped, isTrivia};
 
 // After a token: the context, and the routine's local variables.
 pub struct Arm {
@@ -136,7 +137,34 @@ pub fn note(
     ctx.note_skipped_whitespace(text)
 }
 
-// Whether emit_token changes the case of a bare word: one on the list that is no value.
+// Which texts are written in upper or lower case: none; the words on the list that are no values; any.
+enum Casing {
+    AsTyped,
+    Listed,
+    Always,
+}
+
+// emit_token asks the list for bare words.
+fn casing_of(kind: u16) -> Casing
+    ensures { λ r. ⌜ r ≡ casingOf kind ⌝ }
+{
+    if kind == syntax_kind::BARE_WORD {
+        return Casing::Listed;
+    }
+    Casing::AsTyped
+}
+
+fn is_as_typed(casing: Casing) -> bool
+    ensures { λ r. ⌜ r ≡ isAsTyped casing ⌝ }
+{
+    match casing {
+        Casing::AsTyped => true,
+        Casing::Listed => false,
+        Casing::Always => false,
+    }
+}
+
+// Whether it is a word on the list that is no value.
 fn is_cased(text: &[u8]) -> bool
     ensures { λ r. ⌜ r ≡ (isKeyword (now (text .entry)) && not (isValueKeyword (now (text .entry)))) ⌝ }
 {
@@ -146,28 +174,63 @@ fn is_cased(text: &[u8]) -> bool
     false
 }
 
-// So many blanks and a text from offset `at` on; where the word list is asked, in upper or lower case if it says so. Where nothing is written any more the
-// case does not matter, and the list is not looked at. The answer is that of `put`. A text that is handed on as `&text[..]` stays in registers.
+fn is_in_case(text: &[u8], casing: Casing) -> bool
+    ensures { λ r. ⌜ r ≡ inCase casing (now (text .entry)) ⌝ }
+{
+    match casing {
+        Casing::AsTyped => false,
+        Casing::Listed => is_cased(text),
+        Casing::Always => true,
+    }
+}
+
+// So many blanks and a text from offset `at` on, in upper or lower case where that is wanted. Where nothing is written any more the case does not
+// matter, and the list is not looked at. The answer is that of `put`. A text that is handed on as `&text[..]` stays in registers.
+fn put_any(
+    out: &mut [u8],
+    at: usize,
+    blanks: usize,
+    text: &[u8],
+    casing: Casing,
+    uppercase: bool,
+) -> usize
+    requires { ⌜ at + blanks < 2 ^ 64 ⌝ }
+    ensures { λ r. ⌜ PutText at blanks (now (text .entry)) (inCase casing (now (text .entry))) uppercase (now (out .entry)) r (now (out .exit)) ⌝ }
+{
+    if out.len() <= at {
+        return trimmed_length(&text[..]);
+    }
+    if is_in_case(&text[..], casing) {
+        return put_in_case(out, at, blanks, uppercase, &text[..]);
+    }
+    put(out, at, blanks, &text[..])
+}
+
+// The same. Most texts are short and as typed, and are written or measured here, where few registers are needed and none is saved.
 fn put_text(
     out: &mut [u8],
     at: usize,
     blanks: usize,
     text: &[u8],
-    listed: bool,
+    casing: Casing,
     uppercase: bool,
 ) -> usize
-    requires { ⌜ at + blanks < 2 ^ 64 ⌝ }
-    ensures { λ r. ⌜ PutText at blanks (now (text .entry)) (listed && (isKeyword (now (text .entry)) && not (isValueKeyword (now (text .entry))))) uppercase (now (out .entry)) r (now (out .exit)) ⌝ }
+    requires { ⌜ at + blanks + length (now text) < 2 ^ 64 ⌝ }
+    ensures { λ r. ⌜ PutText at blanks (now (text .entry)) (inCase casing (now (text .entry))) uppercase (now (out .entry)) r (now (out .exit)) ⌝ }
 {
     if out.len() <= at {
         return trimmed_length(&text[..]);
     }
-    if listed {
-        if is_cased(&text[..]) {
-            return put_in_case(out, at, blanks, uppercase, &text[..]);
+    if is_as_typed(casing) {
+        if blanks <= 1 {
+            if text.len() <= 16 {
+                if at + blanks + text.len() <= out.len() {
+                    return put_short(out, at, blanks, &text[..]);
+                }
+            }
         }
     }
-    put(out, at, blanks, &text[..])
+    put_any(out, at, blanks, &text[..], casing, uppercase)
 }
 
 // write_token of the token's text.
@@ -186,7 +249,7 @@ pub fn write_text(
     let text = token_text(source, start, end);
     let p = ctx.position;
     let blanks = ctx.lead_blanks(config);
-    let j = put_text(out, p.length, blanks, text, false, false);
+    let j = put_text(out, p.length, blanks, text, Casing::AsTyped, false);
     ctx.after_text(blanks, text.len(), j)
 }
 
@@ -204,7 +267,17 @@ pub fn write_word(
     let start = token.start;
     let end = token.end;
     let text = token_text(source, start, end);
-    ctx.write_keyword(config, out, text)
+    let p = ctx.position;
+    let blanks = ctx.lead_blanks(config);
+    let j = put_any(
+        out,
+        p.length,
+        blanks,
+        text,
+        Casing::Always,
+        config.uppercase_keywords,
+    );
+    ctx.after_text(blanks, text.len(), j)
 }
 
 fn is_line_comment(text: &[u8]) -> bool
@@ -295,13 +368,12 @@ pub fn emit_token(
     let text = token_text(source, start, end);
     let p = ctx.position;
     let blanks = ctx.lead_blanks(config);
-    let listed = token.kind == syntax_kind::BARE_WORD;
     let j = put_text(
         out,
         p.length,
         blanks,
         text,
-        listed,
+        casing_of(token.kind),
         config.uppercase_keywords,
     );
     ctx.after_text(blanks, text.len(), j)

@@ -20,6 +20,9 @@ token-text-requires c κs = search needs
 lead-blanks-requires : tie.Need-lead-blanks-requires
 lead-blanks-requires c κs = search needs
 
+casing-of-requires : tie.Need-casing-of-requires
+casing-of-requires c κs = search needs
+
 put-text-requires : tie.Need-put-text-requires
 put-text-requires c κs = search needs
 
@@ -30,7 +33,7 @@ same-length : tie.Need-same-length
 same-length c = search needs
 
 returns-2 : tie.Need-returns-2
-returns-2 c = put-token (c .before .before .before .before .before .before .before .before .before .before .before .before .before .pre) (c .before .before .before .before .before .before .before .before .token-text .ensures) (c .before .before .before .before .before .before .lead-blanks .ensures) (c .after-text .ensures) (c .before .before .before .before .before .before .before .before .before .if1 .left) refl (c .before .before .before .put-text .ensures)
+returns-2 c = put-token (c .before .before .before .before .before .before .before .before .before .before .before .before .before .pre) (c .before .before .before .before .before .before .before .before .token-text .ensures) (c .before .before .before .before .before .before .lead-blanks .ensures) (c .after-text .ensures) (c .before .before .before .before .before .before .before .before .before .if1 .left) (c .before .before .before .before .casing-of .ensures) (c .before .before .before .put-text .ensures)
 
 pub emit-token-spec : {M : Type 1} → statement M
 emit-token-spec =
@@ -39,6 +42,7 @@ emit-token-spec =
     returns
     token-text-requires
     lead-blanks-requires
+    casing-of-requires
     put-text-requires
     after-text-requires
     same-length

@@ -1,6 +1,6 @@
 -- `put_text` meets its contract.
-use mathlib.Core.Logic.{⊎-elim}
-use Rattle.tokens.proofs.Runs.{full-put}
+use mathlib.Core.Path.{sym, _∙_}
+use Rattle.tokens.proofs.Runs.{as-typed, full-put}
 use borrow.Author.Needs.{needs}
 use Rattle.tokens.proofs.put_text.Statement.{statement}
 use Rattle.tokens.proofs.put_text.Tie as tie
@@ -11,28 +11,37 @@ trimmed-length-requires c κs = search needs
 returns : tie.Need-returns
 returns c = record { left = c .trimmed-length .ensures; written = full-put _ _ _ _ _ (c .before .if1 .taken) }
 
-is-cased-requires : tie.Need-is-cased-requires
-is-cased-requires c κs = search needs
+is-as-typed-requires : tie.Need-is-as-typed-requires
+is-as-typed-requires c κs = search needs
 
-put-in-case-requires : tie.Need-put-in-case-requires
-put-in-case-requires c κs = search needs
+add-if5 : tie.Need-add-if5
+add-if5 c = search needs
+
+add-if5-2 : tie.Need-add-if5-2
+add-if5-2 c = search needs
+
+put-short-requires : tie.Need-put-short-requires
+put-short-requires c κs = search needs
 
 same-length : tie.Need-same-length
 same-length c = search needs
 
 returns-2 : tie.Need-returns-2
-returns-2 c = record { left = c .before .before .put-in-case .ensures .0; written = rw (c .before .before .before .before .before .before .if2 .taken, ← (c .before .before .before .before .before .is-cased .ensures), c .before .before .before .before .if3 .taken) (c .before .before .put-in-case .ensures .1) }
+returns-2 c =
+    let a = c .before .before .before .before .before .before .before .before .before .before .before .before .args in
+    record {
+      left = c .before .before .put-short .ensures .0;
+      written = rw (as-typed (a .casing) (a .text .now) (sym (c .before .before .before .before .before .before .before .before .is-as-typed .ensures) ∙ c .before .before .before .before .before .before .before .if2 .taken)) (c .before .before .put-short .ensures .1);
+    }
 
-put-requires : tie.Need-put-requires
-put-requires c κs = search needs
+put-any-requires : tie.Need-put-any-requires
+put-any-requires c κs = search needs
 
 same-length-2 : tie.Need-same-length-2
 same-length-2 c = search needs
 
 returns-3 : tie.Need-returns-3
-returns-3 c =
-    ⊎-elim (λ w. record { left = c .before .before .put .ensures .0; written = rw (w .0 .taken, ← (w .1 .ensures), w .2 .left) (c .before .before .put .ensures .1) })
-    (λ w. record { left = c .before .before .put .ensures .0; written = rw (w .left) (c .before .before .put .ensures .1) }) (c .before .before .before .before .if2 .came)
+returns-3 c = search needs
 
 pub put-text-spec : {M : Type 1} → statement M
 put-text-spec =
@@ -40,10 +49,12 @@ put-text-spec =
     (tie.spec
     trimmed-length-requires
     returns
-    is-cased-requires
-    put-in-case-requires
+    is-as-typed-requires
+    add-if5
+    add-if5-2
+    put-short-requires
     same-length
     returns-2
-    put-requires
+    put-any-requires
     same-length-2
     returns-3)
