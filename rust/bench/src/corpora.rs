@@ -14,7 +14,7 @@ pub struct Corpus {
     pub make: fn(u64) -> Vec<Case>,
 }
 
-pub const ALL: [Corpus; 16] = [
+pub const ALL: [Corpus; 26] = [
     Corpus { name: "typical", label: "2,000 different queries, one in six broken", make: typical },
     Corpus { name: "broken", label: "the broken ones among them", make: broken },
     Corpus { name: "repeated", label: "one query repeated", make: repeated },
@@ -22,19 +22,26 @@ pub const ALL: [Corpus; 16] = [
     Corpus { name: "wide-500", label: "500 columns", make: |_| vec![wide(500)] },
     Corpus { name: "wide-2500", label: "2,500 columns", make: |_| vec![wide(2_500)] },
     Corpus { name: "words", label: "20,000 words, 2 levels", make: |_| vec![words(20_000)] },
-    Corpus { name: "keywords", label: "20,000 keywords, 2 levels", make: |_| vec![keywords()] },
-    Corpus { name: "numbers", label: "20,000 numbers, 2 levels", make: |_| vec![numbers()] },
-    Corpus { name: "deep-63", label: "20,000 words, 63 tuples", make: |_| vec![nested_words("TupleExpression", 63)] },
-    Corpus {
-        name: "group-by-63",
-        label: "20,000 words, 63 GROUP BY",
-        make: |_| vec![nested_words("GroupByClause", 63)],
-    },
+    Corpus { name: "keywords", label: "20,000 keywords, 2 levels", make: |_| vec![keywords(20_000)] },
+    Corpus { name: "numbers", label: "20,000 numbers, 2 levels", make: |_| vec![numbers(20_000)] },
+    Corpus { name: "deep-63", label: "20,000 words, 63 tuples", make: |_| vec![deep(20_000)] },
+    Corpus { name: "group-by-63", label: "20,000 words, 63 GROUP BY", make: |_| vec![group_by(20_000)] },
     Corpus { name: "blank-gaps", label: "23,800 gaps of 4,096 blanks", make: |_| vec![blanks("Whitespace")] },
     Corpus { name: "blank-words", label: "23,800 words of 4,096 blanks", make: |_| vec![blanks("BareWord")] },
     Corpus { name: "blank-numbers", label: "23,800 numbers of 4,096 blanks", make: |_| vec![blanks("Number")] },
-    Corpus { name: "words-5kb", label: "420 words, 2 levels (4.6 KB)", make: |_| vec![words(420)] },
-    Corpus { name: "words-231kb", label: "21,000 words, 2 levels (231 KB)", make: |_| vec![words(21_000)] },
+    // The same shapes on tapes of 4.6 and of 231 KB, for how the cost grows.
+    Corpus { name: "wide-5kb", label: "102 columns", make: |_| vec![wide(102)] },
+    Corpus { name: "wide-231kb", label: "5,130 columns", make: |_| vec![wide(5_130)] },
+    Corpus { name: "words-5kb", label: "420 words", make: |_| vec![words(420)] },
+    Corpus { name: "words-231kb", label: "21,000 words", make: |_| vec![words(21_000)] },
+    Corpus { name: "keywords-5kb", label: "420 keywords", make: |_| vec![keywords(420)] },
+    Corpus { name: "keywords-231kb", label: "21,000 keywords", make: |_| vec![keywords(21_000)] },
+    Corpus { name: "numbers-5kb", label: "420 numbers", make: |_| vec![numbers(420)] },
+    Corpus { name: "numbers-231kb", label: "21,000 numbers", make: |_| vec![numbers(21_000)] },
+    Corpus { name: "deep-5kb", label: "355 words, 63 tuples", make: |_| vec![deep(355)] },
+    Corpus { name: "deep-231kb", label: "21,000 words, 63 tuples", make: |_| vec![deep(21_000)] },
+    Corpus { name: "group-by-5kb", label: "355 words, 63 GROUP BY", make: |_| vec![group_by(355)] },
+    Corpus { name: "group-by-231kb", label: "21,000 words, 63 GROUP BY", make: |_| vec![group_by(21_000)] },
 ];
 
 /// The corpus of this name.
@@ -150,16 +157,21 @@ fn words(count: usize) -> Case {
     alike(count, "BareWord", "device", &["SelectStatement"])
 }
 
-fn keywords() -> Case {
-    alike(20_000, "BareWord", "select", &["SelectStatement"])
+fn keywords(count: usize) -> Case {
+    alike(count, "BareWord", "select", &["SelectStatement"])
 }
 
-fn numbers() -> Case {
-    alike(20_000, "Number", "12345", &["SelectStatement"])
+fn numbers(count: usize) -> Case {
+    alike(count, "Number", "12345", &["SelectStatement"])
 }
 
-fn nested_words(node: &str, levels: usize) -> Case {
-    alike(20_000, "BareWord", "device", &vec![node; levels - 1])
+/// Words in 63 levels, the outermost a File.
+fn deep(count: usize) -> Case {
+    alike(count, "BareWord", "device", &["TupleExpression"; 62])
+}
+
+fn group_by(count: usize) -> Case {
+    alike(count, "BareWord", "device", &["GroupByClause"; 62])
 }
 
 /// Tokens of one kind that each span 4,096 blanks, a byte after the one before, so that they overlap. A word before them has the layout

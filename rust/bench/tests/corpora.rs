@@ -125,6 +125,21 @@ fn corpora_of_one_shape_have_the_tokens_and_levels_that_they_say() {
 }
 
 #[test]
+fn corpora_of_a_size_have_tapes_of_it() {
+    if !at_hand_for("corpora_of_a_size_have_tapes_of_it") {
+        return;
+    }
+    for (end, sizes) in [("-5kb", 4_600..4_700), ("-231kb", 230_500..232_000)] {
+        let of_it: Vec<&str> = ALL.iter().map(|corpus| corpus.name).filter(|name| name.ends_with(end)).collect();
+        assert_eq!(of_it.len(), 6, "{end}");
+        for name in of_it {
+            let size = only(name).tape.len();
+            assert!(sizes.contains(&size), "{name}: {size}");
+        }
+    }
+}
+
+#[test]
 fn tokens_of_blanks_overlap() {
     if !at_hand_for("tokens_of_blanks_overlap") {
         return;
