@@ -11,7 +11,7 @@ use lib.ListN.{length, getD, drop, length-drop, drop-of-length-le}
 use lib.Seq.{drop-cons}
 use Rattle.keywords.specs.Table.{capital}
 use Rattle.keywords.specs.Index.{code}
-use Rattle.keywords.proofs.Same.{both}
+use Rattle.basics.proofs.Same.{both}
 
 -- the first of capitals is one, and so are the others
 capital-first : (b : ℕ) (w : List ℕ) → T (capital (b ∷ w)) → (65 ≤ b) × (b ≤ 90) × T (capital w)

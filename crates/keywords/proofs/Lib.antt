@@ -1,5 +1,4 @@
 -- The laws that the proofs and the crates above cite.
-pub mod Same
 pub mod Capitals
 pub mod Codes
 pub mod Lookup

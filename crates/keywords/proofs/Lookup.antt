@@ -14,7 +14,7 @@ use Rattle.basics.specs.Match.{match}
 use Rattle.keywords.specs.Words.{capitals, words, same, listed, isKeyword}
 use Rattle.keywords.specs.Table.{capital, entry, entries, words-rule}
 use Rattle.keywords.specs.Index.{shifts, key, code, wordCode, codes}
-use Rattle.keywords.proofs.Same.{both, same-equal}
+use Rattle.basics.proofs.Same.{both, same-equal}
 use Rattle.keywords.proofs.Capitals.{capitals-at}
 use Rattle.keywords.proofs.Codes.{code-injective, code-long, code-first}
 

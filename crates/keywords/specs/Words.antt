@@ -1,11 +1,11 @@
 -- Which words are keywords, and which of them are values: `is_keyword` and `is_value_keyword` of format_node.rs.
-use mathlib.Core.Bool.{Bool, true, false, _&&_, _||_}
+use mathlib.Core.Bool.{Bool, _||_}
 use mathlib.Core.List.{List, [], _∷_, map}
 use Prim.Native.Char.{code}
 use Prim.Native.Nat.{ℕ}
 use Prim.Native.String
 use Prim.Native.String.{String}
-use lib.Dec.{eqb}
+unfoldable pub use Rattle.basics.specs.Bytes.{same, listed}
 use Rattle.basics.specs.Case.{toUppercase}
 use Rattle.keywords.specs.Names.{names}
 
@@ -22,18 +22,6 @@ words = map bytes names
 -- a word in upper case
 abbrev pub capitals : List ℕ → List ℕ
 capitals w = map toUppercase w
-
--- whether two byte lists are equal
-unfoldable pub same : List ℕ → List ℕ → Bool
-same [] [] = true
-same [] (y ∷ ys) = false
-same (x ∷ xs) [] = false
-same (x ∷ xs) (y ∷ ys) = eqb x y && same xs ys
-
--- w is one of the entries
-unfoldable pub listed : List ℕ → List (List ℕ) → Bool
-listed w [] = false
-listed w (e ∷ es) = same e w || listed w es
 
 -- `is_keyword`: the word, in any case, is on the list
 abbrev pub isKeyword : List ℕ → Bool

@@ -6,7 +6,7 @@ use borrow.Author.Needs.{needs}
 use lib.ListN.{length-map}
 use Rattle.basics.specs.Case.{toUppercase}
 use Rattle.keywords.specs.Words.{bytes, capitals}
-use Rattle.keywords.proofs.Same.{same-lengths}
+use Rattle.basics.proofs.Same.{same-lengths}
 use Rattle.keywords.proofs.is_value_keyword.Statement.{statement}
 use Rattle.keywords.proofs.is_value_keyword.Tie as tie
 

@@ -7,7 +7,7 @@ use borrow.Author.Needs.{needs}
 use lib.ListN.{length, drop, drop-of-length-le, length-map}
 use Rattle.basics.specs.Case.{toUppercase}
 use Rattle.keywords.specs.Words.{same, capitals}
-use Rattle.keywords.proofs.Same.{same-lengths, same-step, same-nil}
+use Rattle.basics.proofs.Same.{same-lengths, same-step, same-nil}
 use Rattle.keywords.proofs.Capitals.{capitals-at}
 use Rattle.keywords.proofs.is_word.Statement.{statement}
 use Rattle.keywords.proofs.is_word.Tie as tie

@@ -8,7 +8,7 @@ use borrow.Author.Tests.{eqb-true}
 use lib.Dec.{T, eqb}
 use lib.ListN.{length, drop, getD}
 use lib.Seq.{drop-cons}
-use Rattle.keywords.specs.Words.{same}
+use Rattle.basics.specs.Bytes.{same}
 
 -- both parts of a test that passed
 pub both : (a b : Bool) → T (a && b) → T a × T b
