@@ -1,16 +1,17 @@
 -- What is known where a command is of one sort, and which sort it is by its bytes.
 use Prim.Native.Nat.{ℕ, _+_, _≤_, _<_}
 use native.Mathlib.Omega.{arith}
-use mathlib.Core.Path.{_≡_, refl, ap, subst}
-use mathlib.Core.Bool.{Bool, true, false, cond, not, _&&_, _||_}
+use mathlib.Core.Path.{_≡_, refl, sym, ap, _∙_, subst}
+use mathlib.Core.Bool.{Bool, true, false, false≢true, cond, not, _&&_, _||_, and-false}
 use mathlib.Core.List.{List}
 use lib.ListN.{length, getD}
 use lib.Dec.{leb, ltb, eqb}
 use borrow.Author.Tests.{ltb-true, ltb-false, leb-true, leb-false, eqb-true, eqb-false, lt-ltb, le-ltb, le-leb, lt-leb, ne-eqb}
 use Rattle.tape.specs.declared.Head.{Head}
-use Rattle.tape.specs.declared.Fault.the-variants.{UnknownCommand, CutCommand, UnknownKind, KindNotCarried, SpanOutside, TooDeep, NotOneRoot}
-use Rattle.tape.specs.Kinds.{notCarried}
-use Rattle.tape.specs.Tape.{headAt, Command, ends, faulty, opens, isToken, closes, Sound, Faulty, commandAt, checkOpen, checkToken, byFinding, sound, checked, checkedAt}
+use Rattle.tape.specs.declared.Fault.the-variants.{UnknownCommand, CutCommand, UnknownKind, KindNotCarried, SpanOutside, TooDeep, NotOneRoot, InsideCharacter, WordNotAscii}
+use Rattle.tape.specs.declared.Finding.the-variants.{Sound, Faulty}
+use Rattle.tape.specs.Kinds.{notCarried, BareWord}
+use Rattle.tape.specs.Tape.{headAt, Command, ends, faulty, opens, isToken, closes, SpanTests, lengthAlone, commandAt, checkOpen, checkToken, byFinding, sound, checked, checkedAt}
 use Rattle.tape.specs.SpelledAt.{OpenAt, TokenAt, CloseAt}
 
 -- the command by its byte and by what is left of the tape
@@ -88,16 +89,16 @@ ltb-not m n = go (leb n m) refl
     go true e = le-ltb m n (leb-true n m e)
     go false e = lt-ltb m n (leb-false n m e)
 
--- the tests of an open and of a token in one
+-- the tests of an open and of a token in one, where only the length counts
 pub sound-open : (len depth : ℕ) (h : Head)
-    → ((leb (h .kind) 257 && not (notCarried (h .kind))) && (ltb (h .end) (h .start) || leb (h .end) len) && ltb depth 64) ≡ sound (checkOpen len depth h)
+    → ((leb (h .kind) 257 && not (notCarried (h .kind))) && (ltb (h .end) (h .start) || leb (h .end) len) && ltb depth 64) ≡ sound (checkOpen (lengthAlone len) depth h)
 unfolding checkOpen
 sound-open len depth h =
     rw (leb-not (h .kind) 257, ltb-not (h .end) (h .start), leb-not (h .end) len, ltb-not depth 64)
     (go (ltb 257 (h .kind)) (notCarried (h .kind)) (leb (h .start) (h .end)) (ltb len (h .end)) (leb 64 depth))
   where
     go : (k n o s d : Bool) → ((not k && not n) && (not o || not s) && not d)
-        ≡ sound (cond k (Faulty UnknownKind) (cond n (Faulty KindNotCarried) (cond (o && s) (Faulty SpanOutside) (cond d (Faulty TooDeep) Sound))))
+        ≡ sound (cond k (Faulty UnknownKind) (cond n (Faulty KindNotCarried) (cond (o && s) (Faulty SpanOutside) (cond (o && false) (Faulty InsideCharacter) (cond d (Faulty TooDeep) Sound)))))
     go true n o s d = refl
     go false true o s d = refl
     go false false true true d = refl
@@ -106,71 +107,99 @@ sound-open len depth h =
     go false false false s true = refl
     go false false false s false = refl
 
--- where they find nothing, fewer than 64 nodes are open
-pub open-low : (len depth : ℕ) (h : Head) → not (sound (checkOpen len depth h)) ≡ false → depth < 64
-unfolding checkOpen
-open-low len depth h e = go (ltb 257 (h .kind)) (notCarried (h .kind)) (leb (h .start) (h .end) && ltb len (h .end)) (leb 64 depth) refl e
-  where
-    go : (k n s d : Bool) → leb 64 depth ≡ d
-        → not (sound (cond k (Faulty UnknownKind) (cond n (Faulty KindNotCarried) (cond s (Faulty SpanOutside) (cond d (Faulty TooDeep) Sound))))) ≡ false → depth < 64
-    go true n s d w u = let z : _≡_ {A = ℕ} 0 1 = cc in absurd (omega arith)
-    go false true s d w u = let z : _≡_ {A = ℕ} 0 1 = cc in absurd (omega arith)
-    go false false true d w u = let z : _≡_ {A = ℕ} 0 1 = cc in absurd (omega arith)
-    go false false false true w u = let z : _≡_ {A = ℕ} 0 1 = cc in absurd (omega arith)
-    go false false false false w u = leb-false 64 depth w
-
-pub sound-token : (len : ℕ) (h : Head) → ((leb (h .kind) 257 && leb (h .start) (h .end)) && leb (h .end) len) ≡ sound (checkToken len h)
+pub sound-token : (len : ℕ) (h : Head) → ((leb (h .kind) 257 && leb (h .start) (h .end)) && leb (h .end) len) ≡ sound (checkToken (lengthAlone len) h)
 unfolding checkToken
 sound-token len h =
-    rw (leb-not (h .kind) 257, leb-not (h .start) (h .end), leb-not (h .end) len) (go (ltb 257 (h .kind)) (ltb (h .end) (h .start)) (ltb len (h .end)))
+    rw (leb-not (h .kind) 257, leb-not (h .start) (h .end), leb-not (h .end) len)
+    (go (ltb 257 (h .kind)) (ltb (h .end) (h .start)) (ltb len (h .end)) (eqb (h .kind) BareWord))
   where
-    go : (k o s : Bool) → ((not k && not o) && not s) ≡ sound (cond k (Faulty UnknownKind) (cond (o || s) (Faulty SpanOutside) Sound))
-    go true o s = refl
-    go false true s = refl
-    go false false true = refl
-    go false false false = refl
+    go : (k o s w : Bool) → ((not k && not o) && not s) ≡ sound (cond k (Faulty UnknownKind) (cond (o || s) (Faulty SpanOutside) (cond (w && false) (Faulty WordNotAscii) Sound)))
+    go true o s w = refl
+    go false true s w = refl
+    go false false true w = refl
+    go false false false true = refl
+    go false false false false = refl
 
-module _ (len : ℕ) (tape : List ℕ) where
+-- what 10 and 15 leave of a node's span, 10, 15 and 16 of a token's
+pub record NodePasses (tests : SpanTests) (h : Head) : Type 0 where
+  pub within : h .start ≤ h .end → h .end ≤ tests .length
+  pub at-bounds : leb (h .start) (h .end) && tests .insideCharacter h ≡ false
+
+pub record TokenPasses (tests : SpanTests) (h : Head) : Type 0 where
+  pub ordered : h .start ≤ h .end
+  pub within : h .end ≤ tests .length
+  pub at-bounds : tests .insideCharacter h ≡ false
+  pub word : eqb (h .kind) BareWord && tests .notAscii h ≡ false
+
+pub span-passes : (tests : SpanTests) (h : Head) → h .end ≤ tests .length → tests .insideCharacter h ≡ false → NodePasses tests h
+span-passes tests h l i = record { within = λ _. l; at-bounds = ap (λ t. leb (h .start) (h .end) && t) i ∙ and-false (leb (h .start) (h .end)) }
+
+pub no-span-passes : (tests : SpanTests) (h : Head) → h .end < h .start → NodePasses tests h
+no-span-passes tests h l = record { within = λ le. absurd (omega arith); at-bounds = rw (lt-leb (h .start) (h .end) l) }
+
+-- once kind and span of an open pass, the depth decides
+pub open-rest : (tests : SpanTests) (depth : ℕ) (h : Head) → h .kind ≤ 257 → notCarried (h .kind) ≡ false → NodePasses tests h
+    → checkOpen tests depth h ≡ cond (leb 64 depth) (Faulty TooDeep) Sound
+unfolding checkOpen
+open-rest tests depth h k n passes = rw (le-ltb 257 (h .kind) k, n, outside (leb (h .start) (h .end)) refl, passes .at-bounds)
+  where
+    outside : (o : Bool) → leb (h .start) (h .end) ≡ o → leb (h .start) (h .end) && ltb (tests .length) (h .end) ≡ false
+    outside true e = rw (e, le-ltb (tests .length) (h .end) (passes .within (leb-true (h .start) (h .end) e)))
+    outside false e = rw e
+
+module _ (tests : SpanTests) (tape : List ℕ) where
   -- what is known where the checked command is of one sort
   abbrev Known : ℕ → ℕ → Command → Type 0
   Known depth p ends = length tape ≤ p
   Known depth p (faulty f) = Unit {0}
-  Known depth p opens = OpenAt len tape p (headAt tape p) × (depth < 64)
-  Known depth p isToken = TokenAt len tape p (headAt tape p)
-  Known depth p closes = CloseAt len tape p
+  Known depth p opens = OpenAt (tests .length) tape p (headAt tape p) × (depth < 64) × NodePasses tests (headAt tape p)
+  Known depth p isToken = TokenAt (tests .length) tape p (headAt tape p) × TokenPasses tests (headAt tape p)
+  Known depth p closes = CloseAt (tests .length) tape p
 
-  open-known : (depth p : ℕ) → getD tape p 0 ≡ 1 → p + 11 ≤ length tape → Known depth p (byFinding (checkOpen len depth (headAt tape p)) opens)
+  open-known : (depth p : ℕ) → getD tape p 0 ≡ 1 → p + 11 ≤ length tape → Known depth p (byFinding (checkOpen tests depth (headAt tape p)) opens)
   unfolding checkOpen
   open-known depth p byte inside =
-      go (ltb 257 (headAt tape p .kind)) (notCarried (headAt tape p .kind)) (leb (headAt tape p .start) (headAt tape p .end)) (ltb len (headAt tape p .end)) (leb 64 depth)
+      go (ltb 257 (h .kind)) (notCarried (h .kind)) (leb (h .start) (h .end) && ltb (tests .length) (h .end)) (leb (h .start) (h .end) && tests .insideCharacter h) (leb 64 depth)
       refl refl refl refl refl
     where
-      go : (k n o s d : Bool)
-          → ltb 257 (headAt tape p .kind) ≡ k → notCarried (headAt tape p .kind) ≡ n → leb (headAt tape p .start) (headAt tape p .end) ≡ o → ltb len (headAt tape p .end) ≡ s → leb 64 depth ≡ d
-          → Known depth p (byFinding (cond k (Faulty UnknownKind) (cond n (Faulty KindNotCarried) (cond (o && s) (Faulty SpanOutside) (cond d (Faulty TooDeep) Sound)))) opens)
-      go true n o s d u v w x y = tt
-      go false true o s d u v w x y = tt
-      go false false true true d u v w x y = tt
-      go false false true false true u v w x y = tt
-      go false false true false false u v w x y =
-          (record { byte = byte; head = refl; inside = inside; kind = ltb-false 257 (headAt tape p .kind) u; carried = v; span = λ _. ltb-false len (headAt tape p .end) x }, leb-false 64 depth y)
-      go false false false s true u v w x y = tt
-      go false false false s false u v w x y =
-          (record { byte = byte; head = refl; inside = inside; kind = ltb-false 257 (headAt tape p .kind) u; carried = v; span = λ le. absurd (omega (arith, leb-false (headAt tape p .start) (headAt tape p .end) w)) }, leb-false 64 depth y)
+      h : Head
+      h = headAt tape p
 
-  token-known : (depth p : ℕ) → getD tape p 0 ≡ 2 → p + 11 ≤ length tape → Known depth p (cond (eqb depth 0) (faulty NotOneRoot) (byFinding (checkToken len (headAt tape p)) isToken))
+      span : leb (h .start) (h .end) && ltb (tests .length) (h .end) ≡ false → h .start ≤ h .end → h .end ≤ tests .length
+      span e le = ltb-false (tests .length) (h .end) (sym (ap (λ t. t && ltb (tests .length) (h .end)) (le-leb (h .start) (h .end) le)) ∙ e)
+
+      go : (k n s i d : Bool)
+          → ltb 257 (h .kind) ≡ k → notCarried (h .kind) ≡ n → leb (h .start) (h .end) && ltb (tests .length) (h .end) ≡ s → leb (h .start) (h .end) && tests .insideCharacter h ≡ i
+          → leb 64 depth ≡ d
+          → Known depth p (byFinding (cond k (Faulty UnknownKind) (cond n (Faulty KindNotCarried) (cond s (Faulty SpanOutside) (cond i (Faulty InsideCharacter) (cond d (Faulty TooDeep) Sound))))) opens)
+      go true n s i d u v w x y = tt
+      go false true s i d u v w x y = tt
+      go false false true i d u v w x y = tt
+      go false false false true d u v w x y = tt
+      go false false false false true u v w x y = tt
+      go false false false false false u v w x y =
+          (record { byte = byte; head = refl; inside = inside; kind = ltb-false 257 (h .kind) u; carried = v; span = span w }, leb-false 64 depth y, record { within = span w; at-bounds = x })
+
+  token-known : (depth p : ℕ) → getD tape p 0 ≡ 2 → p + 11 ≤ length tape → Known depth p (cond (eqb depth 0) (faulty NotOneRoot) (byFinding (checkToken tests (headAt tape p)) isToken))
   unfolding checkToken
   token-known depth p byte inside =
-      go (eqb depth 0) (ltb 257 (headAt tape p .kind)) (ltb (headAt tape p .end) (headAt tape p .start)) (ltb len (headAt tape p .end)) refl refl refl
+      go (eqb depth 0) (ltb 257 (h .kind)) (ltb (h .end) (h .start)) (ltb (tests .length) (h .end)) (tests .insideCharacter h) (eqb (h .kind) BareWord && tests .notAscii h) refl refl refl refl refl
     where
-      go : (z k o s : Bool) → ltb 257 (headAt tape p .kind) ≡ k → ltb (headAt tape p .end) (headAt tape p .start) ≡ o → ltb len (headAt tape p .end) ≡ s
-          → Known depth p (cond z (faulty NotOneRoot) (byFinding (cond k (Faulty UnknownKind) (cond (o || s) (Faulty SpanOutside) Sound)) isToken))
-      go true k o s v w x = tt
-      go false true o s v w x = tt
-      go false false true s v w x = tt
-      go false false false true v w x = tt
-      go false false false false v w x =
-          record { byte = byte; head = refl; inside = inside; kind = ltb-false 257 (headAt tape p .kind) v; ordered = ltb-false (headAt tape p .end) (headAt tape p .start) w; within = ltb-false len (headAt tape p .end) x }
+      h : Head
+      h = headAt tape p
+
+      go : (z k o s i w : Bool) → ltb 257 (h .kind) ≡ k → ltb (h .end) (h .start) ≡ o → ltb (tests .length) (h .end) ≡ s → tests .insideCharacter h ≡ i → eqb (h .kind) BareWord && tests .notAscii h ≡ w
+          → Known depth p (cond z (faulty NotOneRoot) (byFinding (cond k (Faulty UnknownKind) (cond (o || s) (Faulty SpanOutside) (cond i (Faulty InsideCharacter) (cond w (Faulty WordNotAscii) Sound)))) isToken))
+      go true k o s i w t u v x y = tt
+      go false true o s i w t u v x y = tt
+      go false false true s i w t u v x y = tt
+      go false false false true i w t u v x y = tt
+      go false false false false true w t u v x y = tt
+      go false false false false false true t u v x y = tt
+      go false false false false false false t u v x y =
+          let o = ltb-false (h .end) (h .start) u in
+          let l = ltb-false (tests .length) (h .end) v in
+          (record { byte = byte; head = refl; inside = inside; kind = ltb-false 257 (h .kind) t; ordered = o; within = l }, record { ordered = o; within = l; at-bounds = x; word = y })
 
   close-known : (depth p : ℕ) → getD tape p 0 ≡ 3 → p + 1 ≤ length tape → Known depth p (cond (eqb depth 0) (faulty NotOneRoot) closes)
   close-known depth p byte inside = go (eqb depth 0)
@@ -179,21 +208,36 @@ module _ (len : ℕ) (tape : List ℕ) where
       go true = tt
       go false = record { byte = byte; inside = inside }
 
-  known : (depth p : ℕ) → Known depth p (checkedAt len tape depth p)
+  known : (depth p : ℕ) → Known depth p (checkedAt tests tape depth p)
   unfolding checkedAt
   known depth p = go (commandAt tape p) (framed tape p)
     where
-      go : (x : Command) → Framed tape p x → Known depth p (checked len tape depth p x)
+      go : (x : Command) → Framed tape p x → Known depth p (checked tests tape depth p x)
       go ends k = k
       go (faulty f) k = tt
       go opens k = open-known depth p (k .0) (k .1)
       go isToken k = token-known depth p (k .0) (k .1)
       go closes k = close-known depth p (k .0) (k .1)
 
-  pub known-of : (depth p : ℕ) {x : Command} → checkedAt len tape depth p ≡ x → Known depth p x
+  pub known-of : (depth p : ℕ) {x : Command} → checkedAt tests tape depth p ≡ x → Known depth p x
   known-of depth p e = subst (Known depth p) e (known depth p)
 
   -- the checked command by the command and its tests
-  pub checked-of : (depth p : ℕ) {x : Command} → commandAt tape p ≡ x → checkedAt len tape depth p ≡ checked len tape depth p x
+  pub checked-of : (depth p : ℕ) {x : Command} → commandAt tape p ≡ x → checkedAt tests tape depth p ≡ checked tests tape depth p x
   unfolding checkedAt
-  checked-of depth p e = ap (checked len tape depth p) e
+  checked-of depth p e = ap (checked tests tape depth p) e
+
+-- where the tests of an open find nothing, fewer than 64 nodes are open
+pub open-low : (tests : SpanTests) (depth : ℕ) (h : Head) → checkOpen tests depth h ≡ Sound → depth < 64
+unfolding checkOpen
+open-low tests depth h e =
+    go (ltb 257 (h .kind)) (notCarried (h .kind)) (leb (h .start) (h .end) && ltb (tests .length) (h .end)) (leb (h .start) (h .end) && tests .insideCharacter h) (leb 64 depth) refl (ap sound e)
+  where
+    go : (k n s i d : Bool) → leb 64 depth ≡ d
+        → sound (cond k (Faulty UnknownKind) (cond n (Faulty KindNotCarried) (cond s (Faulty SpanOutside) (cond i (Faulty InsideCharacter) (cond d (Faulty TooDeep) Sound))))) ≡ true → depth < 64
+    go true n s i d w u = absurd (false≢true u)
+    go false true s i d w u = absurd (false≢true u)
+    go false false true i d w u = absurd (false≢true u)
+    go false false false true d w u = absurd (false≢true u)
+    go false false false false true w u = absurd (false≢true u)
+    go false false false false false w u = leb-false 64 depth w

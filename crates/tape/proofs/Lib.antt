@@ -3,9 +3,11 @@ pub mod KnownCommands
 pub mod Trees
 pub mod Reading
 pub mod NotedFacts
+pub mod SpanBounds
+pub mod LengthAlone
+pub mod AsciiTexts
 pub mod Acceptance
 pub mod CheckSteps
-pub mod Ascii
 pub mod Skips
 pub mod Order
 pub mod Samples

@@ -70,6 +70,17 @@ module _ (len : ℕ) (tape : List ℕ) where
   nodes-fit p (node h kids rest) l =
       ((l .0 .kind, l .0 .carried, l .0 .span), nodes-fit (p + 11) kids (l .1), nodes-fit (p + 11 + size kids) rest (l .2))
 
+-- what follows from what holds of each token, of each node
+pub each-token : {P Q : Head → Type 0} → ((h : Head) → P h → Q h) → (c : Children) → EachToken P c → EachToken Q c
+each-token f done e = tt
+each-token f (token h rest) e = (f h (e .0), each-token f rest (e .1))
+each-token f (node h kids rest) e = (each-token f kids (e .0), each-token f rest (e .1))
+
+pub each-node : {P Q : Head → Children → Type 0} → ((h : Head) (kids : Children) → P h kids → Q h kids) → (c : Children) → EachNode P c → EachNode Q c
+each-node f done e = tt
+each-node f (token h rest) e = each-node f rest e
+each-node f (node h kids rest) e = (f h kids (e .0), each-node f kids (e .1), each-node f rest (e .2))
+
 -- one row of children lies at a place, whatever the text's length
 pub spelled-one : (m n : ℕ) (tape : List ℕ) (p : ℕ) (c d : Children) → SpelledAt m tape p c → SpelledAt n tape p d → c ≡ d
 unfolding SpelledAt

@@ -1,15 +1,17 @@
 -- Which tree a tape spells at a place, and what an accepted tape gives to those that walk it.
 use Prim.Native.Nat.{ℕ, suc, _+_, _≤_, _<_}
 use mathlib.Core.Path.{_≡_}
-use mathlib.Core.Bool.{false}
+use mathlib.Core.Bool.{true, false}
 use mathlib.Core.List.{List}
 use lib.ListN.{length, getD}
+use Rattle.basics.specs.Bytes.{tokenText}
+use Rattle.utf8.specs.Table.{isAscii}
+use Rattle.utf8.specs.Pieces.{WellFormed, Boundary}
 use Rattle.tape.specs.declared.Head.{Head}
-use Rattle.tape.specs.declared.Place.the-variants.{Nowhere}
-use Rattle.tape.specs.Kinds.{notCarried}
-use Rattle.tape.specs.Tree.{Children, done, token, node, Tree, size, height}
+use Rattle.tape.specs.Kinds.{notCarried, BareWord}
+use Rattle.tape.specs.Tree.{Children, done, token, node, Tree, size, height, EachToken, EachNode}
 use Rattle.tape.specs.Tape.{headAt, got, readTree}
-use Rattle.tape.specs.Call.{firstNonAscii, readCall}
+use Rattle.tape.specs.Call.{readCall}
 
 module _ (len : ℕ) (tape : List ℕ) where
   -- the open of the head h stands at p
@@ -49,15 +51,32 @@ module _ (len : ℕ) (tape : List ℕ) where
     pub whole : 11 + size (tree .kids) ≡ length tape
     pub depth : suc (height (tree .kids)) ≤ 64
 
--- what is known where nothing of 1 to 12 is due
+-- what 10, 15 and 16 leave of the span of a token and of a node; one with its start above its end has none
+module _ (text : List ℕ) where
+  pub record TokenInText (h : Head) : Type 0 where
+    pub ordered : h .start ≤ h .end
+    pub within : h .end ≤ length text
+    pub start : Boundary text (h .start)
+    pub end : Boundary text (h .end)
+    pub word : h .kind ≡ BareWord → isAscii (tokenText text (h .start) (h .end)) ≡ true
+
+  pub record NodeInText (h : Head) : Type 0 where
+    pub within : h .start ≤ h .end → h .end ≤ length text
+    pub start : h .start ≤ h .end → Boundary text (h .start)
+    pub end : h .start ≤ h .end → Boundary text (h .end)
+
+-- what is known where nothing of 1 to 12, 15 and 16 is due
 pub record AcceptedCall (width case : ℕ) (text tape : List ℕ) : Type 0 where
   pub width-fits : width ≤ 16
   pub case-fits : case ≤ 1
   pub text-fits : length text ≤ 262144
-  pub ascii : firstNonAscii 0 text ≡ Nowhere
+  pub well-formed : WellFormed text
   pub tape-fits : length tape ≤ 262144
   pub accepted : AcceptedTape (length text) tape
   pub read : readCall width case text tape ≡ got (accepted .tree) (length tape)
+  pub root : NodeInText text (accepted .tree .head)
+  pub tokens : EachToken (TokenInText text) (accepted .tree .kids)
+  pub nodes : EachNode (λ h kids. NodeInText text h) (accepted .tree .kids)
 
 -- a node opens at p, and the tape spells its children after it
 pub record NodeAt (tape : List ℕ) (p : ℕ) : Type 0 where

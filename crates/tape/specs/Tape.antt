@@ -1,16 +1,21 @@
--- The tape: what each command is, which refusal it meets, and the tree that a tape holds. Of the text only its length counts.
-use Prim.Native.Nat.{ℕ, zero, suc, _+_, _*_}
+-- The tape: what each command is, which refusal it meets, and the tree that a tape holds.
+use Prim.Native.Nat.{ℕ, zero, suc, _+_, _*_, _≤_}
 use mathlib.Core.Path.{_≡_}
-use mathlib.Core.Bool.{Bool, true, false, cond, _&&_, _||_}
+use mathlib.Core.Bool.{Bool, true, false, cond, not, _&&_, _||_}
 use mathlib.Core.List.{List}
-use lib.ListN.{length, getD}
+use lib.ListN.{length, take, getD}
 use lib.Dec.{leb, ltb, eqb}
+use Rattle.basics.specs.Bytes.{tokenText}
+use Rattle.utf8.specs.Table.{isAscii}
+use Rattle.utf8.specs.Pieces.{pieces, WellFormed, inside}
 use Rattle.tape.specs.declared.Head.{Head}
 use Rattle.tape.specs.declared.Fault.{Fault}
-use Rattle.tape.specs.declared.Fault.the-variants.{UnknownCommand, CutCommand, UnknownKind, KindNotCarried, SpanOutside, TooDeep, NotOneRoot}
+use Rattle.tape.specs.declared.Fault.the-variants.{UnknownCommand, CutCommand, UnknownKind, KindNotCarried, SpanOutside, TooDeep, NotOneRoot, InsideCharacter, WordNotAscii}
+use Rattle.tape.specs.declared.Finding.{Finding}
+use Rattle.tape.specs.declared.Finding.the-variants.{Sound, Faulty}
 use Rattle.tape.specs.declared.Checked.{Checked}
 use Rattle.tape.specs.declared.Checked.the-variants.{Accepted, Refused}
-use Rattle.tape.specs.Kinds.{notCarried, ErrorMaxQuerySizeExceeded}
+use Rattle.tape.specs.Kinds.{notCarried, BareWord, ErrorMaxQuerySizeExceeded}
 use Rattle.tape.specs.Tree.{Children, done, token, node, Tree}
 
 -- the number of two, of four bytes at a place, low byte first
@@ -44,33 +49,56 @@ commandAt tape p =
     (cond (eqb c 2) (whole tape p isToken)
     (cond (eqb c 3) closes (faulty UnknownCommand))))
 
--- what the tests of a command's operands find
-pub data Finding : Type 0 where
-  Sound : Finding
-  Faulty : Fault → Finding
+-- what the tests of a span ask of the text: its length for 10; whether the span starts or ends inside a character for 15; whether it
+-- holds a byte above 127 for 16
+pub record SpanTests : Type 0 where
+  pub length : ℕ
+  pub insideCharacter : Head → Bool
+  pub notAscii : Head → Bool
 
--- 8 to 11 for the open of a node, with depth nodes open before it
-unfoldable pub checkOpen : ℕ → ℕ → Head → Finding
-checkOpen len depth h =
+abbrev pub testsOf : List ℕ → SpanTests
+testsOf text =
+    record {
+      length = length text;
+      insideCharacter = λ h. inside (h .start) (pieces text) || inside (h .end) (pieces text);
+      notAscii = λ h. not (isAscii (tokenText text (h .start) (h .end)));
+    }
+
+-- by the text's length alone: neither 15 nor 16 is looked for
+abbrev pub lengthAlone : ℕ → SpanTests
+lengthAlone len = record { length = len; insideCharacter = λ h. false; notAscii = λ h. false }
+
+-- 8, 9, 10, 15 and 11 for the open of a node, with depth nodes open before it
+unfoldable pub checkOpen : SpanTests → ℕ → Head → Finding
+checkOpen tests depth h =
     cond (ltb ErrorMaxQuerySizeExceeded (h .kind)) (Faulty UnknownKind)
     (cond (notCarried (h .kind)) (Faulty KindNotCarried)
-    (cond (leb (h .start) (h .end) && ltb len (h .end)) (Faulty SpanOutside)
-    (cond (leb 64 depth) (Faulty TooDeep) Sound)))
+    (cond (leb (h .start) (h .end) && ltb (tests .length) (h .end)) (Faulty SpanOutside)
+    (cond (leb (h .start) (h .end) && tests .insideCharacter h) (Faulty InsideCharacter)
+    (cond (leb 64 depth) (Faulty TooDeep) Sound))))
 
--- 8 and 10 for a token
-unfoldable pub checkToken : ℕ → Head → Finding
-checkToken len h =
+-- 8, 10, 15 and 16 for a token
+unfoldable pub checkToken : SpanTests → Head → Finding
+checkToken tests h =
     cond (ltb ErrorMaxQuerySizeExceeded (h .kind)) (Faulty UnknownKind)
-    (cond (ltb (h .end) (h .start) || ltb len (h .end)) (Faulty SpanOutside) Sound)
+    (cond (ltb (h .end) (h .start) || ltb (tests .length) (h .end)) (Faulty SpanOutside)
+    (cond (tests .insideCharacter h) (Faulty InsideCharacter)
+    (cond (eqb (h .kind) BareWord && tests .notAscii h) (Faulty WordNotAscii) Sound)))
 
--- the tests find no fault; where they find one, it is f
+-- the tests find no fault
 abbrev pub sound : Finding → Bool
 sound Sound = true
 sound (Faulty f) = false
 
-abbrev pub Tells : Finding → Fault → Type 0
-Tells Sound f = Unit {0}
-Tells (Faulty g) f = f ≡ g
+-- so many bytes at the text's start are ASCII
+pub record AsciiStart (text : List ℕ) (n : ℕ) : Type 0 where
+  pub within : n ≤ length text
+  pub ascii : isAscii (take n text) ≡ true
+
+-- what is known of the text when its tape is read
+pub record KnownText (text : List ℕ) (n : ℕ) : Type 0 where
+  pub well-formed : WellFormed text
+  pub start : AsciiStart text n
 
 -- what reading comes to: a refusal and its place; or a value and the place after it
 pub data Read (A : Type 0) : Type 0 where
@@ -109,13 +137,13 @@ abbrev pub byFinding : Finding → Command → Command
 byFinding Sound x = x
 byFinding (Faulty f) x = faulty f
 
-module _ (len : ℕ) (tape : List ℕ) where
-  -- after 6 and 7 comes 12, a token or a close with no node open, then 8 to 11
+module _ (tests : SpanTests) (tape : List ℕ) where
+  -- after 6 and 7 comes 12, a token or a close with no node open, then the tests of the operands
   abbrev pub checked : ℕ → ℕ → Command → Command
   checked depth p ends = ends
   checked depth p (faulty f) = faulty f
-  checked depth p opens = byFinding (checkOpen len depth (headAt tape p)) opens
-  checked depth p isToken = cond (eqb depth 0) (faulty NotOneRoot) (byFinding (checkToken len (headAt tape p)) isToken)
+  checked depth p opens = byFinding (checkOpen tests depth (headAt tape p)) opens
+  checked depth p isToken = cond (eqb depth 0) (faulty NotOneRoot) (byFinding (checkToken tests (headAt tape p)) isToken)
   checked depth p closes = cond (eqb depth 0) (faulty NotOneRoot) closes
 
   -- the command at p with depth nodes open
@@ -130,11 +158,15 @@ module _ (len : ℕ) (tape : List ℕ) where
       (λ h. andThen (readChildren n (suc depth) (p + 11)) (λ kids q. andThen (readChildren n depth q) (λ rest r. got (node h kids rest) r)))
       (λ h. andThen (readChildren n depth (p + 11)) (λ rest r. got (token h rest) r))
 
-  -- 6 to 12: the tree that the tape holds, or the first faulty command
-  unfoldable pub readTree : Read Tree
-  readTree =
+  -- 6 to 12, 15 and 16: the tree that the tape holds, or the first faulty command
+  unfoldable pub readTape : Read Tree
+  readTape =
       byRoot tape (checkedAt 0 0)
       (λ h. andThen (readChildren (length tape) 1 11) (λ kids p. byEnd (commandAt tape p) (record { head = h; kids = kids }) p))
+
+-- the same by the text's length alone: what it is wherever neither 15 nor 16 refuses
+unfoldable pub readTree : ℕ → List ℕ → Read Tree
+readTree len tape = readTape (lengthAlone len) tape
 
 -- what a check answers of a reading
 abbrev pub verdict : Read Tree → Checked

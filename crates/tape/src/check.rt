@@ -1,25 +1,25 @@
-// Refusals 1 to 12.
+// Refusals 1 to 12, 15 and 16.
 use crate::Checked;
 use crate::Fault;
-use crate::Place;
+use crate::Finding;
+use crate::commands::check_open;
+use crate::commands::check_token;
 use crate::commands::head_at;
-use crate::commands::open_fault;
-use crate::commands::sound_open;
-use crate::commands::sound_token;
-use crate::commands::token_fault;
 use crate::facts::opened;
 use crate::facts::with_child;
+use utf8::Place;
+use utf8::first_ill_formed;
+use utf8::is_ascii;
 ghost use mathlib.Core.Path.{_≡_};
-ghost use mathlib.Core.Bool.{true};
 ghost use Prim.Native.Nat.{_*_, _≤_};
 ghost use lib.ListN.{length};
-ghost use Rattle.tape.specs.declared.Place.the-variants.{Nowhere};
+ghost use Rattle.utf8.specs.Pieces.{firstIllFormed};
 ghost use Rattle.tape.specs.Faults.{number};
-ghost use Rattle.tape.specs.Tape.{readTree, verdict};
+ghost use Rattle.tape.specs.Tape.{testsOf, AsciiStart, KnownText, readTape, verdict};
 ghost use Rattle.tape.specs.NodeFacts.{NotedOf};
-ghost use Rattle.tape.specs.Call.{firstNonAscii, readInput, readCall};
+ghost use Rattle.tape.specs.Call.{readInput, readCall};
 
-// The number that the caller is told.
+// The number that the caller is told; 13 and 14 are of the calls above.
 pub fn number(fault: Fault) -> u64
     ensures { λ r. ⌜ r ≡ number fault ⌝ }
 {
@@ -27,7 +27,7 @@ pub fn number(fault: Fault) -> u64
         Fault::IndentWidth => 1,
         Fault::CaseByte => 2,
         Fault::TextTooLong => 3,
-        Fault::NotAscii => 4,
+        Fault::IllFormed => 4,
         Fault::TapeTooLong => 5,
         Fault::UnknownCommand => 6,
         Fault::CutCommand => 7,
@@ -36,14 +36,17 @@ pub fn number(fault: Fault) -> u64
         Fault::SpanOutside => 10,
         Fault::TooDeep => 11,
         Fault::NotOneRoot => 12,
+        Fault::InsideCharacter => 15,
+        Fault::WordNotAscii => 16,
     }
 }
 
-// 6 to 12: the tape is read once from its start, and the first faulty command decides. `len` is the text's length. `parents` has the index of each open
-// node's byte in `facts`, from place 1 on; what is noted for the root's parent, at place 0, the root's own byte takes the place of.
-fn check(len: usize, tape: &[u8], facts: &mut [u8]) -> Checked
-    requires { ⌜ (length (now tape) ≤ 262144) × (length (now tape) ≤ 11 * length (now facts)) ⌝ }
-    ensures { λ r. ⌜ (r ≡ verdict (readTree len (now (tape .entry)))) × NotedOf (readTree len (now (tape .entry))) (now (facts .exit)) ⌝ }
+// 6 to 12, 15 and 16: the tape is read once from its start, and the first faulty command decides. `ascii`: so many bytes at the text's start are ASCII.
+// `parents` has the index of each open node's byte in `facts`, from place 1 on; what is noted for the root's parent, at place 0, the root's own byte takes
+// the place of.
+fn check(text: &[u8], ascii: usize, tape: &[u8], facts: &mut [u8]) -> Checked
+    requires { ⌜ KnownText (now text) ascii × (length (now tape) ≤ 262144) × (length (now tape) ≤ 11 * length (now facts)) ⌝ }
+    ensures { λ r. ⌜ (r ≡ verdict (readTape (testsOf (now (text .entry))) (now (tape .entry)))) × NotedOf (readTape (testsOf (now (text .entry))) (now (tape .entry))) (now (facts .exit)) ⌝ }
 {
     let mut parents = [0u16; 65];
     let mut depth: usize = 0;
@@ -70,8 +73,9 @@ fn check(len: usize, tape: &[u8], facts: &mut [u8]) -> Checked
                 if depth == 0 {
                     return Checked::Refused(Fault::NotOneRoot, at);
                 }
-                if !sound_token(len, head) {
-                    return Checked::Refused(token_fault(head), at);
+                let found = check_token(text, ascii, head);
+                if let Finding::Faulty(fault) = found {
+                    return Checked::Refused(fault, at);
                 }
                 at += 11;
             } else {
@@ -81,8 +85,9 @@ fn check(len: usize, tape: &[u8], facts: &mut [u8]) -> Checked
                         return Checked::Refused(Fault::NotOneRoot, at);
                     }
                 }
-                if !sound_open(len, depth, head) {
-                    return Checked::Refused(open_fault(len, head), at);
+                let found = check_open(text, ascii, depth, head);
+                if let Finding::Faulty(fault) = found {
+                    return Checked::Refused(fault, at);
                 }
                 let parent = parents[depth] as usize;
                 facts[parent] = with_child(facts[parent], head.kind);
@@ -103,40 +108,28 @@ fn check(len: usize, tape: &[u8], facts: &mut [u8]) -> Checked
     Checked::Accepted
 }
 
-// Whether every byte is below 128. It has no early exit, so that the machine takes many bytes at a time.
-fn is_ascii(text: &[u8]) -> bool
-    ensures { λ r. ⌜ (r ≡ true → firstNonAscii 0 (now (text .entry)) ≡ Nowhere) ⌝ }
-{
-    let mut highest: u8 = 0;
-    let mut i: usize = 0;
-    while i < text.len() {
-        let b = text[i];
-        if highest < b {
-            highest = b;
-        }
-        i += 1;
-    }
-    highest < 128
-}
-
-// 4: the place of the first byte above 127.
-fn first_non_ascii(text: &[u8]) -> Place
-    ensures { λ r. ⌜ r ≡ firstNonAscii 0 (now (text .entry)) ⌝ }
+// How many bytes at the text's start are ASCII: all of them, or it is not told.
+fn ascii_start(text: &[u8]) -> usize
+    ensures { λ r. ⌜ AsciiStart (now (text .entry)) r ⌝ }
 {
     if is_ascii(text) {
-        return Place::Nowhere;
+        return text.len();
     }
-    let mut i: usize = 0;
-    while i < text.len() {
-        if 127 < text[i] {
-            return Place::At(i);
-        }
-        i += 1;
-    }
-    Place::Nowhere
+    0
 }
 
-// 3 to 12: text and tape.
+// 4: the place of the first byte that is not part of a well-formed character, where so many bytes at the text's start are ASCII.
+fn ill_formed_at(text: &[u8], ascii: usize) -> Place
+    requires { ⌜ AsciiStart (now text) ascii ⌝ }
+    ensures { λ r. ⌜ r ≡ firstIllFormed 0 (now (text .entry)) ⌝ }
+{
+    if ascii == text.len() {
+        return Place::Nowhere;
+    }
+    first_ill_formed(text)
+}
+
+// 3 to 12, 15 and 16: text and tape.
 fn check_input(text: &[u8], tape: &[u8], facts: &mut [u8]) -> Checked
     requires { ⌜ (length (now tape) ≤ 262144 → length (now tape) ≤ 11 * length (now facts)) ⌝ }
     ensures { λ r. ⌜ (r ≡ verdict (readInput (now (text .entry)) (now (tape .entry)))) × NotedOf (readInput (now (text .entry)) (now (tape .entry))) (now (facts .exit)) ⌝ }
@@ -144,17 +137,18 @@ fn check_input(text: &[u8], tape: &[u8], facts: &mut [u8]) -> Checked
     if 262144 < text.len() {
         return Checked::Refused(Fault::TextTooLong, 0);
     }
-    let high = first_non_ascii(text);
-    if let Place::At(p) = high {
-        return Checked::Refused(Fault::NotAscii, p);
+    let ascii = ascii_start(text);
+    let ill_formed = ill_formed_at(text, ascii);
+    if let Place::At(p) = ill_formed {
+        return Checked::Refused(Fault::IllFormed, p);
     }
     if 262144 < tape.len() {
         return Checked::Refused(Fault::TapeTooLong, 0);
     }
-    check(text.len(), tape, facts)
+    check(text, ascii, tape, facts)
 }
 
-// 1 to 12: settings, text and tape; and in `facts`, which has room for each node, what is to be known of them.
+// 1 to 12, 15 and 16: settings, text and tape; and in `facts`, which has room for each node, what is to be known of them.
 pub fn check_call(width: u64, case: u64, text: &[u8], tape: &[u8], facts: &mut [u8]) -> Checked
     requires { ⌜ (length (now tape) ≤ 262144 → length (now tape) ≤ 11 * length (now facts)) ⌝ }
     ensures { λ r. ⌜ (r ≡ verdict (readCall width case (now (text .entry)) (now (tape .entry)))) × NotedOf (readCall width case (now (text .entry)) (now (tape .entry))) (now (facts .exit)) ⌝ }

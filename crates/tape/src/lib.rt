@@ -1,4 +1,4 @@
-// The tape: its commands, the check of refusals 1 to 12, what it notes of each node, and the way past a node.
+// The tape: its commands, the check of refusals 1 to 12, 15 and 16, what it notes of each node, and the way past a node.
 pub mod check;
 pub mod commands;
 pub mod facts;
@@ -13,12 +13,12 @@ pub struct Head {
     pub at: usize,
 }
 
-// What a refusal is for, 1 to 12 in this order.
+// What a refusal is for: 1 to 12 in this order, then 15 and 16.
 pub enum Fault {
     IndentWidth,
     CaseByte,
     TextTooLong,
-    NotAscii,
+    IllFormed,
     TapeTooLong,
     UnknownCommand,
     CutCommand,
@@ -27,16 +27,18 @@ pub enum Fault {
     SpanOutside,
     TooDeep,
     NotOneRoot,
+    InsideCharacter,
+    WordNotAscii,
+}
+
+// What the tests of a command's operands find.
+pub enum Finding {
+    Sound,
+    Faulty(Fault),
 }
 
 // The answer of a check: accepted; or the fault and its place.
 pub enum Checked {
     Accepted,
     Refused(Fault, usize),
-}
-
-// A place in the text, or none.
-pub enum Place {
-    Nowhere,
-    At(usize),
 }

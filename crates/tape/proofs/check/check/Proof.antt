@@ -1,10 +1,10 @@
 -- `check` meets its contract. The loop's invariant is `Checking`, the measure what is left of the tape; each exit and each pass is one law of `CheckSteps`.
 use Prim.Native.Nat.{_-_}
 use native.Mathlib.Omega.{arith}
-use mathlib.Core.Path.{sym, ap, _∙_}
-use mathlib.Core.Bool.{not}
+use mathlib.Core.Path.{sym, _∙_}
 use mathlib.Core.Logic.{⊎-elim}
 use lib.ListN.{length, length-set}
+use Rattle.tape.specs.Tape.{testsOf}
 use Rattle.tape.proofs.KnownCommands.{at-close, at-open, at-token, at-cut, at-unknown, open-low}
 use Rattle.tape.proofs.CheckSteps.{Checking, start, broken, stray-close, stray-token, second-root, faulty-token, faulty-open, next-close, next-token, next-open, end-open, no-root, end-root}
 use borrow.Author.Needs.{needs}
@@ -12,10 +12,10 @@ use Rattle.tape.proofs.check.check.Statement.{statement}
 use Rattle.tape.proofs.check.check.Tie as tie
 
 abbrev Inv-loop : tie.InvT-loop
-Inv-loop len tape facts₀ parents₀ depth₀ at₀ facts parents depth at = Checking len tape facts₀ depth at parents facts
+Inv-loop text ascii tape facts₀ parents₀ depth₀ at₀ facts parents depth at = Checking (testsOf text) tape facts₀ depth at parents facts
 
 abbrev μ-loop : tie.MeasureT-loop
-μ-loop len tape facts₀ parents₀ depth₀ at₀ facts parents depth at = length tape - at
+μ-loop text ascii tape facts₀ parents₀ depth₀ at₀ facts parents depth at = length tape - at
 
 loop-holds : tie.Need-loop-holds Inv-loop μ-loop
 loop-holds c = start _ _ _
@@ -67,19 +67,22 @@ same-length-4 c = c .before .before .before .before .before .before .before .bef
 returns-4 : tie.Need-returns-4 Inv-loop μ-loop
 returns-4 c = stray-token _ _ (c .before .before .before .before .before .before .before .before .loop .inv) (c .if7 .taken) (at-token _ _ (c .before .before .before .if5 .left) (c .before .if6 .taken)) _
 
-sound-token-requires : tie.Need-sound-token-requires Inv-loop μ-loop
-sound-token-requires c κs = search needs
+check-token-requires : tie.Need-check-token-requires Inv-loop μ-loop
+check-token-requires c κs = c .before .before .before .before .before .before .before .before .before .before .before .before .pre .0
 
-token-fault-requires : tie.Need-token-fault-requires Inv-loop μ-loop
-token-fault-requires c κs = search needs
+enum-known-found : tie.Need-enum-known-found Inv-loop μ-loop
+enum-known-found c = search needs
 
 same-length-5 : tie.Need-same-length-5 Inv-loop μ-loop
-same-length-5 c = c .before .before .before .before .before .before .before .before .before .before .before .loop .inv .same
+same-length-5 c = c .before .before .before .before .before .before .before .before .before .before .before .before .loop .inv .same
 
 returns-5 : tie.Need-returns-5 Inv-loop μ-loop
 returns-5 c =
-    faulty-token _ _ (c .before .before .before .before .before .before .before .before .before .before .before .loop .inv) (c .before .before .before .if7 .left) (at-token _ _ (c .before .before .before .before .before .before .if5 .left) (c .before .before .before .before .if6 .taken)) (c .before .before .before .before .before .head-at .ensures) (ap not (sym (c .before .before .sound-token .ensures)) ∙ c .before .if8 .taken)
-    (c .token-fault .ensures _) _
+    faulty-token _ _ (c .before .before .before .before .before .before .before .before .before .before .before .before .loop .inv) (c .before .before .before .before .if7 .left) (at-token _ _ (c .before .before .before .before .before .before .before .if5 .left) (c .before .before .before .before .before .if6 .taken)) (c .before .before .before .before .before .before .head-at .ensures)
+    (sym (c .before .before .before .check-token .ensures) ∙ c .before .found .given .1) _
+
+enum-told : tie.Need-enum-told Inv-loop μ-loop
+enum-told c = search needs
 
 add-at-2 : tie.Need-add-at-2 Inv-loop μ-loop
 add-at-2 c = search needs
@@ -89,65 +92,69 @@ loop-less-2 c = search needs
 
 loop-again-2 : tie.Need-loop-again-2 Inv-loop μ-loop
 loop-again-2 c =
-    next-token _ _ (c .before .before .before .before .before .before .before .before .before .before .loop .inv) (c .before .before .if7 .left) (at-token _ _ (c .before .before .before .before .before .if5 .left) (c .before .before .before .if6 .taken)) (c .before .before .before .before .head-at .ensures) (ap not (sym (c .before .sound-token .ensures)) ∙ c .if8 .left)
+    next-token _ _ (c .before .before .before .before .before .before .before .before .before .before .before .loop .inv) (c .before .before .before .if7 .left) (at-token _ _ (c .before .before .before .before .before .before .if5 .left) (c .before .before .before .before .if6 .taken)) (c .before .before .before .before .before .head-at .ensures)
+    (sym (c .before .before .check-token .ensures) ∙ c .enum-told .given .1)
 
 same-length-6 : tie.Need-same-length-6 Inv-loop μ-loop
 same-length-6 c = c .before .before .before .before .before .before .before .before .before .loop .inv .same
 
 returns-6 : tie.Need-returns-6 Inv-loop μ-loop
 returns-6 c =
-    second-root _ _ (c .before .before .before .before .before .before .before .before .before .loop .inv) (c .before .if9 .taken) (c .if10 .taken) (at-open _ _ (c .before .before .before .before .if5 .left) (⊎-elim (λ w. omega arith) (λ w. absurd (c .before .before .if6 .left (w .left))) (c .before .before .before .before .before .if3 .came))) _
+    second-root _ _ (c .before .before .before .before .before .before .before .before .before .loop .inv) (c .before .if8 .taken) (c .if9 .taken) (at-open _ _ (c .before .before .before .before .if5 .left) (⊎-elim (λ w. omega arith) (λ w. absurd (c .before .before .if6 .left (w .left))) (c .before .before .before .before .before .if3 .came))) _
 
-sound-open-requires : tie.Need-sound-open-requires Inv-loop μ-loop
-sound-open-requires c κs = search needs
+check-open-requires : tie.Need-check-open-requires Inv-loop μ-loop
+check-open-requires c κs = c .before .before .before .before .before .before .before .before .before .before .before .before .pre .0
 
-open-fault-requires : tie.Need-open-fault-requires Inv-loop μ-loop
-open-fault-requires c κs = search needs
+enum-known-found-2 : tie.Need-enum-known-found-2 Inv-loop μ-loop
+enum-known-found-2 c = search needs
 
 same-length-7 : tie.Need-same-length-7 Inv-loop μ-loop
-same-length-7 c = c .before .before .before .before .before .before .before .before .before .before .before .loop .inv .same
+same-length-7 c = c .before .before .before .before .before .before .before .before .before .before .before .before .loop .inv .same
 
 returns-7 : tie.Need-returns-7 Inv-loop μ-loop
 returns-7 c =
-    faulty-open _ _ (c .before .before .before .before .before .before .before .before .before .before .before .loop .inv) (⊎-elim (λ w. λ _. omega arith) (λ w. λ z. absurd (w .left z)) (c .before .before .before .if9 .came))
-    (at-open _ _ (c .before .before .before .before .before .before .if5 .left) (⊎-elim (λ w. omega arith) (λ w. absurd (c .before .before .before .before .if6 .left (w .left))) (c .before .before .before .before .before .before .before .if3 .came))) (c .before .before .before .before .before .head-at .ensures)
-    (ap not (sym (c .before .before .sound-open .ensures)) ∙ c .before .if11 .taken) (c .open-fault .ensures _) _
+    faulty-open _ _ (c .before .before .before .before .before .before .before .before .before .before .before .before .loop .inv) (⊎-elim (λ w. λ _. omega arith) (λ w. λ z. absurd (w .left z)) (c .before .before .before .before .if8 .came))
+    (at-open _ _ (c .before .before .before .before .before .before .before .if5 .left) (⊎-elim (λ w. omega arith) (λ w. absurd (c .before .before .before .before .before .if6 .left (w .left))) (c .before .before .before .before .before .before .before .before .if3 .came))) (c .before .before .before .before .before .before .head-at .ensures)
+    (sym (c .before .before .before .check-open .ensures) ∙ c .before .found2 .given .1) _
+
+enum-told-2 : tie.Need-enum-told-2 Inv-loop μ-loop
+enum-told-2 c = search needs
 
 mul-parent : tie.Need-mul-parent Inv-loop μ-loop
-mul-parent c = omega (arith, c .before .before .before .before .before .before .before .before .before .before .loop .inv .low)
+mul-parent c = omega (arith, c .before .before .before .before .before .before .before .before .before .before .before .loop .inv .low)
 
 array-read-parent : tie.Need-array-read-parent Inv-loop μ-loop
-array-read-parent c = omega (arith, c .before .before .before .before .before .before .before .before .before .before .loop .inv .low)
+array-read-parent c = omega (arith, c .before .before .before .before .before .before .before .before .before .before .before .loop .inv .low)
 
 cast-parent : tie.Need-cast-parent Inv-loop μ-loop
-cast-parent c = omega (arith, c .before .before .before .before .before .before .before .before .before .before .loop .inv .behind (c .before .before .before .before .before .before .before .before .before .before .loop .depth), c .before .before .before .before .before .before .before .before .before .before .before .before .before .pre .0, c .before .before .before .before .before .before .before .before .before .loop-test .taken)
+cast-parent c = omega (arith, c .before .before .before .before .before .before .before .before .before .before .before .loop .inv .behind (c .before .before .before .before .before .before .before .before .before .before .before .loop .depth), c .before .before .before .before .before .before .before .before .before .before .before .before .before .before .before .pre .1, c .before .before .before .before .before .before .before .before .before .before .loop-test .taken)
 
 slice-read-with-child : tie.Need-slice-read-with-child Inv-loop μ-loop
-slice-read-with-child c = omega (arith, c .before .before .before .before .before .before .before .before .before .before .before .loop .inv .behind (c .before .before .before .before .before .before .before .before .before .before .before .loop .depth), c .before .before .before .before .before .before .before .before .before .before .before .loop .inv .same, c .before .before .before .before .before .before .before .before .before .before .before .before .before .before .pre .1, c .before .before .before .before .before .before .if5 .left)
+slice-read-with-child c = omega (arith, c .before .before .before .before .before .before .before .before .before .before .before .before .loop .inv .behind (c .before .before .before .before .before .before .before .before .before .before .before .before .loop .depth), c .before .before .before .before .before .before .before .before .before .before .before .before .loop .inv .same, c .before .before .before .before .before .before .before .before .before .before .before .before .before .before .before .before .pre .2, c .before .before .before .before .before .before .before .if5 .left)
 
 with-child-requires : tie.Need-with-child-requires Inv-loop μ-loop
 with-child-requires c κs = search needs
 
 slice-write-facts : tie.Need-slice-write-facts Inv-loop μ-loop
-slice-write-facts c = omega (arith, c .before .before .before .before .before .before .before .before .before .before .before .before .loop .inv .behind (c .before .before .before .before .before .before .before .before .before .before .before .before .loop .depth), c .before .before .before .before .before .before .before .before .before .before .before .before .loop .inv .same, c .before .before .before .before .before .before .before .before .before .before .before .before .before .before .before .pre .1, c .before .before .before .before .before .before .before .if5 .left)
+slice-write-facts c = omega (arith, c .before .before .before .before .before .before .before .before .before .before .before .before .before .loop .inv .behind (c .before .before .before .before .before .before .before .before .before .before .before .before .before .loop .depth), c .before .before .before .before .before .before .before .before .before .before .before .before .before .loop .inv .same, c .before .before .before .before .before .before .before .before .before .before .before .before .before .before .before .before .before .pre .2, c .before .before .before .before .before .before .before .before .if5 .left)
 
 opened-requires : tie.Need-opened-requires Inv-loop μ-loop
 opened-requires c κs = search needs
 
 slice-write-facts-2 : tie.Need-slice-write-facts-2 Inv-loop μ-loop
-slice-write-facts-2 c = simp length-set (omega (arith, c .before .before .before .before .before .before .before .before .before .before .before .before .before .loop .inv .same, c .before .before .before .before .before .before .before .before .before .before .before .before .before .before .before .before .pre .1, c .before .before .before .before .before .before .before .before .if5 .left))
+slice-write-facts-2 c = simp length-set (omega (arith, c .before .before .before .before .before .before .before .before .before .before .before .before .before .before .loop .inv .same, c .before .before .before .before .before .before .before .before .before .before .before .before .before .before .before .before .before .before .pre .2, c .before .before .before .before .before .before .before .before .before .if5 .left))
 
 add-depth : tie.Need-add-depth Inv-loop μ-loop
-add-depth c = omega (arith, c .before .before .before .before .before .before .before .before .before .before .before .before .before .loop .inv .low)
+add-depth c = omega (arith, c .before .before .before .before .before .before .before .before .before .before .before .before .before .before .loop .inv .low)
 
 cast-parents : tie.Need-cast-parents Inv-loop μ-loop
-cast-parents c = omega (arith, c .before .before .before .before .before .before .before .before .before .before .before .before .before .before .before .before .pre .0, c .before .before .before .before .before .before .before .before .if5 .left)
+cast-parents c = omega (arith, c .before .before .before .before .before .before .before .before .before .before .before .before .before .before .before .before .before .before .pre .1, c .before .before .before .before .before .before .before .before .before .if5 .left)
 
 mul-parents : tie.Need-mul-parents Inv-loop μ-loop
-mul-parents c = omega (arith, c .before .before .before .before .before .before .before .before .before .before .before .before .before .loop .inv .low)
+mul-parents c = omega (arith, c .before .before .before .before .before .before .before .before .before .before .before .before .before .before .loop .inv .low)
 
 array-write-parents : tie.Need-array-write-parents Inv-loop μ-loop
-array-write-parents c = omega (arith, open-low _ _ (c .before .before .before .before .before .before .before .head-at .result) (ap not (sym (c .before .before .before .before .sound-open .ensures)) ∙ c .before .before .before .if11 .left))
+array-write-parents c = omega (arith, open-low _ _ (c .before .before .before .before .before .before .before .before .head-at .result) (sym (c .before .before .before .before .before .check-open .ensures) ∙ c .before .before .before .enum-told2 .given .1))
 
 add-at-3 : tie.Need-add-at-3 Inv-loop μ-loop
 add-at-3 c = search needs
@@ -158,9 +165,9 @@ loop-less-3 c = search needs
 loop-again-3 : tie.Need-loop-again-3 Inv-loop μ-loop
 loop-again-3 c =
     rw (c .before .with-child .ensures, c .opened .ensures)
-    (next-open _ _ (c .before .before .before .before .before .before .before .before .before .before .before .before .before .loop .inv) (⊎-elim (λ w. λ _. omega arith) (λ w. λ z. absurd (w .left z)) (c .before .before .before .before .before .if9 .came))
-    (at-open _ _ (c .before .before .before .before .before .before .before .before .if5 .left) (⊎-elim (λ w. omega arith) (λ w. absurd (c .before .before .before .before .before .before .if6 .left (w .left))) (c .before .before .before .before .before .before .before .before .before .if3 .came))) (c .before .before .before .before .before .before .before .head-at .ensures)
-    (ap not (sym (c .before .before .before .before .sound-open .ensures)) ∙ c .before .before .before .if11 .left))
+    (next-open _ _ (c .before .before .before .before .before .before .before .before .before .before .before .before .before .before .loop .inv) (⊎-elim (λ w. λ _. omega arith) (λ w. λ z. absurd (w .left z)) (c .before .before .before .before .before .before .if8 .came))
+    (at-open _ _ (c .before .before .before .before .before .before .before .before .before .if5 .left) (⊎-elim (λ w. omega arith) (λ w. absurd (c .before .before .before .before .before .before .before .if6 .left (w .left))) (c .before .before .before .before .before .before .before .before .before .before .if3 .came))) (c .before .before .before .before .before .before .before .before .head-at .ensures)
+    (sym (c .before .before .before .before .before .check-open .ensures) ∙ c .before .before .before .enum-told2 .given .1))
 
 same-length-8 : tie.Need-same-length-8 Inv-loop μ-loop
 same-length-8 c = c .before .before .loop .inv .same
@@ -172,13 +179,13 @@ same-length-9 : tie.Need-same-length-9 Inv-loop μ-loop
 same-length-9 c = c .before .before .before .loop .inv .same
 
 returns-9 : tie.Need-returns-9 Inv-loop μ-loop
-returns-9 c = no-root _ _ (c .if13 .taken) _
+returns-9 c = no-root _ _ (c .if11 .taken) _
 
 same-length-10 : tie.Need-same-length-10 Inv-loop μ-loop
 same-length-10 c = c .before .before .before .loop .inv .same
 
 returns-10 : tie.Need-returns-10 Inv-loop μ-loop
-returns-10 c = end-root _ _ (c .before .before .before .loop .inv) (c .before .before .loop-test .left) (c .before .before .before .before .before .before .pre .1) (omega arith) (λ z. c .if13 .left (omega arith))
+returns-10 c = end-root _ _ (c .before .before .before .loop .inv) (c .before .before .loop-test .left) (c .before .before .before .before .before .before .before .pre .2) (omega arith) (λ z. c .if11 .left (omega arith))
 
 pub check-spec : {M : Type 1} → statement M
 check-spec =
@@ -202,19 +209,21 @@ check-spec =
     head-at-requires
     same-length-4
     returns-4
-    sound-token-requires
-    token-fault-requires
+    check-token-requires
+    enum-known-found
     same-length-5
     returns-5
+    enum-told
     add-at-2
     loop-less-2
     loop-again-2
     same-length-6
     returns-6
-    sound-open-requires
-    open-fault-requires
+    check-open-requires
+    enum-known-found-2
     same-length-7
     returns-7
+    enum-told-2
     mul-parent
     array-read-parent
     cast-parent

@@ -1,7 +1,6 @@
 -- `sound_open` meets its contract: the four tests in one.
-use borrow.Author.Needs.{needs}
-use mathlib.Core.Path.{ap, _∙_}
 use Rattle.tape.proofs.KnownCommands.{sound-open}
+use borrow.Author.Needs.{needs}
 use Rattle.tape.proofs.commands.sound_open.Statement.{statement}
 use Rattle.tape.proofs.commands.sound_open.Tie as tie
 
