@@ -1,5 +1,5 @@
 -- The masking rule for one write: cells that are alike before it are alike after it, and so is what `finish` makes of them.
-use mathlib.Core.Path.{_≡_, refl, sym, ap, subst₂, _∙_}
+use mathlib.Core.Path.{_≡_, refl, sym, ap, subst, _∙_}
 use mathlib.Core.Bool.{Bool, false}
 use mathlib.Core.List.{List, [], _∷_, _++_, map}
 use Prim.Native.Nat.{ℕ, zero, suc, _+_, _<_}
@@ -7,14 +7,13 @@ use native.Mathlib.Nat.{add-zero, add-suc, suc-add}
 use native.Mathlib.Omega.{arith}
 use lib.Dec.{eqb}
 use lib.ListN.{length, getD, take, length-map}
-use Rattle.context.specs.Cells.{Text, Cell, isWhiteSpace, toCase, tokenText, bytesOf, fresh, copiedFrom, spanCells, cellInCase}
-use Rattle.context.specs.Trim.{trim, trimmedLength}
-use Rattle.context.specs.Context.{Step, writeToken, writeKeyword, lastByte, cellIsWhiteSpace, endLine, finish}
+use Rattle.context.specs.Cells.{Text, Cell, toCase, tokenText, bytesOf, fresh, copiedFrom, spanCells, cellInCase}
+use Rattle.utf8.specs.Trimming.{trimmedLength}
+use Rattle.context.specs.Context.{Step, writeToken, writeKeyword, endLine, trimEnd, finish}
 use Rattle.context.specs.Alike.{CellLike, Like}
 use Rattle.context.specs.declared.FormatConfig.{FormatConfig}
 use Rattle.context.specs.declared.State.{State}
-use Rattle.context.proofs.Trimming.{trimmed-whole, trim-take}
-use Rattle.context.proofs.Bytes.{newline-in-case, trimmed-bytes, token-at, token-length-same}
+use Rattle.context.proofs.Bytes.{newline-in-case, token-at, token-length-same}
 
 module _ (a b : Text) where
   cell-self : {c : Cell} → CellLike a b c c
@@ -100,23 +99,12 @@ module _ (a b : Text) where
     unfolding writeKeyword writeToken
     keyword-like config s = record { next = refl; leads = refl; bodies = like-in-case (config .«uppercase_keywords») cs ds alike }
 
-    module _ (last : lastByte (bytesOf cs) ≡ lastByte (bytesOf ds)) where
-      -- a last byte that is no white space stays
-      pub trimmed-like : isWhiteSpace (lastByte (bytesOf cs)) ≡ false → trimmedLength cellIsWhiteSpace cs ≡ trimmedLength cellIsWhiteSpace ds
-      trimmed-like w =
-          whole cs w ∙ like-length cs ds alike ∙ sym (whole ds (ap isWhiteSpace (sym last) ∙ w))
-        where
-          whole : (xs : List Cell) → isWhiteSpace (lastByte (bytesOf xs)) ≡ false → trimmedLength cellIsWhiteSpace xs ≡ length xs
-          whole xs v = sym (trimmed-bytes xs) ∙ trimmed-whole isWhiteSpace (bytesOf xs) 0 v ∙ length-map xs (λ (c : Cell). c .byte)
-
     -- ── finish
 
-    pub finish-like : trimmedLength cellIsWhiteSpace cs ≡ trimmedLength cellIsWhiteSpace ds → Like a b (finish cs) (finish ds)
-    unfolding finish
+    pub finish-like : trimmedLength (bytesOf cs) ≡ trimmedLength (bytesOf ds) → Like a b (finish cs) (finish ds)
+    unfolding finish trimEnd
     finish-like e =
-        go (trim cellIsWhiteSpace cs) (trim cellIsWhiteSpace ds)
-        (subst₂ (Like a b) (sym (trim-take cellIsWhiteSpace cs)) (ap (λ (n : ℕ). take n ds) e ∙ sym (trim-take cellIsWhiteSpace ds))
-        (like-take (trimmedLength cellIsWhiteSpace cs) cs ds alike))
+        go (trimEnd cs) (trimEnd ds) (subst (λ (n : ℕ). Like a b (trimEnd cs) (take n ds)) e (like-take (trimmedLength (bytesOf cs)) cs ds alike))
       where
         go : (xs ys : List Cell) → Like a b xs ys → Like a b (endLine xs) (endLine ys)
         go [] [] h = tt

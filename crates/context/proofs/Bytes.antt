@@ -5,15 +5,17 @@ use mathlib.Core.List.{List, [], _∷_, _++_, map}
 use Prim.Native.Nat.{ℕ, zero, suc, min, _+_, _-_, _≤_, _<_}
 use native.Mathlib.Nat.{min-le-left}
 use native.Mathlib.Omega.{arith}
-use lib.Dec.{leb, eqb}
+use lib.Dec.{leb, ltb, eqb}
 use lib.ListN.{length, getD, drop, replicate, length-take, length-drop}
 use lib.Seq.{length-take-le, getD-take, getD-drop, ext-getD}
-use borrow.Author.Tests.{ne-eqb, lt-leb, leb-true}
+use borrow.Author.Tests.{ne-eqb, lt-leb, leb-true, ltb-true, ltb-false}
 use Rattle.basics.specs.Case.{toUppercase, toLowercase}
-use Rattle.context.specs.Cells.{Text, Cell, isWhiteSpace, toCase, tokenText, bytesOf, fresh, fixed, copiedFrom, spanCells, cellInCase}
-use Rattle.context.specs.Trim.{trimmedLength}
-use Rattle.context.specs.Context.{lastByte, cellIsWhiteSpace}
-use Rattle.context.proofs.Trimming.{trimmed-map}
+use Rattle.utf8.specs.Table.{holds}
+use Rattle.utf8.specs.Pieces.{isTrailing}
+use Rattle.utf8.specs.Trimming.{trimmedLength, isWhiteByte}
+use Rattle.utf8.proofs.InCase.{trimmed-length-map}
+use Rattle.context.specs.Cells.{Text, Cell, toCase, tokenText, bytesOf, fresh, fixed, copiedFrom, spanCells, cellInCase}
+use Rattle.context.specs.Context.{lastByte}
 
 pub bytes-append : (a b : List Cell) → bytesOf (a ++ b) ≡ bytesOf a ++ bytesOf b
 bytes-append [] b = refl
@@ -38,9 +40,6 @@ pub bytes-in-case : (uppercase : Bool) (cs : List Cell) → bytesOf (map (cellIn
 bytes-in-case uppercase [] = refl
 bytes-in-case uppercase (c ∷ cs) = ap {B = List ℕ} (λ r. toCase uppercase (c .byte) ∷ r) (bytes-in-case uppercase cs)
 
-pub trimmed-bytes : (cs : List Cell) → trimmedLength isWhiteSpace (bytesOf cs) ≡ trimmedLength cellIsWhiteSpace cs
-trimmed-bytes = trimmed-map isWhiteSpace cellIsWhiteSpace (λ (c : Cell). c .byte) (λ c. refl)
-
 -- ── a change of case
 
 -- a test that no byte from 65 on passes is not changed by it
@@ -61,18 +60,47 @@ module _ (test : ℕ → Bool) (low : (b : ℕ) → 65 ≤ b → test b ≡ fals
       let h = leb-true 65 b p in
       (h, omega arith))
 
-pub white-in-case : (uppercase : Bool) (b : ℕ) → isWhiteSpace (toCase uppercase b) ≡ isWhiteSpace b
-unfolding isWhiteSpace
-white-in-case = in-case isWhiteSpace (λ b h. simp (ne-eqb b 32 (λ e. omega arith), lt-leb b 13 (omega arith), and-false))
+white-in-case : (uppercase : Bool) (b : ℕ) → isWhiteByte (toCase uppercase b) ≡ isWhiteByte b
+unfolding isWhiteByte
+white-in-case = in-case isWhiteByte (λ b h. simp (ne-eqb b 32 (λ e. omega arith), lt-leb b 13 (omega arith), and-false))
 
 pub newline-in-case : (uppercase : Bool) (b : ℕ) → eqb (toCase uppercase b) 10 ≡ eqb b 10
 newline-in-case = in-case (λ b. eqb b 10) (λ b h. ne-eqb b 10 (λ e. omega arith))
 
-pub trimmed-in-case : (uppercase : Bool) (bs : List ℕ) → trimmedLength isWhiteSpace (map (toCase uppercase) bs) ≡ trimmedLength isWhiteSpace bs
-trimmed-in-case uppercase = trimmed-map isWhiteSpace isWhiteSpace (toCase uppercase) (white-in-case uppercase)
+-- bytes above 127 stay, and no other becomes one
+case-high : (uppercase : Bool) (b : ℕ) → 128 ≤ b → toCase uppercase b ≡ b
+unfolding toUppercase toLowercase
+case-high true b h = simp (lt-leb b 122 (omega arith), and-false)
+case-high false b h = simp (lt-leb b 90 (omega arith), and-false)
 
-pub trimmed-cells-in-case : (uppercase : Bool) (cs : List Cell) → trimmedLength cellIsWhiteSpace (map (cellInCase uppercase) cs) ≡ trimmedLength cellIsWhiteSpace cs
-trimmed-cells-in-case uppercase = trimmed-map cellIsWhiteSpace cellIsWhiteSpace (cellInCase uppercase) (λ c. white-in-case uppercase (c .byte))
+case-low : (uppercase : Bool) (b : ℕ) → b < 128 → toCase uppercase b < 128
+unfolding toUppercase toLowercase
+case-low true b h = low (leb 97 b) (leb b 122) (λ e. omega arith)
+  where
+    low : (p q : Bool) → (q ≡ true → b - 32 < 128) → cond (p && q) (b - 32) b < 128
+    low true true k = k refl
+    low true false k = h
+    low false q k = h
+case-low false b h = low (leb 65 b) (leb b 90) (λ e. let l = leb-true b 90 e in omega arith)
+  where
+    low : (p q : Bool) → (q ≡ true → b + 32 < 128) → cond (p && q) (b + 32) b < 128
+    low true true k = k refl
+    low true false k = h
+    low false q k = h
+
+-- so the later bytes of characters are the same
+pub trailing-in-case : (uppercase : Bool) (b : ℕ) → isTrailing (toCase uppercase b) ≡ isTrailing b
+unfolding isTrailing holds
+trailing-in-case uppercase b = go (ltb b 128) refl
+  where
+    go : (t : Bool) → ltb b 128 ≡ t → isTrailing (toCase uppercase b) ≡ isTrailing b
+    go true e =
+        let l = ltb-true b 128 e in
+        simp (lt-leb 128 (toCase uppercase b) (case-low uppercase b l), lt-leb 128 b l)
+    go false e = ap isTrailing (case-high uppercase b (ltb-false b 128 e))
+
+pub trimmed-in-case : (uppercase : Bool) (bs : List ℕ) → trimmedLength (map (toCase uppercase) bs) ≡ trimmedLength bs
+trimmed-in-case uppercase = trimmed-length-map (toCase uppercase) (case-high uppercase) (case-low uppercase) (white-in-case uppercase)
 
 -- ── the text of a span
 

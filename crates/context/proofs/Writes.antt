@@ -6,8 +6,10 @@ use Prim.Native.Nat.{ℕ, _+_, _^_, _≤_}
 use native.Mathlib.Nat.{add-assoc, add-zero}
 use native.Mathlib.Omega.{arith}
 use lib.ListN.{length, replicate, length-append, length-replicate, length-map}
-use Rattle.context.specs.Cells.{Cell, isWhiteSpace, toCase, bytesOf, fixed, cellInCase}
-use Rattle.context.specs.Trim.{trim, trimmedLength, trimmedAfter}
+use Rattle.utf8.specs.Pieces.{Starts}
+use Rattle.utf8.specs.Trimming.{trimmedLength, trimmedAfter}
+use Rattle.utf8.proofs.Trimming.{trimmed-append, trimmed-nothing}
+use Rattle.context.specs.Cells.{Cell, toCase, bytesOf, fixed, cellInCase}
 use Rattle.context.specs.Splice.{splice}
 use Rattle.context.specs.Context.{Step, afterWrite, lead, writeToken, writeKeyword, writeRaw, endsInNewline}
 use Rattle.context.specs.Store.{advanced, Store, appended, stored, withState, afterText, Spent, Wrote}
@@ -16,7 +18,7 @@ use Rattle.context.specs.declared.State.{State}
 use Rattle.context.specs.declared.Position.{Position}
 use Rattle.context.specs.declared.FormatterContext.{FormatterContext}
 use Rattle.context.proofs.Splicing.{splice-nil, splice-splice}
-use Rattle.context.proofs.Trimming.{trimmed-append, trimmed-lead, after-after}
+use Rattle.context.proofs.Trimming.{trimmed-lead, after-after}
 use Rattle.context.proofs.Bytes.{bytes-append, bytes-fixed, bytes-in-case, trimmed-in-case}
 
 -- ── what writes use up of the room
@@ -31,40 +33,41 @@ spent-twice a b = record { level = omega arith; length = omega arith }
 
 -- after n blanks and bs
 pub advanced-blanks : (n : ℕ) (bs : List ℕ) (p : Position) (l k : ℕ) → l ≡ p .length + n + length bs
-    → k ≡ trimmedAfter (p .length + n) (p .trimmed) (trimmedLength isWhiteSpace bs)
+    → k ≡ trimmedAfter (p .length + n) (p .trimmed) (trimmedLength bs)
     → record { length = l; trimmed = k } ≡ advanced (replicate n 32 ++ bs) p
-unfolding advanced isWhiteSpace
+unfolding advanced
 advanced-blanks n bs p l k e f =
     let x : l ≡ p .length + length (replicate n 32 ++ bs) = e ∙ rw (length-append, length-replicate) (add-assoc (p .length) n (length bs)) in
-    let y = f ∙ sym (trimmed-lead isWhiteSpace 32 refl n bs (p .length) (p .trimmed)) in
+    let y = f ∙ sym (trimmed-lead n bs (p .length) (p .trimmed)) in
     λ i. record { length = x i; trimmed = y i }
 
 -- a change of case does not move it
 advanced-in-case : (uppercase : Bool) (n : ℕ) (bs : List ℕ) (p : Position) → advanced (replicate n 32 ++ bs) p ≡ advanced (replicate n 32 ++ map (toCase uppercase) bs) p
-unfolding advanced isWhiteSpace
+unfolding advanced
 advanced-in-case uppercase n bs p =
     advanced-blanks n (map (toCase uppercase) bs) p _ _
     (rw (length-append, length-replicate, length-map) (sym (add-assoc (p .length) n (length bs))))
-    (trimmed-lead isWhiteSpace 32 refl n bs (p .length) (p .trimmed) ∙ ap (trimmedAfter (p .length + n) (p .trimmed)) (sym (trimmed-in-case uppercase bs)))
+    (trimmed-lead n bs (p .length) (p .trimmed) ∙ ap (trimmedAfter (p .length + n) (p .trimmed)) (sym (trimmed-in-case uppercase bs)))
 
 -- ── two writes in a row are one, and none is one of nothing
 
-pub appended-twice : (s s′ : State) (a b : List ℕ) (w : Store) → appended s b (appended s′ a w) ≡ appended s (a ++ b) w
+pub appended-twice : (s s′ : State) (a b : List ℕ) (w : Store) → Starts b → appended s b (appended s′ a w) ≡ appended s (a ++ b) w
 unfolding appended advanced
-appended-twice s s′ a b w =
+appended-twice s s′ a b w h =
     let p = w .0 .position in
     let x : p .length + length a + length b ≡ p .length + length (a ++ b) = omega (arith, length-append a b) in
-    let k = trimmedLength isWhiteSpace in
-    let y = sym (after-after (p .length) (p .trimmed) (length a) (k a) (k b)) ∙ ap (trimmedAfter (p .length) (p .trimmed)) (sym (trimmed-append isWhiteSpace a b)) in
+    let k = trimmedLength in
+    let y = sym (after-after (p .length) (p .trimmed) (length a) (k a) (k b)) ∙ ap (trimmedAfter (p .length) (p .trimmed)) (sym (trimmed-append a b h)) in
     let z = splice-splice (p .length) a b (w .1) in
     λ i. (record { state = s; position = record { length = x i; trimmed = y i } }, z i)
 
 pub appended-none : (s : State) (c : FormatterContext) (xs : List ℕ) → _≡_ {A = Store} (withState s c, xs) (appended s [] (c, xs))
-unfolding appended advanced trimmedLength trim
+unfolding appended advanced
 appended-none s c xs =
     let x = sym (add-zero (c .position .length)) in
     let z = sym (splice-nil (c .position .length) xs) in
-    λ i. (record { state = s; position = record { length = x i; trimmed = c .position .trimmed } }, z i)
+    let y = sym (ap (trimmedAfter (c .position .length) (c .position .trimmed)) trimmed-nothing) in
+    λ i. (record { state = s; position = record { length = x i; trimmed = y i } }, z i)
 
 -- ── a text that the code wrote as bytes, as the cells that have these bytes
 
@@ -130,14 +133,14 @@ module _ (config : FormatConfig) (bs : List ℕ) (c : FormatterContext) (n : ℕ
 
 -- the same by `put` and `after_text`: the blanks and the text with its trimmed length
 module _ (config : FormatConfig) (bs : List ℕ) (c : FormatterContext) (n : ℕ) (b : bytesOf (lead config (c .state)) ≡ replicate n 32) (h : n ≤ 2 ^ 24) (k : length bs ≤ 2 ^ 18) where
-  put-position : {j : ℕ} → j ≡ trimmedLength isWhiteSpace bs → afterText n (length bs) j c .position ≡ advanced (replicate n 32 ++ bs) (c .position)
+  put-position : {j : ℕ} → j ≡ trimmedLength bs → afterText n (length bs) j c .position ≡ advanced (replicate n 32 ++ bs) (c .position)
   put-position {j} e = advanced-blanks n bs (c .position) _ _ refl (ap (trimmedAfter (c .position .length + n) (c .position .trimmed)) e)
 
-  pub token-put : {j : ℕ} (xs : List ℕ) {r : FormatterContext} {zs : List ℕ} → j ≡ trimmedLength isWhiteSpace bs → r ≡ afterText n (length bs) j c
+  pub token-put : {j : ℕ} (xs : List ℕ) {r : FormatterContext} {zs : List ℕ} → j ≡ trimmedLength bs → r ≡ afterText n (length bs) j c
       → zs ≡ splice (c .position .length + n) bs (splice (c .position .length) (replicate n 32) xs) → Wrote 1 (stored (writeToken config (fixed bs) (c .state)) (c, xs)) c r zs
   token-put xs e f w = rw f (token-wrote config (fixed bs) bs (bytes-fixed bs) c n b xs h k refl (put-position e) refl w)
 
-  pub keyword-put : {j : ℕ} (xs : List ℕ) {r : FormatterContext} {zs : List ℕ} → j ≡ trimmedLength isWhiteSpace bs → r ≡ afterText n (length bs) j c
+  pub keyword-put : {j : ℕ} (xs : List ℕ) {r : FormatterContext} {zs : List ℕ} → j ≡ trimmedLength bs → r ≡ afterText n (length bs) j c
       → zs ≡ splice (c .position .length + n) (map (toCase (config .«uppercase_keywords»)) bs) (splice (c .position .length) (replicate n 32) xs)
       → Wrote 1 (stored (writeKeyword config (fixed bs) (c .state)) (c, xs)) c r zs
   keyword-put xs e f w = rw f (keyword-wrote config bs c n b xs h k refl (put-position e) refl w)

@@ -1,17 +1,13 @@
 -- Bytes of the text and cells of the output: a cell is a byte with the place that it was copied from.
-use Prim.Native.Nat.{ℕ, suc, _+_, _-_}
-use mathlib.Core.Bool.{Bool, cond, _&&_, _||_}
+use Prim.Native.Nat.{ℕ, suc, _+_}
+use mathlib.Core.Bool.{Bool, cond}
 use mathlib.Core.List.{List, [], _∷_, map}
-use lib.ListN.{take, drop}
-use lib.Dec.{leb, eqb}
+use lib.Dec.{eqb}
+unfoldable pub use Rattle.basics.specs.Bytes.{tokenText}
 use Rattle.basics.specs.Case.{toUppercase, toLowercase}
 
 abbrev pub Text : Type 0
 Text = List ℕ
-
--- bytes 9 to 13 and 32
-unfoldable pub isWhiteSpace : ℕ → Bool
-isWhiteSpace b = eqb b 32 || (leb 9 b && leb b 13)
 
 -- a byte in upper case, or in lower case
 abbrev pub toCase : Bool → ℕ → ℕ
@@ -21,10 +17,6 @@ toCase uppercase b = cond uppercase (toUppercase b) (toLowercase b)
 abbrev pub count : ℕ → List ℕ → ℕ
 count b [] = 0
 count b (x ∷ xs) = cond (eqb x b) 1 0 + count b xs
-
--- Token::text: from start up to, not including, end
-unfoldable pub tokenText : Text → ℕ → ℕ → List ℕ
-tokenText source start end = take (end - start) (drop start source)
 
 -- where an output byte comes from: the layout made it, or it was copied from a place of the text
 pub data Origin : Type 0 where

@@ -2,10 +2,10 @@
 use Prim.Native.Nat.{ℕ, suc, pred, _-_, _*_}
 use mathlib.Core.Bool.{Bool, true, false, cond, _||_}
 use mathlib.Core.List.{List, [], _∷_, _++_, map}
-use lib.ListN.{getD, length, replicate}
+use lib.ListN.{getD, length, replicate, take}
 use lib.Dec.{leb, eqb}
-use Rattle.context.specs.Cells.{Cell, bytesOf, fresh, cellInCase, isWhiteSpace, count}
-use Rattle.context.specs.Trim.{trim}
+use Rattle.utf8.specs.Trimming.{trimmedLength}
+use Rattle.context.specs.Cells.{Cell, bytesOf, fresh, cellInCase, count}
 use Rattle.context.specs.declared.FormatConfig.{FormatConfig}
 use Rattle.context.specs.declared.State.{State}
 
@@ -113,8 +113,9 @@ endsInNewline bs = eqb (lastByte bs) 10
 unfoldable pub writeRaw : List Cell → State → Step
 writeRaw text s = (afterWrite (endsInNewline (bytesOf text)) s, record { lead = []; body = text })
 
-abbrev pub cellIsWhiteSpace : Cell → Bool
-cellIsWhiteSpace c = isWhiteSpace (c .byte)
+-- without the white-space characters at the end
+unfoldable pub trimEnd : List Cell → List Cell
+trimEnd cs = take (trimmedLength (bytesOf cs)) cs
 
 abbrev pub endLine : List Cell → List Cell
 endLine [] = []
@@ -122,4 +123,4 @@ endLine (c ∷ cs) = (c ∷ cs) ++ (fresh 10 ∷ [])
 
 -- without trailing white space; what is not empty then ends in one newline
 unfoldable pub finish : List Cell → List Cell
-finish cs = endLine (trim cellIsWhiteSpace cs)
+finish cs = endLine (trimEnd cs)

@@ -1,6 +1,5 @@
 -- What the layout state of context.rs is and does: the definitions that the contracts cite.
 pub mod Cells
-pub mod Trim
 pub mod Splice
 pub mod Context
 pub mod Store

@@ -4,8 +4,8 @@ use mathlib.Core.Path.{_≡_}
 use mathlib.Core.Bool.{Bool, false}
 use mathlib.Core.List.{List, _++_}
 use lib.ListN.{length}
-use Rattle.context.specs.Cells.{bytesOf, isWhiteSpace}
-use Rattle.context.specs.Trim.{trimmedLength, trimmedAfter}
+use Rattle.utf8.specs.Trimming.{trimmedLength, trimmedAfter}
+use Rattle.context.specs.Cells.{bytesOf}
 use Rattle.context.specs.Splice.{splice}
 use Rattle.context.specs.Context.{Step, newState, afterWrite}
 use Rattle.context.specs.declared.State.{State}
@@ -21,7 +21,7 @@ unfoldable pub advanced : List ℕ → Position → Position
 advanced bs p =
     record {
       length = p .length + length bs;
-      trimmed = trimmedAfter (p .length) (p .trimmed) (trimmedLength isWhiteSpace bs);
+      trimmed = trimmedAfter (p .length) (p .trimmed) (trimmedLength bs);
     }
 
 -- the context, and the bytes of the lent space

@@ -1,10 +1,11 @@
 // Bytes written into a lent part, as far as it goes, and what is asked of a text before it is written.
+use utf8::trimmed_length;
 ghost use mathlib.Core.Path.{_≡_};
 ghost use mathlib.Core.List.{map};
 ghost use Prim.Native.Nat.{min, _+_, _^_, _≤_, _<_};
 ghost use lib.ListN.{length, replicate, take};
-ghost use Rattle.context.specs.Cells.{count, isWhiteSpace, toCase};
-ghost use Rattle.context.specs.Trim.{trimmedAfter, trimmedLength};
+ghost use Rattle.utf8.specs.Trimming.{trimmedAfter, trimmedLength};
+ghost use Rattle.context.specs.Cells.{count, toCase};
 ghost use Rattle.context.specs.Splice.{splice};
 ghost use Rattle.context.specs.Context.{endsInNewline};
 
@@ -33,18 +34,6 @@ pub(crate) fn to_case(uppercase: bool, b: u8) -> u8
         return b;
     }
     b + 32
-}
-
-pub(crate) fn is_white_space(b: u8) -> bool
-    ensures { λ r. ⌜ r ≡ isWhiteSpace b ⌝ }
-{
-    if b == 32 {
-        return true;
-    }
-    if b < 9 {
-        return false;
-    }
-    b <= 13
 }
 
 // n times the byte b, from the part's start. Most often it is one blank, for which the block fill that the loop becomes is slow.
@@ -164,7 +153,7 @@ pub(crate) fn copy_in_case_at(out: &mut [u8], at: usize, uppercase: bool, text: 
 // caller that has the context in registers keeps it there.
 pub fn put(out: &mut [u8], at: usize, blanks: usize, text: &[u8]) -> usize
     requires { ⌜ at + blanks < 2 ^ 64 ⌝ }
-    ensures { λ r. ⌜ (r ≡ trimmedLength isWhiteSpace (now (text .entry))) × (now (out .exit) ≡ splice (at + blanks) (now (text .entry)) (splice at (replicate blanks 32) (now (out .entry)))) ⌝ }
+    ensures { λ r. ⌜ (r ≡ trimmedLength (now (text .entry))) × (now (out .exit) ≡ splice (at + blanks) (now (text .entry)) (splice at (replicate blanks 32) (now (out .entry)))) ⌝ }
 {
     fill_at(out, at, blanks, 32);
     copy_at(out, at + blanks, text);
@@ -174,7 +163,7 @@ pub fn put(out: &mut [u8], at: usize, blanks: usize, text: &[u8]) -> usize
 // The same of at most one blank and 16 bytes, for which there is room.
 pub fn put_short(out: &mut [u8], at: usize, blanks: usize, text: &[u8]) -> usize
     requires { ⌜ (blanks ≤ 1) × (length (now text) ≤ 16) × (at + blanks + length (now text) ≤ length (now out)) ⌝ }
-    ensures { λ r. ⌜ (r ≡ trimmedLength isWhiteSpace (now (text .entry))) × (now (out .exit) ≡ splice (at + blanks) (now (text .entry)) (splice at (replicate blanks 32) (now (out .entry)))) ⌝ }
+    ensures { λ r. ⌜ (r ≡ trimmedLength (now (text .entry))) × (now (out .exit) ≡ splice (at + blanks) (now (text .entry)) (splice at (replicate blanks 32) (now (out .entry)))) ⌝ }
 {
     fill_at(out, at, blanks, 32);
     let from = at + blanks;
@@ -185,26 +174,11 @@ pub fn put_short(out: &mut [u8], at: usize, blanks: usize, text: &[u8]) -> usize
 // `put` in upper or lower case.
 pub fn put_in_case(out: &mut [u8], at: usize, blanks: usize, uppercase: bool, text: &[u8]) -> usize
     requires { ⌜ at + blanks < 2 ^ 64 ⌝ }
-    ensures { λ r. ⌜ (r ≡ trimmedLength isWhiteSpace (now (text .entry))) × (now (out .exit) ≡ splice (at + blanks) (map (toCase uppercase) (now (text .entry))) (splice at (replicate blanks 32) (now (out .entry)))) ⌝ }
+    ensures { λ r. ⌜ (r ≡ trimmedLength (now (text .entry))) × (now (out .exit) ≡ splice (at + blanks) (map (toCase uppercase) (now (text .entry))) (splice at (replicate blanks 32) (now (out .entry)))) ⌝ }
 {
     fill_at(out, at, blanks, 32);
     copy_in_case_at(out, at + blanks, uppercase, text);
     trimmed_length(text)
-}
-
-pub fn trimmed_length(text: &[u8]) -> usize
-    ensures { λ r. ⌜ r ≡ trimmedLength isWhiteSpace (now (text .entry)) ⌝ }
-{
-    let mut n = text.len();
-    while 0 < n {
-        let i = n - 1;
-        if is_white_space(text[i]) {
-            n = i;
-        } else {
-            return n;
-        }
-    }
-    0
 }
 
 pub(crate) fn trimmed_after(n: usize, k: usize, j: usize) -> usize

@@ -6,7 +6,8 @@ pub use buffer::copy;
 pub use buffer::put;
 pub use buffer::put_in_case;
 pub use buffer::put_short;
-pub use buffer::trimmed_length;
+use utf8::is_white_byte;
+use utf8::trimmed_length;
 ghost use mathlib.Core.Path.{_≡_};
 ghost use mathlib.Core.List.{[], _∷_, _++_};
 ghost use Prim.Native.Nat.{_+_, _^_, _≤_, _<_};
@@ -25,7 +26,7 @@ ghost use Rattle.context.specs.Context.{
   writeSpace,
   writeToken,
 };
-ghost use Rattle.context.specs.Trim.{trimmedAfter};
+ghost use Rattle.utf8.specs.Trimming.{trimmedAfter};
 ghost use Rattle.context.specs.Store.{Changed, Room, Took, Wrote, advanced, afterText, new, stored};
 
 // What the caller sets.
@@ -101,7 +102,7 @@ impl Position {
         let from = self.length + blanks;
         Position {
             length: from + text.len(),
-            trimmed: buffer::trimmed_after(from, self.trimmed, buffer::trimmed_length(text)),
+            trimmed: buffer::trimmed_after(from, self.trimmed, trimmed_length(text)),
         }
     }
 
@@ -123,7 +124,7 @@ impl Position {
         ensures { λ r. ⌜ r ≡ advanced (replicate blanks 32 ++ (b ∷ [])) self ⌝ }
     {
         let end = self.length + blanks + 1;
-        if buffer::is_white_space(b) {
+        if is_white_byte(b) {
             return Position {
                 length: end,
                 trimmed: self.trimmed,

@@ -2,9 +2,8 @@
 use mathlib.Core.Path.{refl, ap, _∙_}
 use Prim.Native.Nat.{_+_}
 use native.Mathlib.Omega.{arith}
-use Rattle.context.specs.Cells.{isWhiteSpace}
-use Rattle.context.specs.Trim.{trimmedAfter}
-use Rattle.context.proofs.Trimming.{trimmed-le}
+use Rattle.utf8.specs.Trimming.{trimmedAfter}
+use Rattle.utf8.proofs.Trimming.{trimmed-le}
 use Rattle.context.proofs.Writes.{advanced-blanks}
 use borrow.Author.Needs.{needs}
 use Rattle.context.proofs.Position.after.Statement.{statement}
@@ -20,7 +19,7 @@ trimmed-length-requires : tie.Need-trimmed-length-requires
 trimmed-length-requires c κs = search needs
 
 trimmed-after-requires : tie.Need-trimmed-after-requires
-trimmed-after-requires c κs = omega (arith, trimmed-le isWhiteSpace (c .before .before .before .args .text .now))
+trimmed-after-requires c κs = omega (arith, trimmed-le (c .before .before .before .args .text .now))
 
 returns : tie.Need-returns
 returns c =

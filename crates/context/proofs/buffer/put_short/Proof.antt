@@ -38,7 +38,7 @@ returns c =
     let filled = c .before .before .before .before .before .before .before .fill-at in (
       c .trimmed-length .ensures,
       part-back (a .at + a .blanks) (a .text .now) (filled .last .0) (c .before .before .before .copy-short .last .0) (c .before .before .before .copy-short .ensures)
-      ∙ ap (λ (ys : List ℕ). splice (a .at + a .blanks) (a .text .now) ys) (filled .ensures),
+          ∙ ap (λ (ys : List ℕ). splice (a .at + a .blanks) (a .text .now) ys) (filled .ensures),
     )
 
 pub put-short-spec : {M : Type 1} → statement M
