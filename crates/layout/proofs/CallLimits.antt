@@ -5,8 +5,10 @@ use mathlib.Core.Path.{_≡_, ap}
 use mathlib.Core.List.{List, [], _++_}
 use lib.ListN.{length, replicate}
 use borrow.Author.Tests.{le-leb}
-use Rattle.context.specs.Context.{writeNewline, takePendingBlankLine, finish}
-use Rattle.context.specs.Trim.{trim}
+use Rattle.context.specs.Context.{writeNewline, takePendingBlankLine, trimEnd, finish}
+use Rattle.utf8.specs.Pieces.{cut}
+use Rattle.utf8.specs.Trim.{trim}
+use Rattle.utf8.specs.Trimming.{trimmed, trimmedLength}
 use Rattle.tape.specs.declared.Fault.{Fault}
 use Rattle.tape.specs.Faults.{number}
 use Rattle.tape.specs.Tree.{Tree, hasChild, countListItems, copied}
@@ -44,7 +46,7 @@ empty-answered o e = record { measuring = rw e; laying-out = λ space. rw (e, le
 -- ── the text: 262,144 bytes; n blanks with a File that has no child
 
 pub text-laid-out : (n : ℕ) → n ≤ 262144 → Answered (outcome original 4 1 (replicate n 32) (file ++ close)) 0 0
-unfolding outcome original format piecesOf pieces written calls walk copied hasChild headAt formatNode routineOf routines armsOf formatFile finish trim
+unfolding outcome original format piecesOf pieces written calls walk copied hasChild headAt formatNode routineOf routines armsOf formatFile finish trim trimEnd trimmed trimmedLength cut
 text-laid-out n h = empty-answered _ (ap (λ r. ofRead r (format original (configOf 4 1) (replicate n 32))) (text-accepted n h))
 
 pub text-too-long : (n : ℕ) (tape : List ℕ) → 262144 < n → Answered (outcome original 4 1 (replicate n 32) tape) 3 0
@@ -61,7 +63,7 @@ tape-too-long n h = refused-answered original 4 1 [] (replicate n 3) (tape-refus
 -- ── the open nodes: 64; one File in another
 
 pub nodes-laid-out : Answered (outcome original 4 1 [] (nested 64)) 0 0
-unfolding outcome original format piecesOf pieces written calls walk copied hasChild countListItems headAt formatNode routineOf routines armsOf formatFile step doSpacing takePendingBlankLine writeNewline finish trim
+unfolding outcome original format piecesOf pieces written calls walk copied hasChild countListItems headAt formatNode routineOf routines armsOf formatFile step doSpacing takePendingBlankLine writeNewline finish trim trimEnd trimmed trimmedLength cut
 nodes-laid-out = empty-answered _ (ap (λ r. ofRead r (format original (configOf 4 1) [])) nodes-accepted)
 
 pub nodes-too-deep : Answered (outcome original 4 1 [] (nested 65)) 11 704

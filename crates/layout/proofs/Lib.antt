@@ -1,6 +1,9 @@
 -- The laws about the definition, and the tables computed.
+pub mod EachCall
+pub mod PieceStarts
 pub mod MaskedLayouts
 pub mod TwoCalls
+pub mod AsciiPairs
 pub mod MaskingTests
 pub mod Origins
 pub mod Tables

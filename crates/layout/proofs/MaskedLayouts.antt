@@ -5,19 +5,23 @@ use native.Mathlib.Omega.{arith}
 use mathlib.Core.Path.{_≡_, refl, sym, ap, _∙_, subst}
 use mathlib.Core.Bool.{Bool, true, false, cond}
 use mathlib.Core.List.{List, [], _∷_, _++_, map}
-use lib.ListN.{length, getD}
+use lib.ListN.{length, getD, length-map}
 use lib.Dec.{T, eqb, leb, eqb→eq}
 use borrow.Author.Tests.{eqb-true, eqb-false, ne-eqb}
-use Rattle.context.specs.Cells.{Text, Cell, isWhiteSpace, tokenText, bytesOf, spanCells, copiedFrom}
-use Rattle.context.specs.Trim.{trimmedLength}
-use Rattle.context.specs.Context.{Piece, newState, lastByte, cellIsWhiteSpace, writeToken}
+use Rattle.utf8.specs.Pieces.{Starts}
+use Rattle.utf8.specs.Pieces as Chars
+use Rattle.utf8.specs.WhiteSpace.{isWhiteSpace}
+use Rattle.utf8.specs.Trimming.{trimmedLength, trimmedAfter}
+use Rattle.utf8.specs.Steps.{endWhite}
+use Rattle.utf8.proofs.Trimming.{trimmed-append, trimmed-whole}
+use Rattle.context.specs.Cells.{Text, Cell, tokenText, bytesOf, spanCells, copiedFrom, cellInCase}
+use Rattle.context.specs.Context.{Piece, newState, writeToken}
 use Rattle.context.specs.Context as context
 use Rattle.context.specs.Alike.{Like}
 use Rattle.context.specs.declared.FormatConfig.{FormatConfig}
 use Rattle.context.specs.declared.State.{State}
-use Rattle.context.proofs.Bytes.{bytes-span, token-last, token-same, trimmed-cells-in-case}
-use Rattle.context.proofs.Trimming.{trimmed-append}
-use Rattle.context.proofs.AlikeWrites.{like-self, like-append, like-length, span-like, keyword-like, trimmed-like, finish-like}
+use Rattle.context.proofs.Bytes.{bytes-append, bytes-span, bytes-in-case, token-length-same, token-same, trimmed-in-case}
+use Rattle.context.proofs.AlikeWrites.{like-self, like-append, like-length, span-like, keyword-like, finish-like}
 use Rattle.tape.specs.Kinds.{StringToken, QuotedIdentifier}
 use Rattle.tape.specs.declared.Head.{Head}
 use Rattle.tape.specs.Tree.{Children, done, token, node, Tree, countListItems, copied, EachToken, EachNode}
@@ -25,23 +29,22 @@ use Rattle.layout.specs.declared.Local.{Local}
 use Rattle.layout.specs.Arms.{Spacing, Act, spacing, writeText, writeKeyword, writeSign, isRead, seen, Arms}
 use Rattle.layout.specs.Calls.{Call, putSpacing, actAt, raw, formatErrorVerbatim, walk, calls}
 use Rattle.layout.specs.Layout.{step, pieces, written, Version, original, piecesOf, format}
-use Rattle.layout.specs.Masking.{OfCopied, EachReachedBelow, EachReachedCopy, quoted, Holds, StrictlyInside, Differ, EndsInWhiteSpace, Masked, MaskedForLayout, SameLines}
+use Rattle.layout.proofs.EachCall.{Every, each-call, of-copy, reached-below}
+use Rattle.layout.specs.SpanStarts.{SpansStart}
+use Rattle.layout.proofs.PieceStarts.{PieceStarts, none-starts, starts-append, spacing-starts, lead-starts, sign-starts, step-starts}
+use Rattle.layout.specs.Masking.{OfCopied, EachReachedBelow, EachReachedCopy, quoted, Holds, charactersOf, lastIsWhite, Differ, EndsInWhiteSpace, Masked, MaskedForLayout, SameLines}
 
 -- the tokens are those of a checked tape over a text of so many bytes
 abbrev pub TokenSpans : ℕ → Children → Type 0
 TokenSpans len = EachToken (λ h. (h .kind ≤ 257) × (h .start ≤ h .end) × (h .end ≤ len))
 
 -- a test decides equality of numbers
-stable : (x y : ℕ) → ((x ≡ y → ⊥) → ⊥) → x ≡ y
+pub stable : (x y : ℕ) → ((x ≡ y → ⊥) → ⊥) → x ≡ y
 stable x y f = go (eqb x y) refl
   where
     go : (t : Bool) → eqb x y ≡ t → x ≡ y
     go true e = eqb-true x y e
     go false e = absurd (f (eqb-false x y e))
-
-of-copy : (t : Bool) (A B : Type 0) → (T t → A) → B → OfCopied t A B
-of-copy true A B f y = f tt
-of-copy false A B f y = y
 
 -- a quoted token is not read
 quoted-unread : (h : Head) → T (quoted h) → isRead (h .kind) ≡ false
@@ -54,21 +57,46 @@ quoted-unread h q = go (eqb (h .kind) StringToken) refl
     go true e = at StringToken (eqb-true (h .kind) StringToken e) refl
     go false e = at QuotedIdentifier (eqb→eq (h .kind) QuotedIdentifier (rw e at q)) refl
 
+-- a text whose last character is no white space is kept whole
+ends-solid : (cs : List Chars.Piece) → (T (lastIsWhite cs) → ⊥) → 0 ≡ endWhite cs
+unfolding endWhite
+ends-solid [] n = refl
+ends-solid (c ∷ []) n = go (isWhiteSpace c) refl n
+  where
+    go : (t : Bool) → isWhiteSpace c ≡ t → (T t → ⊥) → 0 ≡ cond t (length (Chars.bytesOf c)) 0
+    go true e k = absurd (k tt)
+    go false e k = refl
+ends-solid (c ∷ d ∷ cs) n = ends-solid (d ∷ cs) n
+
 module _ (a b : Text) (sameLength : length a ≡ length b) where
   abbrev trimmed : List Cell → ℕ
-  trimmed = trimmedLength cellIsWhiteSpace
+  trimmed cs = trimmedLength (bytesOf cs)
+
+  trimmed-both : (xs ys : List Cell) → Starts (bytesOf ys) → trimmed (xs ++ ys) ≡ trimmedAfter (length xs) (trimmed xs) (trimmed ys)
+  trimmed-both xs ys h =
+      ap trimmedLength (bytes-append xs ys)
+      ∙ trimmed-append (bytesOf xs) (bytesOf ys) h
+      ∙ ap (λ (n : ℕ). trimmedAfter n (trimmed xs) (trimmed ys)) (length-map xs (λ (c : Cell). c .byte))
 
   -- ── what a masked pair gives of each token, and of each node that is copied
 
   record TokenAlike (h : Head) : Type 0 where
     seenSame : seen a h ≡ seen b h
     trims : trimmed (spanCells a (h .start) (h .end)) ≡ trimmed (spanCells b (h .start) (h .end))
+    startsA : Starts (tokenText a (h .start) (h .end))
+    startsB : Starts (tokenText b (h .start) (h .end))
 
   abbrev SameSpan : ℕ → ℕ → Type 0
   SameSpan s e = tokenText a s e ≡ tokenText b s e
 
+  abbrev CopySpan : ℕ → ℕ → Type 0
+  CopySpan s e = SameSpan s e × Starts (tokenText a s e)
+
   abbrev CopyAlike : Head → Type 0
-  CopyAlike h = SameSpan (h .start) (h .end)
+  CopyAlike h = CopySpan (h .start) (h .end)
+
+  abbrev EachAlike : List Call → Type 0
+  EachAlike = Every TokenAlike CopySpan
 
   -- ── the calls are equal
 
@@ -84,77 +112,37 @@ module _ (a b : Text) (sameLength : length a ≡ length b) where
     unfolding calls
     calls-same t w = rw (walk-same (t .kids) w (pick (t .head .kind) (t .kids)) ((pick (t .head .kind) (t .kids)) .begin))
 
-  -- ── each call is on a token of the tree, or copies a node that is copied as typed
-
-  abbrev CallAlike : Call → Type 0
-  CallAlike (putSpacing x) = Unit {0}
-  CallAlike (actAt h x) = TokenAlike h
-  CallAlike (raw s e) = SameSpan s e
-
-  Every : List Call → Type 0
-  Every [] = Unit {0}
-  Every (c ∷ cs) = CallAlike c × Every cs
-
-  every-append : (x y : List Call) → Every x → Every y → Every (x ++ y)
-  unfolding Every
-  every-append [] y u v = v
-  every-append (c ∷ x) y u v = (u .0, every-append x y (u .1) v)
-
-  every-spacing : (xs : List Spacing) → Every (map putSpacing xs)
-  unfolding Every
-  every-spacing [] = tt
-  every-spacing (x ∷ xs) = (tt, every-spacing xs)
-
-  every-act : (h : Head) → TokenAlike h → (xs : List Act) → Every (map (actAt h) xs)
-  unfolding Every
-  every-act h w [] = tt
-  every-act h w (x ∷ xs) = (w, every-act h w xs)
-
-  every-verbatim : (h : Head) → CopyAlike h → Every (formatErrorVerbatim h)
-  unfolding formatErrorVerbatim Every
-  every-verbatim h w = go (leb (h .start) (h .end))
-    where
-      go : (t : Bool) → Every (cond t (raw (h .start) (h .end) ∷ []) [])
-      go true = (w, tt)
-      go false = tt
-
-  every-cond : (t : Bool) (x y : List Call) (A B : Type 0) → OfCopied t A B → (A → Every x) → (B → Every y) → Every (cond t x y)
-  every-cond true x y A B w f g = f w
-  every-cond false x y A B w f g = g w
-
-  module _ (pick : ℕ → Children → Arms) where
-    walk-alike : (c : Children) → EachToken TokenAlike c → EachReachedBelow CopyAlike c → (r : Arms) (l : Local) → Every (walk pick a r l c)
-    unfolding walk
-    walk-alike done w v r l = every-spacing (r .atEnd l)
-    walk-alike (token h rest) w v r l =
-        every-append _ _ (every-act h (w .0) ((r .atToken l (seen a h)) .1)) (walk-alike rest (w .1) v r ((r .atToken l (seen a h)) .0))
-    walk-alike (node h kids rest) w v r l =
-        let q = pick (h .kind) kids in
-        let n = r .atNode l (h .kind) (countListItems kids) in
-        every-append _ _ (every-spacing (n .1))
-        (every-append _ _
-        (every-cond (copied (h .kind) kids) _ _ _ _ (v .0) (every-verbatim h) (λ u. walk-alike kids (w .0) u q (q .begin)))
-        (every-append _ _ (every-spacing (n .2)) (walk-alike rest (w .1) (v .1) r (n .0))))
-
-    calls-alike : (t : Tree) → EachToken TokenAlike (t .kids) → EachReachedCopy CopyAlike t → Every (calls pick a t)
-    unfolding calls
-    calls-alike t w v =
-        let q = pick (t .head .kind) (t .kids) in
-        every-cond (copied (t .head .kind) (t .kids)) _ _ _ _ v (every-verbatim (t .head)) (λ u. walk-alike (t .kids) w u q (q .begin))
-
   -- ── pieces that are alike
 
   pub record PieceLike (p q : Piece) : Type 0 where
     pub leads : p .lead ≡ q .lead
     pub bodies : Like a b (p .body) (q .body)
     pub trims : trimmed (p .body) ≡ trimmed (q .body)
+    pub startsA : PieceStarts p
+    pub startsB : PieceStarts q
 
   pub data PiecesLike : List Piece → List Piece → Type 0 where
     nil : PiecesLike [] []
     next : {p q : Piece} {ps qs : List Piece} → PieceLike p q → PiecesLike ps qs → PiecesLike (p ∷ ps) (q ∷ qs)
 
-  same-piece : (p : Piece) → PieceLike p p
-  same-piece p = record { leads = refl; bodies = like-self a b (p .body); trims = refl }
+  same-piece : (p : Piece) → PieceStarts p → PieceLike p p
+  same-piece p h = record { leads = refl; bodies = like-self a b (p .body); trims = refl; startsA = h; startsB = h }
+
+  -- a piece and what follows it
+  from-here : (p : Piece) (rest : List Cell) → PieceStarts p → Starts (bytesOf rest) → Starts (bytesOf (p .body ++ rest))
+  from-here p rest h r = subst Starts (sym (bytes-append (p .body) rest)) (starts-append (bytesOf (p .body)) (bytesOf rest) (h .1) r)
+
+  written-starts-both : (ps qs : List Piece) → PiecesLike ps qs → Starts (bytesOf (written ps)) × Starts (bytesOf (written qs))
+  unfolding written
+  written-starts-both ps qs nil = (none-starts, none-starts)
+  written-starts-both ps qs (next {p} {q} {ps = ps′} {qs = qs′} k r) =
+      let w = written-starts-both ps′ qs′ r in (
+        all-of p (written ps′) (k .startsA) (w .0),
+        all-of q (written qs′) (k .startsB) (w .1),
+      )
+    where
+      all-of : (p : Piece) (rest : List Cell) → PieceStarts p → Starts (bytesOf rest) → Starts (bytesOf (p .lead ++ (p .body ++ rest)))
+      all-of p rest h r = subst Starts (sym (bytes-append (p .lead) (p .body ++ rest))) (starts-append (bytesOf (p .lead)) (bytesOf (p .body ++ rest)) (h .0) (from-here p rest h r))
 
   written-like : (ps qs : List Piece) → PiecesLike ps qs → Like a b (written ps) (written qs)
   unfolding written
@@ -167,12 +155,13 @@ module _ (a b : Text) (sameLength : length a ≡ length b) where
   unfolding written
   written-trims ps qs nil = refl
   written-trims ps qs (next {p} {q} {ps = ps′} {qs = qs′} k r) =
+      let w = written-starts-both ps′ qs′ r in
       rw (
         k .leads,
-        trimmed-append cellIsWhiteSpace (q .lead) (p .body ++ written ps′),
-        trimmed-append cellIsWhiteSpace (q .lead) (q .body ++ written qs′),
-        trimmed-append cellIsWhiteSpace (p .body) (written ps′),
-        trimmed-append cellIsWhiteSpace (q .body) (written qs′),
+        trimmed-both (q .lead) (p .body ++ written ps′) (from-here p (written ps′) (k .startsA) (w .0)),
+        trimmed-both (q .lead) (q .body ++ written qs′) (from-here q (written qs′) (k .startsB) (w .1)),
+        trimmed-both (p .body) (written ps′) (w .0),
+        trimmed-both (q .body) (written qs′) (w .1),
         k .trims,
         like-length a b (p .body) (q .body) (k .bodies),
         written-trims ps′ qs′ r,
@@ -184,70 +173,79 @@ module _ (a b : Text) (sameLength : length a ≡ length b) where
   span-same s e w = ap (copiedFrom s) w
 
   module _ (config : FormatConfig) where
-    step-state : (c : Call) → CallAlike c → (s : State) → (step config a c s) .0 ≡ (step config b c s) .0
-    unfolding step writeToken context.writeKeyword
+    step-state : (c : Call) → EachAlike (c ∷ []) → (s : State) → (step config a c s) .0 ≡ (step config b c s) .0
+    unfolding step writeToken context.writeKeyword Every
     step-state (putSpacing x) w s = refl
     step-state (actAt h (spacing x)) w s = refl
     step-state (actAt h writeText) w s = refl
     step-state (actAt h writeKeyword) w s = refl
     step-state (actAt h (writeSign x)) w s = refl
-    step-state (raw f e) w s = rw (span-same f e w)
+    step-state (raw f e) w s = rw (span-same f e (w .0 .0))
 
     token-piece : (h : Head) → TokenAlike h → (s : State) → PieceLike ((writeToken config (spanCells a (h .start) (h .end)) s) .1) ((writeToken config (spanCells b (h .start) (h .end)) s) .1)
-    unfolding writeToken
-    token-piece h w s = record { leads = refl; bodies = span-like a b sameLength (h .start) (h .end); trims = w .trims }
+    unfolding writeToken step Every
+    token-piece h w s =
+        record {
+          leads = refl;
+          bodies = span-like a b sameLength (h .start) (h .end);
+          trims = w .trims;
+          startsA = step-starts config a (actAt h writeText) (w .startsA, tt) s;
+          startsB = step-starts config b (actAt h writeText) (w .startsB, tt) s;
+        }
 
     keyword-piece : (h : Head) → TokenAlike h → (s : State) → PieceLike ((context.writeKeyword config (spanCells a (h .start) (h .end)) s) .1) ((context.writeKeyword config (spanCells b (h .start) (h .end)) s) .1)
-    unfolding context.writeKeyword writeToken
+    unfolding context.writeKeyword writeToken step Every
     keyword-piece h w s =
         let u = config .«uppercase_keywords» in
         let k = keyword-like a b (spanCells a (h .start) (h .end)) (spanCells b (h .start) (h .end)) (span-like a b sameLength (h .start) (h .end)) config s in
         record {
           leads = refl;
           bodies = k .bodies;
-          trims = trimmed-cells-in-case u (spanCells a (h .start) (h .end)) ∙ w .trims ∙ sym (trimmed-cells-in-case u (spanCells b (h .start) (h .end)));
+          trims = in-case u (spanCells a (h .start) (h .end)) ∙ w .trims ∙ sym (in-case u (spanCells b (h .start) (h .end)));
+          startsA = step-starts config a (actAt h writeKeyword) (w .startsA, tt) s;
+          startsB = step-starts config b (actAt h writeKeyword) (w .startsB, tt) s;
         }
+      where
+        in-case : (u : Bool) (cs : List Cell) → trimmed (map (cellInCase u) cs) ≡ trimmed cs
+        in-case u cs = ap trimmedLength (bytes-in-case u cs) ∙ trimmed-in-case u (bytesOf cs)
 
-    step-piece : (c : Call) → CallAlike c → (s : State) → PieceLike ((step config a c s) .1) ((step config b c s) .1)
-    unfolding step
-    step-piece (putSpacing x) w s = same-piece _
-    step-piece (actAt h (spacing x)) w s = same-piece _
-    step-piece (actAt h writeText) w s = token-piece h w s
-    step-piece (actAt h writeKeyword) w s = keyword-piece h w s
-    step-piece (actAt h (writeSign x)) w s = same-piece _
-    step-piece (raw f e) w s = rw (span-same f e w) (same-piece _)
+    step-piece : (c : Call) → EachAlike (c ∷ []) → (s : State) → PieceLike ((step config a c s) .1) ((step config b c s) .1)
+    unfolding step writeToken Every
+    step-piece (putSpacing x) w s = same-piece _ (spacing-starts x s)
+    step-piece (actAt h (spacing x)) w s = same-piece _ (spacing-starts x s)
+    step-piece (actAt h writeText) w s = token-piece h (w .0) s
+    step-piece (actAt h writeKeyword) w s = keyword-piece h (w .0) s
+    step-piece (actAt h (writeSign x)) w s = same-piece _ (lead-starts config s, sign-starts x)
+    step-piece (raw f e) w s = rw (span-same f e (w .0 .0)) (same-piece _ (step-starts config b (raw f e) (subst Starts (w .0 .0) (w .0 .1), tt) s))
 
-    pieces-like : (cs : List Call) → Every cs → (s : State) → PiecesLike (pieces config a cs s) (pieces config b cs s)
+    pieces-like : (cs : List Call) → EachAlike cs → (s : State) → PiecesLike (pieces config a cs s) (pieces config b cs s)
     unfolding pieces Every
     pieces-like [] w s = nil
     pieces-like (c ∷ cs) w s =
-        next (step-piece c (w .0) s)
-        (subst (λ x. PiecesLike (pieces config a cs ((step config a c s) .0)) (pieces config b cs x)) (step-state c (w .0) s) (pieces-like cs (w .1) ((step config a c s) .0)))
+        next (step-piece c (w .0, tt) s)
+        (subst (λ x. PiecesLike (pieces config a cs ((step config a c s) .0)) (pieces config b cs x)) (step-state c (w .0, tt) s) (pieces-like cs (w .1) ((step config a c s) .0)))
 
   -- ── from the rule's words to what each token and each copied node gives
 
   -- where no place of the span is masked
-  same-token : (h : Head) → SameSpan (h .start) (h .end) → TokenAlike h
+  same-token : (h : Head) → SameSpan (h .start) (h .end) → Starts (tokenText a (h .start) (h .end)) → TokenAlike h
   unfolding seen
-  same-token h s = record { seenSame = rw s; trims = rw (span-same (h .start) (h .end) s) }
+  same-token h s u = record { seenSame = rw s; trims = rw (span-same (h .start) (h .end) s); startsA = u; startsB = subst Starts s u }
 
-  -- the texts agree at the last place of a quoted token, which is no white space
-  masked-token : (h : Head) → T (quoted h) → h .start < h .end → h .end ≤ length a → getD a (h .end - 1) 0 ≡ getD b (h .end - 1) 0
-      → isWhiteSpace (getD a (h .end - 1) 0) ≡ false → TokenAlike h
+  -- a quoted token that ends in white space in neither text
+  masked-token : (h : Head) → T (quoted h) → (EndsInWhiteSpace a h → ⊥) → (EndsInWhiteSpace b h → ⊥)
+      → Starts (tokenText a (h .start) (h .end)) → Starts (tokenText b (h .start) (h .end)) → TokenAlike h
   unfolding seen
-  masked-token h q lt k e w =
+  masked-token h q v w x y =
       record {
         seenSame = rw (quoted-unread h q);
-        trims =
-            trimmed-like a b (spanCells a (h .start) (h .end)) (spanCells b (h .start) (h .end)) (span-like a b sameLength (h .start) (h .end))
-            (last-a ∙ e ∙ sym last-b) (ap isWhiteSpace last-a ∙ w);
+        trims = whole a v ∙ token-length-same a b (h .start) (h .end) sameLength ∙ sym (whole b w);
+        startsA = x;
+        startsB = y;
       }
     where
-      last-a : lastByte (bytesOf (spanCells a (h .start) (h .end))) ≡ getD a (h .end - 1) 0
-      last-a = ap lastByte (bytes-span a (h .start) (h .end)) ∙ token-last a (h .start) (h .end) lt k
-
-      last-b : lastByte (bytesOf (spanCells b (h .start) (h .end))) ≡ getD b (h .end - 1) 0
-      last-b = ap lastByte (bytes-span b (h .start) (h .end)) ∙ token-last b (h .start) (h .end) lt (omega arith)
+      whole : (t : Text) → (EndsInWhiteSpace t h → ⊥) → trimmed (spanCells t (h .start) (h .end)) ≡ length (tokenText t (h .start) (h .end))
+      whole t n = ap trimmedLength (bytes-span t (h .start) (h .end)) ∙ trimmed-whole (tokenText t (h .start) (h .end)) (ends-solid (charactersOf t h) n)
 
   -- a span holds a masked place, or is the same in both texts
   data Span (s e : ℕ) : Type 0 where
@@ -270,47 +268,41 @@ module _ (a b : Text) (sameLength : length a ≡ length b) where
       go (same f) true e = same (λ p lo hi. last p hi (f p lo) (eqb-true _ _ e))
       go (same f) false e = masked (s + n) (omega arith) (omega arith) (eqb-false _ _ e)
 
-  alike-token : (h : Head) → h .start ≤ h .end → h .end ≤ length a → ((p : ℕ) → Differ a b p → Holds p h → StrictlyInside p h)
-      → ((p : ℕ) → Differ a b p → Holds p h → T (quoted h)) → ((p : ℕ) → Differ a b p → Holds p h → EndsInWhiteSpace a h → ⊥) → TokenAlike h
-  alike-token h le fits f g w = go (subst (Span (h .start)) (omega arith) (span (h .start) (h .end - h .start)))
+  abbrev SolidIfHeld : ℕ → Head → Type 0
+  SolidIfHeld p h = Holds p h → (EndsInWhiteSpace a h → ⊥) × (EndsInWhiteSpace b h → ⊥)
+
+  alike-token : (h : Head) → h .start ≤ h .end → Starts (tokenText a (h .start) (h .end)) → Starts (tokenText b (h .start) (h .end))
+      → ((p : ℕ) → Differ a b p → Holds p h → T (quoted h)) → ((p : ℕ) → Differ a b p → SolidIfHeld p h) → TokenAlike h
+  alike-token h le u v g w = go (subst (Span (h .start)) (omega arith) (span (h .start) (h .end - h .start)))
     where
-      none : (t : Bool) → (T t → ⊥) → t ≡ false
-      none true u = absurd (u tt)
-      none false u = refl
-
       go : Span (h .start) (h .end) → TokenAlike h
-      go (masked p lo hi d) =
-          masked-token h (g p d (lo, hi)) (omega arith) fits
-          (stable _ _ (λ e. let v : StrictlyInside (h .end - 1) h = f (h .end - 1) e (omega arith, omega arith) in omega arith))
-          (none (isWhiteSpace (getD a (h .end - 1) 0)) (λ x. w p d (lo, hi) (omega arith, x)))
-      go (same e) = same-token h (token-same a b (h .start) (h .end) sameLength e)
+      go (masked p lo hi d) = masked-token h (g p d (lo, hi)) (w p d (lo, hi) .0) (w p d (lo, hi) .1) u v
+      go (same e) = same-token h (token-same a b (h .start) (h .end) sameLength e) u
 
-  alike-tokens : (c : Children) → TokenSpans (length a) c → ((p : ℕ) → Differ a b p → EachToken (λ h. Holds p h → StrictlyInside p h) c)
-      → ((p : ℕ) → Differ a b p → EachToken (λ h. Holds p h → T (quoted h)) c)
-      → ((p : ℕ) → Differ a b p → EachToken (λ h. Holds p h → EndsInWhiteSpace a h → ⊥) c) → EachToken TokenAlike c
-  alike-tokens done s f g w = tt
-  alike-tokens (token h rest) s f g w = (
-    alike-token h (s .0 .1) (s .0 .2) (λ p d. (f p d) .0) (λ p d. (g p d) .0) (λ p d. (w p d) .0),
-    alike-tokens rest (s .1) (λ p d. (f p d) .1) (λ p d. (g p d) .1) (λ p d. (w p d) .1),
-  )
-  alike-tokens (node h kids rest) s f g w = (
-    alike-tokens kids (s .0) (λ p d. (f p d) .0) (λ p d. (g p d) .0) (λ p d. (w p d) .0),
-    alike-tokens rest (s .1) (λ p d. (f p d) .1) (λ p d. (g p d) .1) (λ p d. (w p d) .1),
+  alike-tokens : (c : Children) → TokenSpans (length a) c → EachToken (λ h. Starts (tokenText a (h .start) (h .end))) c → EachToken (λ h. Starts (tokenText b (h .start) (h .end))) c
+      → ((p : ℕ) → Differ a b p → EachToken (λ h. Holds p h → T (quoted h)) c) → ((p : ℕ) → Differ a b p → EachToken (SolidIfHeld p) c) → EachToken TokenAlike c
+  alike-tokens done s u v g w = tt
+  alike-tokens (token h rest) s u v g w =
+      (alike-token h (s .0 .1) (u .0) (v .0) (λ p d. (g p d) .0) (λ p d. (w p d) .0), alike-tokens rest (s .1) (u .1) (v .1) (λ p d. (g p d) .1) (λ p d. (w p d) .1))
+  alike-tokens (node h kids rest) s u v g w = (
+    alike-tokens kids (s .0) (u .0) (v .0) (λ p d. (g p d) .0) (λ p d. (w p d) .0),
+    alike-tokens rest (s .1) (u .1) (v .1) (λ p d. (g p d) .1) (λ p d. (w p d) .1),
   )
 
-  alike-copy : (h : Head) → ((p : ℕ) → Differ a b p → Holds p h → ⊥) → CopyAlike h
-  alike-copy h f = token-same a b (h .start) (h .end) sameLength (λ p lo hi. stable _ _ (λ d. f p d (lo, hi)))
+  alike-copy : (h : Head) → Starts (tokenText a (h .start) (h .end)) → ((p : ℕ) → Differ a b p → Holds p h → ⊥) → CopyAlike h
+  alike-copy h u f = (token-same a b (h .start) (h .end) sameLength (λ p lo hi. stable _ _ (λ d. f p d (lo, hi))), u)
 
-  of-copied : (t : Bool) (A B : Type 0) (A′ B′ : ℕ → Type 0) → ((p : ℕ) → Differ a b p → OfCopied t (A′ p) (B′ p))
-      → (((p : ℕ) → Differ a b p → A′ p) → A) → (((p : ℕ) → Differ a b p → B′ p) → B) → OfCopied t A B
-  of-copied true A B A′ B′ f u v = u f
-  of-copied false A B A′ B′ f u v = v f
+  of-copied : (t : Bool) (A B S U : Type 0) (A′ B′ : ℕ → Type 0) → OfCopied t S U → ((p : ℕ) → Differ a b p → OfCopied t (A′ p) (B′ p))
+      → (S → ((p : ℕ) → Differ a b p → A′ p) → A) → (U → ((p : ℕ) → Differ a b p → B′ p) → B) → OfCopied t A B
+  of-copied true A B S U A′ B′ x f u v = u x f
+  of-copied false A B S U A′ B′ x f u v = v x f
 
-  alike-copies : (c : Children) → ((p : ℕ) → Differ a b p → EachReachedBelow (λ h. Holds p h → ⊥) c) → EachReachedBelow CopyAlike c
-  alike-copies done f = tt
-  alike-copies (token h rest) f = alike-copies rest f
-  alike-copies (node h kids rest) f =
-      (of-copied (copied (h .kind) kids) _ _ _ _ (λ p d. (f p d) .0) (alike-copy h) (alike-copies kids), alike-copies rest (λ p d. (f p d) .1))
+  alike-copies : (c : Children) → EachReachedBelow (λ h. Starts (tokenText a (h .start) (h .end))) c → ((p : ℕ) → Differ a b p → EachReachedBelow (λ h. Holds p h → ⊥) c)
+      → EachReachedBelow CopyAlike c
+  alike-copies done x f = tt
+  alike-copies (token h rest) x f = alike-copies rest x f
+  alike-copies (node h kids rest) x f =
+      (of-copied (copied (h .kind) kids) _ _ _ _ _ _ (x .0) (λ p d. (f p d) .0) (alike-copy h) (alike-copies kids), alike-copies rest (x .1) (λ p d. (f p d) .1))
 
   -- ── the theorem
 
@@ -322,25 +314,25 @@ module _ (a b : Text) (sameLength : length a ≡ length b) where
   unfolding original
   original-keeps-alike ps qs k = k
 
-  same-pieces : (v : Version) → KeepsAlike v → (config : FormatConfig) (t : Tree) → TokenSpans (length a) (t .kids) → MaskedForLayout a b t
+  same-pieces : (v : Version) → KeepsAlike v → (config : FormatConfig) (t : Tree) → TokenSpans (length a) (t .kids) → SpansStart a t → SpansStart b t → MaskedForLayout a b t
       → PiecesLike (piecesOf v config a t) (piecesOf v config b t)
   unfolding piecesOf
-  same-pieces v keeps config t s m =
+  same-pieces v keeps config t s x y m =
       subst (λ cs. PiecesLike (v .between (pieces config a (calls (v .pick) a t) newState)) (v .between (pieces config b cs newState)))
       (calls-same (v .pick) t tokens)
-      (keeps _ _ (pieces-like config (calls (v .pick) a t) (calls-alike (v .pick) t tokens copies) newState))
+      (keeps _ _ (pieces-like config (calls (v .pick) a t) (each-call TokenAlike CopySpan (v .pick) a t tokens copies) newState))
     where
       tokens : EachToken TokenAlike (t .kids)
-      tokens = alike-tokens (t .kids) s (m .strictlyInside) (m .inQuotes) (m .noWhiteSpaceEnd)
+      tokens = alike-tokens (t .kids) s (x .tokens) (y .tokens) (m .inQuotes) (m .noWhiteSpaceEnd)
 
       copies : EachReachedCopy CopyAlike t
-      copies = of-copied (copied (t .head .kind) (t .kids)) _ _ _ _ (m .notCopied) (alike-copy (t .head)) (alike-copies (t .kids))
+      copies = of-copied (copied (t .head .kind) (t .kids)) _ _ _ _ _ _ (x .copies) (m .notCopied) (alike-copy (t .head)) (alike-copies (t .kids))
 
-  pub masking : (v : Version) → KeepsAlike v → (config : FormatConfig) (t : Tree) → TokenSpans (length a) (t .kids) → MaskedForLayout a b t
+  pub masking : (v : Version) → KeepsAlike v → (config : FormatConfig) (t : Tree) → TokenSpans (length a) (t .kids) → SpansStart a t → SpansStart b t → MaskedForLayout a b t
       → Like a b (format v config a t) (format v config b t)
   unfolding format
-  masking v keeps config t s m =
-      let k = same-pieces v keeps config t s m in
+  masking v keeps config t s x y m =
+      let k = same-pieces v keeps config t s x y m in
       let ps = piecesOf v config a t in
       let qs = piecesOf v config b t in
       finish-like a b (written ps) (written qs) (written-like ps qs k) (written-trims ps qs k)
@@ -348,29 +340,16 @@ module _ (a b : Text) (sameLength : length a ≡ length b) where
 -- ── demand 3's own conditions ask for more
 
 module _ (a b : Text) where
-  reached-below : (P : Head → Type 0) (c : Children) → EachNode (λ h kids. T (copied (h .kind) kids) → P h) c → EachReachedBelow P c
-  reached-below P done u = tt
-  reached-below P (token h rest) u = reached-below P rest u
-  reached-below P (node h kids rest) u =
-      (of-copy (copied (h .kind) kids) (P h) (EachReachedBelow P kids) (u .0) (reached-below P kids (u .1)), reached-below P rest (u .2))
-
-  solid : (p : ℕ) (c : Children) → EachToken (λ h. Holds p h → T (quoted h)) c → EachToken (λ h. T (quoted h) → EndsInWhiteSpace a h → ⊥) c
-      → EachToken (λ h. Holds p h → EndsInWhiteSpace a h → ⊥) c
-  solid p done q w = tt
-  solid p (token h rest) q w = (λ i. w .0 (q .0 i), solid p rest (q .1) (w .1))
-  solid p (node h kids rest) q w = (solid p kids (q .0) (w .0), solid p rest (q .1) (w .1))
-
   pub masked-for-layout : (t : Tree) → Masked a b t → MaskedForLayout a b t
   masked-for-layout t m =
       record {
-        strictlyInside = m .strictlyInside;
         inQuotes = m .inQuotes;
         notCopied =
             λ p d.
             let u = m .notCopied p d in
             let P : Head → Type 0 = λ h. Holds p h → ⊥ in
             of-copy (copied (t .head .kind) (t .kids)) (P (t .head)) (EachReachedBelow P (t .kids)) (u .0) (reached-below P (t .kids) (u .1));
-        noWhiteSpaceEnd = λ p d. solid p (t .kids) (m .inQuotes p d) (m .noWhiteSpaceEnd);
+        noWhiteSpaceEnd = m .noWhiteSpaceEnd;
       }
 
   -- a masked place holds a newline in neither text, so newlines stand at the same places

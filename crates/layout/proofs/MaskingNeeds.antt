@@ -2,7 +2,7 @@
 use Prim.Native.Nat.{ℕ, zero, suc, _<_}
 use native.Mathlib.Omega.{arith}
 use mathlib.Core.Path.{_≡_, refl, subst}
-use mathlib.Core.Bool.{Bool, false, not, _&&_, _||_}
+use mathlib.Core.Bool.{Bool, true, false, not, _&&_, _||_}
 use mathlib.Core.List.{List, [], _∷_}
 use lib.ListN.{length, getD}
 use lib.Dec.{T, T-not, eqb, lit<}
@@ -11,12 +11,12 @@ use borrow.Author.Tests.{ne-eqb}
 use Rattle.context.specs.Cells.{Text}
 use Rattle.tape.specs.Tree.{Tree}
 use Rattle.tape.specs.Tape.{Read, refused, got, readTree}
-use Rattle.tape.specs.Call.{readCall}
+use Rattle.tape.specs.Call.{letPass, readCall}
 use Rattle.layout.specs.Layout.{original}
 use Rattle.layout.specs.Outcome.{outcome}
 use Rattle.layout.specs.Masking.{Differ, MaskedPair, MaskedPairForLayout}
-use Rattle.layout.specs.MaskingTests.{Condition, sameLength, asciiTexts, noNewline, inSomeToken, strictlyInside, inQuotes, notCopied, noWhiteSpaceEnd, Asks, holds, holdsForLayout}
-use Rattle.layout.specs.MaskingNeeds.{Pair, space, Claim, claimed, conditions, ofTree, allHold, meets, masked, meetsForLayout, maskedForLayout, Broken, number, needed, allNeeded, pairs, Needed, EachNeeded}
+use Rattle.layout.specs.MaskingTests.{Condition, sameLength, noNewline, inSomeToken, strictlyInside, inQuotes, notCopied, noWhiteSpaceEnd, Asks, holds, holdsForLayout}
+use Rattle.layout.specs.MaskingNeeds.{Pair, space, Claim, claimed, conditions, ofTree, allHold, bothPass, meets, masked, meetsForLayout, maskedForLayout, Broken, number, needed, allNeeded, pairs, Needed, EachNeeded}
 use Rattle.layout.proofs.TwoCalls.{demand-3}
 use Rattle.layout.proofs.MaskingTests.{asked, asked-for-layout, says}
 use Rattle.layout.proofs.Tables.{tables}
@@ -33,7 +33,6 @@ module _ (leftOut : Condition → Bool) (a b : Text) (t : Tree) where
   -- each condition stands in the list
   listed : (c : Condition) → (number c < length conditions) × (getD conditions (number c) sameLength ≡ c)
   listed sameLength = (lit< tt, refl)
-  listed asciiTexts = (lit< tt, refl)
   listed noNewline = (lit< tt, refl)
   listed inSomeToken = (lit< tt, refl)
   listed strictlyInside = (lit< tt, refl)
@@ -50,6 +49,10 @@ module _ (leftOut : Condition → Bool) (a b : Text) (t : Tree) where
 of-tree : (f : Tree → Bool) (r : Read Tree) (t : Tree) (p : ℕ) → T (ofTree f r) → r ≡ got t p → T (f t)
 of-tree f r t p u e = subst (λ (x : Read Tree). T (ofTree f x)) e u
 
+is-true : (x : Bool) → T x → x ≡ true
+is-true true t = refl
+is-true false t = absurd t
+
 -- ── the pair that meets all conditions
 
 -- what the tree that was read gives, whichever it is
@@ -61,12 +64,20 @@ module _ (x : Pair) where
   abbrev call : Read Tree
   call = readCall 4 1 (x .first) (x .tape)
 
+  abbrev other : Read Tree
+  other = readCall 4 1 (x .second) (x .tape)
+
+  passes : (r : Bool) → T (bothPass x && r) → (letPass call ≡ true) × (letPass other ≡ true)
+  passes r u =
+      let v = and-l (bothPass x) r u in (is-true (letPass call) (and-l (letPass call) (letPass other) v), is-true (letPass other) (and-r (letPass call) (letPass other) v))
+
   meets-pair : T (meets x) → MaskedPair 4 1 (x .first) (x .second) (x .tape)
-  meets-pair u =
+  meets-pair w =
+      let u = and-r (bothPass x) (ofTree f call) w in
       record {
         sameLength = of-some f call u (λ t v. asks t v sameLength);
-        asciiA = of-some f call u (λ t v. asks t v asciiTexts .0);
-        asciiB = of-some f call u (λ t v. asks t v asciiTexts .1);
+        passA = passes (ofTree f call) w .0;
+        passB = passes (ofTree f call) w .1;
         rule =
             λ t p e.
             let v = of-tree f call t p u e in
@@ -87,28 +98,23 @@ module _ (x : Pair) where
       asks t v c = all-asked (λ d. false) (x .first) (x .second) t v c refl
 
   meets-pair-for-layout : T (meetsForLayout x) → MaskedPairForLayout 4 1 (x .first) (x .second) (x .tape)
-  meets-pair-for-layout u =
+  meets-pair-for-layout w =
+      let u = and-r (bothPass x) (ofTree f call) w in
       record {
-        sameLength = of-some f call u (λ t v. asked (x .first) (x .second) t sameLength (and-l (l t) (a t) (and-l (l t && a t) (h t) v)));
-        asciiA = of-some f call u (λ t v. ascii t v .0);
-        asciiB = of-some f call u (λ t v. ascii t v .1);
-        rule = λ t p e. asked-for-layout (x .first) (x .second) t (and-r (l t && a t) (h t) (of-tree f call t p u e));
+        sameLength = of-some f call u (λ t v. asked (x .first) (x .second) t sameLength (and-l (l t) (h t) v));
+        passA = passes (ofTree f call) w .0;
+        passB = passes (ofTree f call) w .1;
+        rule = λ t p e. asked-for-layout (x .first) (x .second) t (and-r (l t) (h t) (of-tree f call t p u e));
       }
     where
       l : Tree → Bool
       l t = holds (x .first) (x .second) t sameLength
 
-      a : Tree → Bool
-      a t = holds (x .first) (x .second) t asciiTexts
-
       h : Tree → Bool
       h t = holdsForLayout (x .first) (x .second) t
 
       f : Tree → Bool
-      f t = (l t && a t) && h t
-
-      ascii : (t : Tree) → T (f t) → Asks asciiTexts (x .first) (x .second) t
-      ascii t v = asked (x .first) (x .second) t asciiTexts (and-r (l t) (a t) (and-l (l t && a t) (h t) v))
+      f t = l t && h t
 
 pub met : MaskedPair 4 1 (masked .first) (masked .second) (masked .tape)
 met = meets-pair masked (and-l (meets masked) (meetsForLayout maskedForLayout) (tables .met))
@@ -124,12 +130,12 @@ worked = demand-3 4 1 (masked .first) (masked .second) (masked .tape) met space
 -- its texts differ
 pub masked-differs : Differ (masked .first) (masked .second) 8
 unfolding masked
-masked-differs e = T-not (eqb 97 42) tt (subst (λ (n : ℕ). T (eqb 97 n)) e tt)
+masked-differs e = T-not (eqb 0xC3 0xF0) tt (subst (λ (n : ℕ). T (eqb 0xC3 n)) e tt)
 
 -- ── each condition is needed
 
 is-needed : (x : Broken) → T (needed x) → Needed x
-is-needed x u = go (readTree (length (x .pair .first)) (x .pair .tape)) refl (and-l read (not (claimed (x .pair))) u)
+is-needed x u = go (readTree (length (x .pair .first)) (x .pair .tape)) refl (and-l read (bothPass (x .pair) && not (claimed (x .pair))) u)
   where
     f : Tree → Bool
     f = allHold (λ c. eqb (number c) (number (x .without))) (x .pair .first) (x .pair .second) conditions
@@ -144,12 +150,13 @@ is-needed x u = go (readTree (length (x .pair .first)) (x .pair .tape)) refl (an
           tree = t;
           place = p;
           read = e;
+          passes = and-l (bothPass (x .pair)) (not (claimed (x .pair))) (and-r read (bothPass (x .pair) && not (claimed (x .pair))) u);
           others =
               λ c ne.
               all-asked (λ d. eqb (number d) (number (x .without))) (x .pair .first) (x .pair .second) t v c (ne-eqb (number c) (number (x .without)) ne);
           broken =
               λ k.
-              T-not (claimed (x .pair)) (and-r read (not (claimed (x .pair))) u)
+              T-not (claimed (x .pair)) (and-r (bothPass (x .pair)) (not (claimed (x .pair))) (and-r read (bothPass (x .pair) && not (claimed (x .pair))) u))
               (says (x .pair .first) (x .pair .second) (outcome original 4 1 (x .pair .first) (x .pair .tape)) (outcome original 4 1 (x .pair .second) (x .pair .tape)) space k);
         }
 

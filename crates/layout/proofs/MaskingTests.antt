@@ -8,17 +8,14 @@ use lib.ListN.{length, getD, List·getD-eq-default}
 use lib.Dec.{T, T-not, eqb, leb, ltb, leb→le, ltb→lt, eqb→eq, eqb-refl, le→leb, lt→ltb}
 use lib.Ieee.Fits.{and-l, and-r, and-i}
 use borrow.Author.Tests.{eqb-true, eqb-false, ltb-false}
-use Rattle.context.specs.Cells.{Text, Origin, made, from, Cell, isWhiteSpace}
+use Rattle.context.specs.Cells.{Text, Origin, made, from, Cell}
 use Rattle.context.specs.Alike.{Agree, CellLike, Like}
 use Rattle.tape.specs.declared.Head.{Head}
-use Rattle.tape.specs.declared.Place.{Place}
-use Rattle.tape.specs.declared.Place.the-variants.{Nowhere, At}
 use Rattle.tape.specs.Tree.{Children, done, token, node, Tree, copied, EachToken, EachNode}
-use Rattle.tape.specs.Call.{firstNonAscii}
 use Rattle.layout.specs.declared.Answer.{Answer}
 use Rattle.layout.specs.Outcome.{Outcome, measured, laidOut}
-use Rattle.layout.specs.Masking.{SomeToken, here, afterToken, within, afterNode, OfCopied, EachReachedBelow, EachReachedCopy, quoted, Holds, StrictlyInside, Differ, EndsInWhiteSpace, MaskedForLayout, cellsAfter, SameLines, AlikeByLines}
-use Rattle.layout.specs.MaskingTests.{Condition, sameLength, asciiTexts, noNewline, inSomeToken, strictlyInside, inQuotes, notCopied, noWhiteSpaceEnd, Asks, eachToken, someToken, eachCopiedBelow, eachReachedBelow, eachMasked, holdsPlace, endsInWhiteSpace, isNowhere, holds, reachedHold, holdsForLayout, sameAnswer, cellLike, cellsLike, bothOrNeither, sameLines, alikeByLines}
+use Rattle.layout.specs.Masking.{SomeToken, here, afterToken, within, afterNode, OfCopied, EachReachedBelow, EachReachedCopy, quoted, Holds, charactersOf, firstLength, lastLength, lastIsWhite, StrictlyInside, Differ, EndsInWhiteSpace, MaskedForLayout, cellsAfter, SameLines, AlikeByLines}
+use Rattle.layout.specs.MaskingTests.{Condition, sameLength, noNewline, inSomeToken, strictlyInside, inQuotes, notCopied, noWhiteSpaceEnd, Asks, eachToken, someToken, eachCopiedBelow, eachReachedBelow, eachMasked, holdsPlace, isInside, isSolid, ofHeld, holds, reachedHold, holdsForLayout, sameAnswer, cellLike, cellsLike, bothOrNeither, sameLines, alikeByLines}
 
 -- ── a test that says yes gives the condition
 
@@ -29,10 +26,6 @@ if-so false y t u = absurd u
 or-yes : {A : Type 0} (x y : Bool) → (T x → A) → (T y → A) → T (x || y) → A
 or-yes true y f g t = f tt
 or-yes false y f g t = g t
-
-nowhere : (p : Place) → T (isNowhere p) → p ≡ Nowhere
-nowhere Nowhere t = refl
-nowhere (At p) t = absurd t
 
 each-token : (P : Head → Type 0) (f : Head → Bool) → ((h : Head) → T (f h) → P h) → (c : Children) → T (eachToken f c) → EachToken P c
 each-token P f g done t = tt
@@ -113,31 +106,34 @@ module _ (a b : Text) where
   place-held : (p : ℕ) (h : Head) → T (holdsPlace p h) → Holds p h
   place-held p h t = (leb→le (h .start) p (and-l (leb (h .start) p) (ltb p (h .end)) t), ltb→lt p (h .end) (and-r (leb (h .start) p) (ltb p (h .end)) t))
 
-  no-white-space-end : (h : Head) → T (not (endsInWhiteSpace a h)) → EndsInWhiteSpace a h → ⊥
-  no-white-space-end h n e =
-      T-not (endsInWhiteSpace a h) n (and-i (ltb (h .start) (h .end)) (isWhiteSpace (getD a (h .end - 1) 0)) (lt→ltb (h .start) (h .end) (e .0)) (e .1))
+  -- of both texts, for each token that holds the place
+  of-held : (p : ℕ) (t : Tree) (f : Text → Head → Bool) (P : Text → Head → Type 0) → ((x : Text) (h : Head) → T (f x h) → P x h) → T (ofHeld a b f p t)
+      → EachToken (λ h. Holds p h → P a h × P b h) (t .kids)
+  of-held p t f P g u =
+      each-token (λ h. Holds p h → P a h × P b h) (λ h. not (holdsPlace p h) || (f a h && f b h))
+      (λ h v k. let w = if-so (holdsPlace p h) (f a h && f b h) v (holds-place p h k) in (g a h (and-l (f a h) (f b h) w), g b h (and-r (f a h) (f b h) w)))
+      (t .kids)
+      u
+
+  is-inside : (p : ℕ) (x : Text) (h : Head) → T (isInside x p h) → StrictlyInside x p h
+  is-inside p x h u =
+      let n = h .start + firstLength (charactersOf x h) in
+      let m = p + lastLength (charactersOf x h) in (leb→le n p (and-l (leb n p) (ltb m (h .end)) u), ltb→lt m (h .end) (and-r (leb n p) (ltb m (h .end)) u))
+
+  is-solid : (x : Text) (h : Head) → T (isSolid x h) → EndsInWhiteSpace x h → ⊥
+  is-solid x h u e = T-not (lastIsWhite (charactersOf x h)) u e
 
   not-ten : (n : ℕ) → T (not (eqb n 10)) → n ≡ 10 → ⊥
   not-ten n t e = T-not (eqb n 10) t (rw e tt)
 
   pub asked : (t : Tree) (c : Condition) → T (holds a b t c) → Asks c a b t
   asked t sameLength u = eqb→eq (length a) (length b) u
-  asked t asciiTexts u =
-      let x = isNowhere (firstNonAscii 0 a) in
-      let y = isNowhere (firstNonAscii 0 b) in (nowhere (firstNonAscii 0 a) (and-l x y u), nowhere (firstNonAscii 0 b) (and-r x y u))
   asked t noNewline u = λ p d.
       let x = not (eqb (getD a p 0) 10) in
       let y = not (eqb (getD b p 0) 10) in
       let v = at-masked (λ q. not (eqb (getD a q 0) 10) && not (eqb (getD b q 0) 10)) u p d in (not-ten (getD a p 0) (and-l x y v), not-ten (getD b p 0) (and-r x y v))
   asked t inSomeToken u = λ p d. some-token (Holds p) (holdsPlace p) (place-held p) (t .kids) (at-masked (λ q. someToken (holdsPlace q) (t .kids)) u p d)
-  asked t strictlyInside u = λ p d.
-      each-token (λ h. Holds p h → StrictlyInside p h) (λ h. not (holdsPlace p h) || (ltb (h .start) p && ltb (suc p) (h .end)))
-      (λ h v k.
-      let x = ltb (h .start) p in
-      let y = ltb (suc p) (h .end) in
-      let w = if-so (holdsPlace p h) (x && y) v (holds-place p h k) in (ltb→lt (h .start) p (and-l x y w), ltb→lt (suc p) (h .end) (and-r x y w)))
-      (t .kids)
-      (at-masked (λ q. eachToken (λ h. not (holdsPlace q h) || (ltb (h .start) q && ltb (suc q) (h .end))) (t .kids)) u p d)
+  asked t strictlyInside u = λ p d. of-held p t (λ x. isInside x p) (λ x h. StrictlyInside x p h) (is-inside p) (at-masked (λ q. ofHeld a b (λ x. isInside x q) q t) u p d)
   asked t inQuotes u = λ p d.
       each-token (λ h. Holds p h → T (quoted h)) (λ h. not (holdsPlace p h) || quoted h)
       (λ h v k. if-so (holdsPlace p h) (quoted h) v (holds-place p h k))
@@ -152,33 +148,20 @@ module _ (a b : Text) where
         λ k i. T-not (holdsPlace p (t .head)) (if-so root (not (holdsPlace p (t .head))) (and-l x y v) k) (holds-place p (t .head) i),
         each-copied (λ h. Holds p h → ⊥) (λ h. not (holdsPlace p h)) (λ h n i. T-not (holdsPlace p h) n (holds-place p h i)) (t .kids) (and-r x y v),
       )
-  asked t noWhiteSpaceEnd u =
-      each-token (λ h. T (quoted h) → EndsInWhiteSpace a h → ⊥) (λ h. not (quoted h) || not (endsInWhiteSpace a h))
-      (λ h v q. no-white-space-end h (if-so (quoted h) (not (endsInWhiteSpace a h)) v q))
-      (t .kids)
-      u
+  asked t noWhiteSpaceEnd u = λ p d. of-held p t isSolid (λ x h. EndsInWhiteSpace x h → ⊥) is-solid (at-masked (λ q. ofHeld a b isSolid q t) u p d)
 
   pub asked-for-layout : (t : Tree) → T (holdsForLayout a b t) → MaskedForLayout a b t
   asked-for-layout t u =
-      let x = holds a b t strictlyInside in
-      let y = holds a b t inQuotes in
+      let x = holds a b t inQuotes in
       let f : ℕ → Bool = λ p. reachedHold p t in
-      let g : ℕ → Bool = λ p. eachToken (λ h. not (holdsPlace p h) || not (endsInWhiteSpace a h)) (t .kids) in
-      let z = eachMasked a b f (length a + length b) in
-      let w = eachMasked a b g (length a + length b) in
-      let uxy = and-l (x && y) (z && w) u in
-      let uzw = and-r (x && y) (z && w) u in
+      let y = eachMasked a b f (length a + length b) in
+      let z = holds a b t noWhiteSpaceEnd in
+      let v = and-r x (y && z) u in
       record {
-        strictlyInside = asked t strictlyInside (and-l x y uxy);
-        inQuotes = asked t inQuotes (and-r x y uxy);
+        inQuotes = asked t inQuotes (and-l x (y && z) u);
         notCopied =
-            λ p d. each-reached-copy (λ h. Holds p h → ⊥) (λ h. not (holdsPlace p h)) (λ h n i. T-not (holdsPlace p h) n (holds-place p h i)) t (at-masked f (and-l z w uzw) p d);
-        noWhiteSpaceEnd =
-            λ p d.
-            each-token (λ h. Holds p h → EndsInWhiteSpace a h → ⊥) (λ h. not (holdsPlace p h) || not (endsInWhiteSpace a h))
-            (λ h v k. no-white-space-end h (if-so (holdsPlace p h) (not (endsInWhiteSpace a h)) v (holds-place p h k)))
-            (t .kids)
-            (at-masked g (and-r z w uzw) p d);
+            λ p d. each-reached-copy (λ h. Holds p h → ⊥) (λ h. not (holdsPlace p h)) (λ h n i. T-not (holdsPlace p h) n (holds-place p h i)) t (at-masked f (and-l y z v) p d);
+        noWhiteSpaceEnd = asked t noWhiteSpaceEnd (and-r y z v);
       }
 
   -- ── where the claim holds its test says yes

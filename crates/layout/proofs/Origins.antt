@@ -10,9 +10,9 @@ use lib.Seq.{getD-drop, getD-take}
 use lib.Dec.{leb}
 use borrow.Author.Tests.{leb-true, le-leb, lt-leb}
 use Rattle.basics.specs.Case.{toUppercase, toLowercase}
-use Rattle.context.specs.Cells.{Text, Origin, made, from, Cell, fresh, fixed, toCase, tokenText, copiedFrom, spanCells, cellInCase, isWhiteSpace}
-use Rattle.context.specs.Trim.{trimCons, trim}
-use Rattle.context.specs.Context.{Step, newState, writeNewline, lead, writeToken, writeRaw, takePendingNewline, takePendingBlankLine, writeSpace, endLine, cellIsWhiteSpace, finish}
+use Rattle.context.specs.Cells.{Text, Origin, made, from, Cell, fresh, fixed, bytesOf, toCase, tokenText, copiedFrom, spanCells, cellInCase}
+use Rattle.utf8.specs.Trimming.{trimmedLength}
+use Rattle.context.specs.Context.{Step, newState, writeNewline, lead, writeToken, writeRaw, takePendingNewline, takePendingBlankLine, writeSpace, endLine, trimEnd, finish}
 use Rattle.context.specs.Context as context
 use Rattle.context.specs.declared.FormatConfig.{FormatConfig}
 use Rattle.context.specs.declared.State.{State}
@@ -102,18 +102,14 @@ module _ (t : Text) where
       one made w = tt
       one (from p) w = lower-case u (c .byte) ∙ w
 
-  all-trim : (X : List Cell) → All X → All (trim cellIsWhiteSpace X)
-  unfolding trim
-  all-trim [] u = tt
-  all-trim (c ∷ X) u = go (trim cellIsWhiteSpace X) (all-trim X (u .1))
-    where
-      one : (b : Bool) → All (cond b [] (c ∷ []))
-      one true = tt
-      one false = (u .0, tt)
+  all-take : (n : ℕ) (X : List Cell) → All X → All (take n X)
+  all-take zero X u = tt
+  all-take (suc n) [] u = tt
+  all-take (suc n) (c ∷ X) u = (u .0, all-take n X (u .1))
 
-      go : (Y : List Cell) → All Y → All (trimCons cellIsWhiteSpace c Y)
-      go [] v = one (isWhiteSpace (c .byte))
-      go (y ∷ Y) v = (u .0, v)
+  all-trim : (X : List Cell) → All X → All (trimEnd X)
+  unfolding trimEnd
+  all-trim X u = all-take (trimmedLength (bytesOf X)) X u
 
   all-end : (X : List Cell) → All X → All (endLine X)
   all-end [] u = tt
@@ -179,7 +175,7 @@ module _ (t : Text) where
   unfolding format finish piecesOf original
   origins config tree =
       let X = written (pieces config t (calls (original .pick) t tree) newState) in
-      all-end (trim cellIsWhiteSpace X) (all-trim X (all-written config (calls (original .pick) t tree) newState))
+      all-end (trimEnd X) (all-trim X (all-written config (calls (original .pick) t tree) newState))
 
   all-fixed : (xs : List ℕ) → All (fixed xs)
   all-fixed [] = tt

@@ -5,13 +5,17 @@ use lib.Dec.{T}
 use Rattle.keywords.specs.Names.{names}
 use Rattle.keywords.specs.Words.{words, same, listed}
 use Rattle.basics.specs.Case.{toUppercase, toLowercase}
-use Rattle.context.specs.Cells.{isWhiteSpace, tokenText}
-use Rattle.context.specs.Trim.{trim, trimmedLength}
-use Rattle.context.specs.Context.{writeNewline, lead, writeToken, writeKeyword, writeSpace, noteSkippedWhitespace, takePendingNewline, takePendingBlankLine, indent, dedent, writeRaw, finish}
+use Rattle.context.specs.Cells.{tokenText}
+use Rattle.context.specs.Context.{writeNewline, lead, writeToken, writeKeyword, writeSpace, noteSkippedWhitespace, takePendingNewline, takePendingBlankLine, indent, dedent, writeRaw, trimEnd, finish}
+use Rattle.utf8.specs.Table.{holds, characterLength}
+use Rattle.utf8.specs.Pieces.{cut, firstIllFormed, isTrailing}
+use Rattle.utf8.specs.WhiteSpace.{isWhiteSpace}
+use Rattle.utf8.specs.Trim.{trim}
+use Rattle.utf8.specs.Trimming.{trimmed, trimmedLength, isWhiteByte}
 use Rattle.tape.specs.Kinds.{kinds, notCarried}
 use Rattle.tape.specs.Tree.{hasChild, countListItems, copied}
-use Rattle.tape.specs.Tape.{headAt, commandAt, checkOpen, checkToken, checkedAt, readChildren, readTree}
-use Rattle.tape.specs.Call.{firstNonAscii, readInput, readCall}
+use Rattle.tape.specs.Tape.{headAt, commandAt, checkOpen, checkToken, checkedAt, readChildren, readTape, readTree}
+use Rattle.tape.specs.Call.{readInput, readCall}
 use Rattle.tape.specs.ReadingInputs.{smallInputs}
 use Rattle.layout.specs.Arms.{seen}
 use Rattle.layout.specs.Tokens.{noSpaceBefore, noSpaceAfter, isLineComment, emitComment, emitToken, emitOther, isOperator}
@@ -22,7 +26,7 @@ use Rattle.layout.specs.Layout.{doSpacing, step, pieces, written, origin
 use Rattle.layout.specs.Outcome.{outcome, measured, laidOut}
 use Rattle.layout.specs.CourseSheet.{courseSheet, allRight}
 use Rattle.layout.specs.CallInputs.{allBothAnswer, allAnswered, smallLayouts}
-use Rattle.layout.specs.MaskingNeeds.{pairs, allNeeded, masked, meets, maskedForLayout, meetsForLayout, maskedLayouts}
+use Rattle.layout.specs.MaskingNeeds.{pairs, allNeeded, masked, meets, maskedForLayout, meetsForLayout, maskedLayouts, refusedByFour, passNeeded}
 
 pub record Tables : Type 0 where
   pub sheet : T (allRight courseSheet)
@@ -31,7 +35,8 @@ pub record Tables : Type 0 where
   pub conditions : T (allNeeded pairs)
   pub met : T (meets masked && meetsForLayout maskedForLayout)
   pub masked : T maskedLayouts
+  pub passes : T (passNeeded refusedByFour)
 
 pub tables : Tables
-unfolding names words same listed isWhiteSpace toUppercase toLowercase tokenText trim trimmedLength writeNewline lead writeToken writeKeyword writeSpace noteSkippedWhitespace takePendingNewline takePendingBlankLine indent dedent writeRaw finish kinds notCarried hasChild countListItems copied headAt commandAt checkOpen checkToken checkedAt readChildren readTree firstNonAscii readInput readCall seen noSpaceBefore noSpaceAfter isLineComment emitComment emitToken emitOther isOperator fileToken formatFile queryListToken formatQueryList selectStatementToken formatSelectStatement selectClauseToken formatSelectClause simpleClauseToken formatSimpleClause multiItem listClauseToken listClauseNode listClauseArms formatListClause joinClauseToken formatJoinClause formatSettingsClause formatWithClause commaListToken formatCommaList inlineCommaListToken formatInlineCommaList binaryToken formatBinaryExpression unaryToken formatUnaryExpression functionCallToken formatFunctionCall caseWord caseToken formatCaseExpression whenWord whenToken formatWhenClause subqueryToken formatSubquery parenListToken formatParenList bracketListToken formatBracketList braceListToken formatBraceList dataTypeToken formatDataType spaceAfter inlineNode nameBefore inlineTightParensToken formatInlineTightParens inlineToken formatInline formatInlineNoSpaces passthroughToken formatPassthrough alterCommandListToken formatAlterCommandList unionToken formatUnionClause armsOf routines routineOf formatNode formatErrorVerbatim walk calls doSpacing step pieces written original piecesOf format outcome measured laidOut courseSheet smallLayouts pairs masked maskedForLayout
-tables = record { sheet = tt; refusals = tt; layouts = tt; conditions = tt; met = tt; masked = tt }
+unfolding names words same listed isTrailing isWhiteSpace isWhiteByte trimmed trimEnd toUppercase toLowercase tokenText trim trimmedLength writeNewline lead writeToken writeKeyword writeSpace noteSkippedWhitespace takePendingNewline takePendingBlankLine indent dedent writeRaw finish kinds notCarried hasChild countListItems copied headAt commandAt checkOpen checkToken checkedAt readChildren readTape readTree holds characterLength cut firstIllFormed readInput readCall seen noSpaceBefore noSpaceAfter isLineComment emitComment emitToken emitOther isOperator fileToken formatFile queryListToken formatQueryList selectStatementToken formatSelectStatement selectClauseToken formatSelectClause simpleClauseToken formatSimpleClause multiItem listClauseToken listClauseNode listClauseArms formatListClause joinClauseToken formatJoinClause formatSettingsClause formatWithClause commaListToken formatCommaList inlineCommaListToken formatInlineCommaList binaryToken formatBinaryExpression unaryToken formatUnaryExpression functionCallToken formatFunctionCall caseWord caseToken formatCaseExpression whenWord whenToken formatWhenClause subqueryToken formatSubquery parenListToken formatParenList bracketListToken formatBracketList braceListToken formatBraceList dataTypeToken formatDataType spaceAfter inlineNode nameBefore inlineTightParensToken formatInlineTightParens inlineToken formatInline formatInlineNoSpaces passthroughToken formatPassthrough alterCommandListToken formatAlterCommandList unionToken formatUnionClause armsOf routines routineOf formatNode formatErrorVerbatim walk calls doSpacing step pieces written original piecesOf format outcome measured laidOut courseSheet smallLayouts pairs masked maskedForLayout refusedByFour
+tables = record { sheet = tt; refusals = tt; layouts = tt; conditions = tt; met = tt; masked = tt; passes = tt }

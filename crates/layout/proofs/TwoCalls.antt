@@ -17,6 +17,8 @@ use Rattle.tape.proofs.Acceptance.{accepted-call, same-reading}
 use Rattle.layout.specs.Layout.{Version, original, format}
 use Rattle.layout.specs.Outcome.{Outcome, refusal, laid, ofRead, configOf, outcome, measured, fitted, laidOut}
 use Rattle.layout.specs.Masking.{MaskedPair, MaskedPairForLayout, fittedCells, cellsAfter, SameLines, Alike, AlikeByLines}
+use Rattle.layout.specs.SpanStarts.{SpansStart}
+use Rattle.layout.proofs.PieceStarts.{spans-start}
 use Rattle.layout.proofs.MaskedLayouts.{KeepsAlike, original-keeps-alike, masking, masked-for-layout, masked-lines}
 
 -- the cells after a call are the space after it
@@ -83,7 +85,7 @@ module _ (a b : Text) where
 
 -- ── the rule
 
-got-same : {t u : Tree} {p q : ℕ} → got t p ≡ got u q → t ≡ u
+pub got-same : {t u : Tree} {p q : ℕ} → got t p ≡ got u q → t ≡ u
 got-same e = cc
 
 module _ (width case : ℕ) (a b : Text) (tape : List ℕ) where
@@ -91,7 +93,7 @@ module _ (width case : ℕ) (a b : Text) (tape : List ℕ) where
     outcomes-like : (v : Version) → KeepsAlike a b (m .sameLength) v → OutcomesLike a b (outcome v width case a tape) (outcome v width case b tape)
     unfolding outcome
     outcomes-like v keeps =
-        rw (← (same-reading width case a b tape (m .sameLength) (m .asciiA) (m .asciiB))) (go (readCall width case a tape) refl)
+        rw (← (same-reading width case a b tape (m .sameLength) (m .passA) (m .passB))) (go (readCall width case a tape) refl)
       where
         go : (r : Read Tree) → readCall width case a tape ≡ r
             → OutcomesLike a b (ofRead r (format v (configOf width case) a)) (ofRead r (format v (configOf width case) b))
@@ -101,7 +103,9 @@ module _ (width case : ℕ) (a b : Text) (tape : List ℕ) where
             let u = k .accepted .tree in
             let same : u ≡ t = got-same (sym (k .read) ∙ e) in
             let spans = tokens-fit (length a) tape 11 (u .kids) (k .accepted .kids) in
-            let l = masking a b (m .sameLength) v keeps (configOf width case) u spans (m .rule u (length tape) (k .read)) in
+            let j = accepted-call width case b tape (ap verdict (sym (same-reading width case a b tape (m .sameLength) (m .passA) (m .passB)) ∙ e)) in
+            let other : j .accepted .tree ≡ u = got-same (sym (j .read) ∙ sym (same-reading width case a b tape (m .sameLength) (m .passA) (m .passB)) ∙ k .read) in
+            let l = masking a b (m .sameLength) v keeps (configOf width case) u spans (spans-start k) (subst (SpansStart b) other (spans-start j)) (m .rule u (length tape) (k .read)) in
             subst (λ (x : Tree). Like a b (format v (configOf width case) a x) (format v (configOf width case) b x)) same l
 
     pub masking-rule : (v : Version) → KeepsAlike a b (m .sameLength) v → (space : List ℕ)
@@ -115,7 +119,7 @@ module _ (width case : ℕ) (a b : Text) (tape : List ℕ) where
   -- demand 3's own conditions ask for more, so that the rule follows
   pub pair-for-layout : MaskedPair width case a b tape → MaskedPairForLayout width case a b tape
   pair-for-layout m =
-      record { sameLength = m .sameLength; asciiA = m .asciiA; asciiB = m .asciiB; rule = λ t p e. masked-for-layout a b t (m .rule t p e) }
+      record { sameLength = m .sameLength; passA = m .passA; passB = m .passB; rule = λ t p e. masked-for-layout a b t (m .rule t p e) }
 
   -- the texts need not have their newlines at the same places where the call is refused: nothing is written then
   pub demand-3 : MaskedPair width case a b tape → (space : List ℕ)
@@ -128,5 +132,5 @@ module _ (width case : ℕ) (a b : Text) (tape : List ℕ) where
 
       go : (r : Read Tree) → readCall width case a tape ≡ r
           → SameLines ((laidOut (outcome original width case a tape) space) .space) ((laidOut (outcome original width case b tape) space) .space)
-      go (refused f p) e = λ i. rw (← (same-reading width case a b tape (m .sameLength) (m .asciiA) (m .asciiB)), e) refl
+      go (refused f p) e = λ i. rw (← (same-reading width case a b tape (m .sameLength) (m .passA) (m .passB)), e) refl
       go (got t p) e = k .lines (masked-lines a b t (m .rule t p e))

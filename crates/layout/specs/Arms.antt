@@ -21,11 +21,27 @@ pub data Spacing : Type 0 where
   -- take_pending_newline: if it was set a newline, unless at line start; else a space
   lineOrSpace : Spacing
 
--- what is done at a token: a spacing; write_token of its text; write_keyword of its text; write_token of one fixed byte
+-- the fixed signs, and their bytes
+pub data Sign : Type 0 where
+  comma semicolon colon minus openingRoundBracket closingRoundBracket openingSquareBracket closingSquareBracket openingCurlyBrace closingCurlyBrace : Sign
+
+abbrev pub signByte : Sign → ℕ
+signByte comma = 44
+signByte semicolon = 59
+signByte colon = 58
+signByte minus = 45
+signByte openingRoundBracket = 40
+signByte closingRoundBracket = 41
+signByte openingSquareBracket = 91
+signByte closingSquareBracket = 93
+signByte openingCurlyBrace = 123
+signByte closingCurlyBrace = 125
+
+-- what is done at a token: a spacing; write_token of its text; write_keyword of its text; write_token of a fixed sign
 pub data Act : Type 0 where
   spacing : Spacing → Act
   writeText writeKeyword : Act
-  writeSign : ℕ → Act
+  writeSign : Sign → Act
 
 -- what a routine sees of a token: its kind, and its text if it is white space, a comment or a bare word
 pub record Seen : Type 0 where

@@ -8,7 +8,7 @@ use Rattle.context.specs.Context as context
 use Rattle.context.specs.declared.FormatConfig.{FormatConfig}
 use Rattle.context.specs.declared.State.{State}
 use Rattle.tape.specs.Tree.{Children, Tree}
-use Rattle.layout.specs.Arms.{Spacing, newline, space, indent, dedent, note, blankLine, blankLineBeforeComment, lineOrSpace, spacing, writeText, writeKeyword, writeSign, Arms}
+use Rattle.layout.specs.Arms.{Spacing, newline, space, indent, dedent, note, blankLine, blankLineBeforeComment, lineOrSpace, spacing, writeText, writeKeyword, writeSign, signByte, Arms}
 use Rattle.layout.specs.FormatNode.{formatNode}
 use Rattle.layout.specs.Calls.{Call, putSpacing, actAt, raw, calls}
 
@@ -42,7 +42,7 @@ step config source (putSpacing x) s = doSpacing x s
 step config source (actAt h (spacing x)) s = doSpacing x s
 step config source (actAt h writeText) s = writeToken config (spanCells source (h .start) (h .end)) s
 step config source (actAt h writeKeyword) s = context.writeKeyword config (spanCells source (h .start) (h .end)) s
-step config source (actAt h (writeSign b)) s = writeToken config (fresh b ∷ []) s
+step config source (actAt h (writeSign x)) s = writeToken config (fresh (signByte x) ∷ []) s
 step config source (raw start end) s = writeRaw (spanCells source start end) s
 
 unfoldable pub pieces : FormatConfig → Text → List Call → State → List Piece

@@ -11,5 +11,6 @@ pub mod CourseSheet
 pub mod CallInputs
 pub mod Origins
 pub mod Masking
+pub mod SpanStarts
 pub mod MaskingTests
 pub mod MaskingNeeds

@@ -1,23 +1,23 @@
 -- The masking rule's conditions can be met, by a pair of texts on a tape of bytes, and each is needed: for each a small pair that meets all
--- the others and breaks the claim. Two things are not needed in this layout: that a masked place lies in some token, which
--- `MaskedForLayout` leaves out, and of "strictly inside" the half about a token's first place; the last place is (the fifth pair).
+-- the others and breaks the claim. Two are not needed in this layout, and `MaskedForLayout` leaves them out: that a masked place lies in some
+-- token, and that it lies strictly between the first and the last character.
 use Prim.Native.Nat.{ℕ}
 use mathlib.Core.Path.{_≡_}
 use mathlib.Core.Bool.{Bool, true, false, not, _&&_, _||_}
-use mathlib.Core.List.{List, [], _∷_}
+use mathlib.Core.List.{List, [], _∷_, _++_}
 use lib.ListN.{length, replicate}
-use lib.Dec.{eqb}
+use lib.Dec.{T, eqb}
 use Rattle.keywords.specs.Words.{bytes}
 use Rattle.context.specs.Cells.{Text}
 use Rattle.tape.specs.Kinds
 use Rattle.tape.specs.Tree.{Children, done, Tree}
 use Rattle.tape.specs.Tape.{Read, refused, got, readTree}
-use Rattle.tape.specs.Call.{readCall}
+use Rattle.tape.specs.Call.{letPass, readCall}
 use Rattle.layout.specs.Layout.{original}
 use Rattle.layout.specs.Outcome.{outcome}
 use Rattle.layout.specs.Masking.{AlikeByLines}
 use Rattle.layout.specs.CourseSheet.{root, tok, nod, tapeOf, isLaidOut}
-use Rattle.layout.specs.MaskingTests.{Condition, sameLength, asciiTexts, noNewline, inSomeToken, strictlyInside, inQuotes, notCopied, noWhiteSpaceEnd, Asks, holds, holdsForLayout, alikeByLines}
+use Rattle.layout.specs.MaskingTests.{Condition, sameLength, noNewline, inSomeToken, strictlyInside, inQuotes, notCopied, noWhiteSpaceEnd, Asks, holds, holdsForLayout, alikeByLines}
 
 -- a pair of texts on a tape, which is called with width 4 and upper case in a space of 64 bytes
 pub record Pair : Type 0 where
@@ -36,7 +36,7 @@ abbrev pub claimed : Pair → Bool
 claimed x = alikeByLines (x .first) (x .second) (outcome original 4 1 (x .first) (x .tape)) (outcome original 4 1 (x .second) (x .tape)) space
 
 abbrev pub conditions : List Condition
-conditions = sameLength ∷ asciiTexts ∷ noNewline ∷ inSomeToken ∷ strictlyInside ∷ inQuotes ∷ notCopied ∷ noWhiteSpaceEnd ∷ []
+conditions = sameLength ∷ noNewline ∷ inSomeToken ∷ strictlyInside ∷ inQuotes ∷ notCopied ∷ noWhiteSpaceEnd ∷ []
 
 -- f holds of what was read
 abbrev pub ofTree : (Tree → Bool) → Read Tree → Bool
@@ -50,37 +50,43 @@ allHold leftOut a b (c ∷ cs) t = (leftOut c || holds a b t c) && allHold leftO
 
 -- ── a pair that meets all conditions
 
+-- 4, 15 and 16 let both texts pass
+abbrev pub bothPass : Pair → Bool
+bothPass x = letPass (readCall 4 1 (x .first) (x .tape)) && letPass (readCall 4 1 (x .second) (x .tape))
+
 -- the call reads a tree, and all conditions hold
 abbrev pub meets : Pair → Bool
-meets x = ofTree (allHold (λ c. false) (x .first) (x .second) conditions) (readCall 4 1 (x .first) (x .tape))
+meets x = bothPass x && ofTree (allHold (λ c. false) (x .first) (x .second) conditions) (readCall 4 1 (x .first) (x .tape))
 
 -- a quoted name and a string below nested nodes, and a WHERE clause that is copied as typed, since it holds an Error node
 unfoldable pub masked : Pair
 masked =
     record {
-      first = bytes "select `ab`,'cd' where  x";
-      second = bytes "select `**`,'**' where  x";
+      -- `é` U+65E5 U+1F600 `, and ' U+00FC '
+      first = bytes "select `" ++ (0xC3 ∷ 0xA9 ∷ 0xE6 ∷ 0x97 ∷ 0xA5 ∷ 0xF0 ∷ 0x9F ∷ 0x98 ∷ 0x80 ∷ []) ++ bytes "`,'" ++ (0xC3 ∷ 0xBC ∷ []) ++ bytes "' where  x";
+      -- ` U+1F600 U+65E5 ** `, and '**': characters of other lengths, together as many bytes
+      second = bytes "select `" ++ (0xF0 ∷ 0x9F ∷ 0x98 ∷ 0x80 ∷ 0xE6 ∷ 0x97 ∷ 0xA5 ∷ 42 ∷ 42 ∷ []) ++ bytes "`,'**' where  x";
       tape =
           tapeOf
-          (root Kinds.File 0 25
-          (nod Kinds.SelectStatement 0 25
-          (nod Kinds.SelectClause 0 16
+          (root Kinds.File 0 32
+          (nod Kinds.SelectStatement 0 32
+          (nod Kinds.SelectClause 0 23
           (tok Kinds.BareWord 0 6
           (tok Kinds.Whitespace 6 7
-          (nod Kinds.ColumnList 7 16
-          (nod Kinds.ColumnReference 7 11 (tok Kinds.QuotedIdentifier 7 11 done)
-          (tok Kinds.Comma 11 12
-          (nod Kinds.ColumnReference 12 16 (tok Kinds.StringToken 12 16 done) done)))
+          (nod Kinds.ColumnList 7 23
+          (nod Kinds.ColumnReference 7 18 (tok Kinds.QuotedIdentifier 7 18 done)
+          (tok Kinds.Comma 18 19
+          (nod Kinds.ColumnReference 19 23 (tok Kinds.StringToken 19 23 done) done)))
           done)))
-          (tok Kinds.Whitespace 16 17
-          (nod Kinds.WhereClause 17 25 (tok Kinds.BareWord 17 22 (tok Kinds.Whitespace 22 24 (nod Kinds.Error 24 25 (tok Kinds.BareWord 24 25 done) done))) done)))
+          (tok Kinds.Whitespace 23 24
+          (nod Kinds.WhereClause 24 32 (tok Kinds.BareWord 24 29 (tok Kinds.Whitespace 29 31 (nod Kinds.Error 31 32 (tok Kinds.BareWord 31 32 done) done))) done)))
           done));
     }
 
 -- what the layout needs is less: a masked place that lies in no token, a quoted token that ends in white space and holds none, and below a node
 -- that is copied as typed another that holds a masked place
 abbrev pub meetsForLayout : Pair → Bool
-meetsForLayout x = ofTree (λ t. (holds (x .first) (x .second) t sameLength && holds (x .first) (x .second) t asciiTexts) && holdsForLayout (x .first) (x .second) t) (readCall 4 1 (x .first) (x .tape))
+meetsForLayout x = bothPass x && ofTree (λ t. holds (x .first) (x .second) t sameLength && holdsForLayout (x .first) (x .second) t) (readCall 4 1 (x .first) (x .tape))
 
 unfoldable pub maskedForLayout : Pair
 maskedForLayout =
@@ -98,8 +104,11 @@ maskedForLayout =
 -- the layouts of both texts
 abbrev pub maskedLayouts : Bool
 maskedLayouts =
-    (isLaidOut (bytes "SELECT\n    `ab`,\n    'cd'\nwhere  x\n") (outcome original 4 1 (masked .first) (masked .tape))
-    && isLaidOut (bytes "SELECT\n    `**`,\n    '**'\nwhere  x\n") (outcome original 4 1 (masked .second) (masked .tape)))
+    (isLaidOut
+    (bytes "SELECT\n    `" ++ (0xC3 ∷ 0xA9 ∷ 0xE6 ∷ 0x97 ∷ 0xA5 ∷ 0xF0 ∷ 0x9F ∷ 0x98 ∷ 0x80 ∷ []) ++ bytes "`,\n    '" ++ (0xC3 ∷ 0xBC ∷ []) ++ bytes "'\nwhere  x\n")
+    (outcome original 4 1 (masked .first) (masked .tape))
+    && isLaidOut (bytes "SELECT\n    `" ++ (0xF0 ∷ 0x9F ∷ 0x98 ∷ 0x80 ∷ 0xE6 ∷ 0x97 ∷ 0xA5 ∷ 42 ∷ 42 ∷ []) ++ bytes "`,\n    '**'\nwhere  x\n")
+    (outcome original 4 1 (masked .second) (masked .tape)))
     && (isLaidOut (bytes "e\n\n'a'\n\n'b'\n") (outcome original 4 1 (maskedForLayout .first) (maskedForLayout .tape))
     && isLaidOut (bytes "e\n\n'*'\n\n'b'\n") (outcome original 4 1 (maskedForLayout .second) (maskedForLayout .tape)))
 
@@ -111,19 +120,18 @@ pub record Broken : Type 0 where
 
 abbrev pub number : Condition → ℕ
 number sameLength = 0
-number asciiTexts = 1
-number noNewline = 2
-number inSomeToken = 3
-number strictlyInside = 4
-number inQuotes = 5
-number notCopied = 6
-number noWhiteSpaceEnd = 7
+number noNewline = 1
+number inSomeToken = 2
+number strictlyInside = 3
+number inQuotes = 4
+number notCopied = 5
+number noWhiteSpaceEnd = 6
 
 -- a tree is read, every other condition holds of it, and the claim does not hold
 abbrev pub needed : Broken → Bool
 needed x =
     ofTree (allHold (λ c. eqb (number c) (number (x .without))) (x .pair .first) (x .pair .second) conditions) (readTree (length (x .pair .first)) (x .pair .tape))
-    && not (claimed (x .pair))
+    && (bothPass (x .pair) && not (claimed (x .pair)))
 
 abbrev pub allNeeded : List Broken → Bool
 allNeeded [] = true
@@ -136,23 +144,28 @@ unfoldable pub pairs : List Broken
 pairs =
     -- a byte 0 more, which the token holds
     pair sameLength (39 ∷ 97 ∷ 39 ∷ 0 ∷ []) (bytes "'a'") Kinds.ColumnReference (tok Kinds.StringToken 0 4 done)
-    ∷ pair asciiTexts (39 ∷ 200 ∷ 39 ∷ []) (bytes "'a'") Kinds.ColumnReference (tok Kinds.StringToken 0 3 done)
     -- a line more
     ∷ pair noNewline (bytes "'\n'") (bytes "'a'") Kinds.ColumnReference (tok Kinds.StringToken 0 3 done)
     -- a keyword, and none
     ∷ pair inQuotes (bytes "set") (bytes "sat") Kinds.ColumnReference (tok Kinds.BareWord 0 3 done)
-    -- the last place of a quoted token
-    ∷ pair strictlyInside (bytes "ab") (bytes "a ") Kinds.ColumnReference (tok Kinds.StringToken 0 2 done)
     -- an Error node that ends within a quoted token
     ∷ pair notCopied (bytes "'a'") (bytes "' '") Kinds.Error (tok Kinds.StringToken 0 3 done)
     ∷ pair noWhiteSpaceEnd (bytes "ab ") (bytes "a  ") Kinds.ColumnReference (tok Kinds.StringToken 0 3 done)
     ∷ []
+
+-- a text that 4 refuses, where all else holds
+unfoldable pub refusedByFour : Pair
+refusedByFour = record { first = 39 ∷ 200 ∷ 39 ∷ []; second = bytes "'a'"; tape = tapeOf (root Kinds.ColumnReference 0 2 (tok Kinds.StringToken 0 3 done)) }
+
+abbrev pub passNeeded : Pair → Bool
+passNeeded x = ofTree (allHold (λ c. false) (x .first) (x .second) conditions) (readTree (length (x .first)) (x .tape)) && not (claimed x)
 
 -- what the table says of a pair, in the rule's own words
 pub record Needed (x : Broken) : Type 0 where
   pub tree : Tree
   pub place : ℕ
   pub read : readTree (length (x .pair .first)) (x .pair .tape) ≡ got tree place
+  pub passes : T (bothPass (x .pair))
   pub others : (c : Condition) → (number c ≡ number (x .without) → ⊥) → Asks c (x .pair .first) (x .pair .second) tree
   pub broken : Claim (x .pair) → ⊥
 

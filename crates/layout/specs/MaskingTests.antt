@@ -1,35 +1,31 @@
 -- What the masking rule asks and says, as tests that can be computed. That they are the rule's own words is proofs/MaskingTests.
-use Prim.Native.Nat.{ℕ, zero, suc, _+_, _-_}
+use Prim.Native.Nat.{ℕ, zero, suc, _+_}
 use mathlib.Core.Path.{_≡_}
 use mathlib.Core.Bool.{Bool, true, false, not, cond, _&&_, _||_}
 use mathlib.Core.List.{List, [], _∷_}
 use lib.ListN.{length, getD}
 use lib.Dec.{T, eqb, leb, ltb}
-use Rattle.context.specs.Cells.{Text, Origin, made, from, Cell, isWhiteSpace}
+use Rattle.context.specs.Cells.{Text, Origin, made, from, Cell}
 use Rattle.tape.specs.declared.Head.{Head}
-use Rattle.tape.specs.declared.Place.{Place}
-use Rattle.tape.specs.declared.Place.the-variants.{Nowhere, At}
 use Rattle.tape.specs.Tree.{Children, done, token, node, Tree, copied, EachToken}
-use Rattle.tape.specs.Call.{firstNonAscii}
 use Rattle.layout.specs.declared.Answer.{Answer}
 use Rattle.layout.specs.Outcome.{Outcome, answers, measured, laidOut}
-use Rattle.layout.specs.Masking.{SomeToken, EachCopied, quoted, Holds, StrictlyInside, Differ, EndsInWhiteSpace, cellsAfter}
+use Rattle.layout.specs.Masking.{SomeToken, EachCopied, quoted, Holds, charactersOf, firstLength, lastLength, lastIsWhite, StrictlyInside, Differ, EndsInWhiteSpace, cellsAfter}
 
--- ── the conditions of demand 3
+-- ── the conditions, but for what 4, 15 and 16 let pass
 
 pub data Condition : Type 0 where
-  sameLength asciiTexts noNewline inSomeToken strictlyInside inQuotes notCopied noWhiteSpaceEnd : Condition
+  sameLength noNewline inSomeToken strictlyInside inQuotes notCopied noWhiteSpaceEnd : Condition
 
 -- what each asks, as in `Masked` and `MaskedPair`
 abbrev pub Asks : Condition → Text → Text → Tree → Type 0
 Asks sameLength a b t = length a ≡ length b
-Asks asciiTexts a b t = (firstNonAscii 0 a ≡ Nowhere) × (firstNonAscii 0 b ≡ Nowhere)
 Asks noNewline a b t = (p : ℕ) → Differ a b p → (getD a p 0 ≡ 10 → ⊥) × (getD b p 0 ≡ 10 → ⊥)
 Asks inSomeToken a b t = (p : ℕ) → Differ a b p → SomeToken (Holds p) (t .kids)
-Asks strictlyInside a b t = (p : ℕ) → Differ a b p → EachToken (λ h. Holds p h → StrictlyInside p h) (t .kids)
+Asks strictlyInside a b t = (p : ℕ) → Differ a b p → EachToken (λ h. Holds p h → StrictlyInside a p h × StrictlyInside b p h) (t .kids)
 Asks inQuotes a b t = (p : ℕ) → Differ a b p → EachToken (λ h. Holds p h → T (quoted h)) (t .kids)
 Asks notCopied a b t = (p : ℕ) → Differ a b p → EachCopied (λ h. Holds p h → ⊥) t
-Asks noWhiteSpaceEnd a b t = EachToken (λ h. T (quoted h) → EndsInWhiteSpace a h → ⊥) (t .kids)
+Asks noWhiteSpaceEnd a b t = (p : ℕ) → Differ a b p → EachToken (λ h. Holds p h → (EndsInWhiteSpace a h → ⊥) × (EndsInWhiteSpace b h → ⊥)) (t .kids)
 
 -- ── their tests
 
@@ -62,26 +58,27 @@ eachMasked a b f (suc n) = (eqb (getD a n 0) (getD b n 0) || f n) && eachMasked 
 abbrev pub holdsPlace : ℕ → Head → Bool
 holdsPlace p h = leb (h .start) p && ltb p (h .end)
 
-abbrev pub endsInWhiteSpace : Text → Head → Bool
-endsInWhiteSpace a h = ltb (h .start) (h .end) && isWhiteSpace (getD a (h .end - 1) 0)
+abbrev pub isInside : Text → ℕ → Head → Bool
+isInside t p h = leb (h .start + firstLength (charactersOf t h)) p && ltb (p + lastLength (charactersOf t h)) (h .end)
 
-abbrev pub isNowhere : Place → Bool
-isNowhere Nowhere = true
-isNowhere (At p) = false
+abbrev pub isSolid : Text → Head → Bool
+isSolid t h = not (lastIsWhite (charactersOf t h))
+
+-- f holds of each token that holds the place, for both texts
+abbrev pub ofHeld : Text → Text → (Text → Head → Bool) → ℕ → Tree → Bool
+ofHeld a b f p t = eachToken (λ h. not (holdsPlace p h) || (f a h && f b h)) (t .kids)
 
 abbrev pub holds : Text → Text → Tree → Condition → Bool
 holds a b t sameLength = eqb (length a) (length b)
-holds a b t asciiTexts = isNowhere (firstNonAscii 0 a) && isNowhere (firstNonAscii 0 b)
 holds a b t noNewline = eachMasked a b (λ p. not (eqb (getD a p 0) 10) && not (eqb (getD b p 0) 10)) (length a + length b)
 holds a b t inSomeToken = eachMasked a b (λ p. someToken (holdsPlace p) (t .kids)) (length a + length b)
-holds a b t strictlyInside =
-    eachMasked a b (λ p. eachToken (λ h. not (holdsPlace p h) || (ltb (h .start) p && ltb (suc p) (h .end))) (t .kids)) (length a + length b)
+holds a b t strictlyInside = eachMasked a b (λ p. ofHeld a b (λ x. isInside x p) p t) (length a + length b)
 holds a b t inQuotes = eachMasked a b (λ p. eachToken (λ h. not (holdsPlace p h) || quoted h) (t .kids)) (length a + length b)
 holds a b t notCopied =
     eachMasked a b
     (λ p. (not (copied (t .head .kind) (t .kids)) || not (holdsPlace p (t .head))) && eachCopiedBelow (λ h. not (holdsPlace p h)) (t .kids))
     (length a + length b)
-holds a b t noWhiteSpaceEnd = eachToken (λ h. not (quoted h) || not (endsInWhiteSpace a h)) (t .kids)
+holds a b t noWhiteSpaceEnd = eachMasked a b (λ p. ofHeld a b isSolid p t) (length a + length b)
 
 -- what the layout needs, as in `MaskedForLayout`
 abbrev pub reachedHold : ℕ → Tree → Bool
@@ -89,9 +86,7 @@ reachedHold p t = cond (copied (t .head .kind) (t .kids)) (not (holdsPlace p (t 
 
 abbrev pub holdsForLayout : Text → Text → Tree → Bool
 holdsForLayout a b t =
-    (holds a b t strictlyInside && holds a b t inQuotes)
-    && (eachMasked a b (λ p. reachedHold p t) (length a + length b)
-    && eachMasked a b (λ p. eachToken (λ h. not (holdsPlace p h) || not (endsInWhiteSpace a h)) (t .kids)) (length a + length b))
+    holds a b t inQuotes && (eachMasked a b (λ p. reachedHold p t) (length a + length b) && holds a b t noWhiteSpaceEnd)
 
 -- ── the claim's test
 

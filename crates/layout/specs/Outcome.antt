@@ -26,7 +26,7 @@ ofRead (got t p) lay = laid (lay t)
 abbrev pub configOf : ℕ → ℕ → FormatConfig
 configOf width case = record { «indent_width» = width; «uppercase_keywords» = eqb case 1 }
 
--- 1 to 12, else the layout
+-- 1 to 12, 15 or 16, else the layout
 unfoldable pub outcome : Version → ℕ → ℕ → Text → List ℕ → Outcome
 outcome v width case text tape = ofRead (readCall width case text tape) (format v (configOf width case) text)
 

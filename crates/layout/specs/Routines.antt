@@ -10,7 +10,7 @@ use Rattle.tape.specs.Tree.{Children, hasChild, countListItems}
 use Rattle.layout.specs.declared.PrevKind.{PrevKind}
 use Rattle.layout.specs.declared.PrevKind.the-variants.{Nothing, Kind}
 use Rattle.layout.specs.declared.Local.{Local}
-use Rattle.layout.specs.Arms.{Spacing, newline, space, indent, dedent, blankLine, blankLineBeforeComment, Act, spacing, writeText, writeKeyword, writeSign, Seen, Arms}
+use Rattle.layout.specs.Arms.{Spacing, newline, space, indent, dedent, blankLine, blankLineBeforeComment, Act, spacing, writeText, writeKeyword, writeSign, comma, semicolon, colon, minus, openingRoundBracket, closingRoundBracket, openingSquareBracket, closingSquareBracket, openingCurlyBrace, closingCurlyBrace, Seen, Arms}
 use Rattle.layout.specs.Tokens.{noSpaceBefore, noSpaceAfter, noteSkippedWhitespace, emitComment, emitToken, emitOther, isOperator}
 
 -- ── what several routines share
@@ -64,7 +64,7 @@ fileToken t =
     match (t .kind)
     ((Kinds.Whitespace, noteSkippedWhitespace (t .bytes))
     ∷ (Kinds.Comment, spacing blankLineBeforeComment ∷ emitComment (t .bytes))
-    ∷ (Kinds.Semicolon, writeSign 59 ∷ [])
+    ∷ (Kinds.Semicolon, writeSign semicolon ∷ [])
     ∷ [])
     (emitToken t)
 
@@ -82,7 +82,7 @@ formatFile =
 unfoldable pub queryListToken : Seen → List Act
 queryListToken t =
     match (t .kind)
-    ((Kinds.Whitespace, noteSkippedWhitespace (t .bytes)) ∷ (Kinds.Semicolon, writeSign 59 ∷ []) ∷ (Kinds.Comment, emitComment (t .bytes)) ∷ [])
+    ((Kinds.Whitespace, noteSkippedWhitespace (t .bytes)) ∷ (Kinds.Semicolon, writeSign semicolon ∷ []) ∷ (Kinds.Comment, emitComment (t .bytes)) ∷ [])
     (emitToken t)
 
 unfoldable pub formatQueryList : Arms
@@ -148,7 +148,7 @@ unfoldable pub listClauseToken : Bool → Seen → List Act
 listClauseToken multi t =
     match (t .kind)
     (withComments t
-    ((Kinds.BareWord, keywordSpace) ∷ (Kinds.Comma, writeSign 44 ∷ spacing (cond multi newline space) ∷ []) ∷ []))
+    ((Kinds.BareWord, keywordSpace) ∷ (Kinds.Comma, writeSign comma ∷ spacing (cond multi newline space) ∷ []) ∷ []))
     (emitToken t)
 
 unfoldable pub listClauseNode : ℕ → Bool → Local → ℕ → ℕ → Local × List Spacing × List Spacing
@@ -212,7 +212,7 @@ formatWithClause =
 
 unfoldable pub commaListToken : Local → Seen → Local × List Act
 commaListToken l t =
-    orElse l t (match (t .kind) ((Kinds.Comma, (flagged true, writeSign 44 ∷ spacing newline ∷ [])) ∷ []) (l, emitToken t))
+    orElse l t (match (t .kind) ((Kinds.Comma, (flagged true, writeSign comma ∷ spacing newline ∷ [])) ∷ []) (l, emitToken t))
 
 unfoldable pub formatCommaList : Arms
 formatCommaList =
@@ -226,7 +226,7 @@ formatCommaList =
 -- ── format_inline_comma_list
 
 unfoldable pub inlineCommaListToken : Seen → List Act
-inlineCommaListToken t = match (t .kind) (withComments t ((Kinds.Comma, writeSign 44 ∷ spacing space ∷ []) ∷ [])) (emitToken t)
+inlineCommaListToken t = match (t .kind) (withComments t ((Kinds.Comma, writeSign comma ∷ spacing space ∷ []) ∷ [])) (emitToken t)
 
 unfoldable pub formatInlineCommaList : Arms
 formatInlineCommaList = tokensOnly inlineCommaListToken
@@ -245,7 +245,7 @@ formatBinaryExpression = tokensOnly binaryToken
 
 unfoldable pub unaryToken : Seen → List Act
 unaryToken t =
-    match (t .kind) (withComments t ((Kinds.BareWord, keywordSpace) ∷ (Kinds.Minus, writeSign 45 ∷ []) ∷ [])) (emitToken t)
+    match (t .kind) (withComments t ((Kinds.BareWord, keywordSpace) ∷ (Kinds.Minus, writeSign minus ∷ []) ∷ [])) (emitToken t)
 
 unfoldable pub formatUnaryExpression : Arms
 formatUnaryExpression = tokensOnly unaryToken
@@ -256,8 +256,8 @@ unfoldable pub functionCallToken : Seen → List Act
 functionCallToken t =
     match (t .kind)
     (withComments t
-    ((Kinds.OpeningRoundBracket, writeSign 40 ∷ [])
-    ∷ (Kinds.ClosingRoundBracket, writeSign 41 ∷ [])
+    ((Kinds.OpeningRoundBracket, writeSign openingRoundBracket ∷ [])
+    ∷ (Kinds.ClosingRoundBracket, writeSign closingRoundBracket ∷ [])
     ∷ (Kinds.BareWord, writeText ∷ [])
     ∷ []))
     (emitToken t)
@@ -302,8 +302,8 @@ unfoldable pub subqueryToken : Seen → List Act
 subqueryToken t =
     match (t .kind)
     (withComments t
-    ((Kinds.OpeningRoundBracket, writeSign 40 ∷ spacing newline ∷ spacing indent ∷ [])
-    ∷ (Kinds.ClosingRoundBracket, spacing dedent ∷ spacing newline ∷ writeSign 41 ∷ [])
+    ((Kinds.OpeningRoundBracket, writeSign openingRoundBracket ∷ spacing newline ∷ spacing indent ∷ [])
+    ∷ (Kinds.ClosingRoundBracket, spacing dedent ∷ spacing newline ∷ writeSign closingRoundBracket ∷ [])
     ∷ []))
     (emitToken t)
 
@@ -316,9 +316,9 @@ unfoldable pub parenListToken : Seen → List Act
 parenListToken t =
     match (t .kind)
     ((Kinds.Whitespace, noteSkippedWhitespace (t .bytes))
-    ∷ (Kinds.Comma, writeSign 44 ∷ spacing space ∷ [])
-    ∷ (Kinds.OpeningRoundBracket, writeSign 40 ∷ [])
-    ∷ (Kinds.ClosingRoundBracket, writeSign 41 ∷ [])
+    ∷ (Kinds.Comma, writeSign comma ∷ spacing space ∷ [])
+    ∷ (Kinds.OpeningRoundBracket, writeSign openingRoundBracket ∷ [])
+    ∷ (Kinds.ClosingRoundBracket, writeSign closingRoundBracket ∷ [])
     ∷ [])
     (emitToken t)
 
@@ -329,9 +329,9 @@ unfoldable pub bracketListToken : Seen → List Act
 bracketListToken t =
     match (t .kind)
     ((Kinds.Whitespace, noteSkippedWhitespace (t .bytes))
-    ∷ (Kinds.Comma, writeSign 44 ∷ spacing space ∷ [])
-    ∷ (Kinds.OpeningSquareBracket, writeSign 91 ∷ [])
-    ∷ (Kinds.ClosingSquareBracket, writeSign 93 ∷ [])
+    ∷ (Kinds.Comma, writeSign comma ∷ spacing space ∷ [])
+    ∷ (Kinds.OpeningSquareBracket, writeSign openingSquareBracket ∷ [])
+    ∷ (Kinds.ClosingSquareBracket, writeSign closingSquareBracket ∷ [])
     ∷ [])
     (emitToken t)
 
@@ -342,10 +342,10 @@ unfoldable pub braceListToken : Seen → List Act
 braceListToken t =
     match (t .kind)
     ((Kinds.Whitespace, noteSkippedWhitespace (t .bytes))
-    ∷ (Kinds.Comma, writeSign 44 ∷ spacing space ∷ [])
-    ∷ (Kinds.Colon, writeSign 58 ∷ spacing space ∷ [])
-    ∷ (Kinds.OpeningCurlyBrace, writeSign 123 ∷ [])
-    ∷ (Kinds.ClosingCurlyBrace, writeSign 125 ∷ [])
+    ∷ (Kinds.Comma, writeSign comma ∷ spacing space ∷ [])
+    ∷ (Kinds.Colon, writeSign colon ∷ spacing space ∷ [])
+    ∷ (Kinds.OpeningCurlyBrace, writeSign openingCurlyBrace ∷ [])
+    ∷ (Kinds.ClosingCurlyBrace, writeSign closingCurlyBrace ∷ [])
     ∷ [])
     (emitToken t)
 
@@ -358,9 +358,9 @@ unfoldable pub dataTypeToken : Seen → List Act
 dataTypeToken t =
     match (t .kind)
     ((Kinds.Whitespace, noteSkippedWhitespace (t .bytes))
-    ∷ (Kinds.Comma, writeSign 44 ∷ spacing space ∷ [])
-    ∷ (Kinds.OpeningRoundBracket, writeSign 40 ∷ [])
-    ∷ (Kinds.ClosingRoundBracket, writeSign 41 ∷ [])
+    ∷ (Kinds.Comma, writeSign comma ∷ spacing space ∷ [])
+    ∷ (Kinds.OpeningRoundBracket, writeSign openingRoundBracket ∷ [])
+    ∷ (Kinds.ClosingRoundBracket, writeSign closingRoundBracket ∷ [])
     ∷ (Kinds.Comment, emitComment (t .bytes))
     ∷ [])
     (writeText ∷ [])
@@ -420,7 +420,7 @@ formatPassthrough = tokensOnly passthroughToken
 unfoldable pub alterCommandListToken : Seen → List Act
 alterCommandListToken t =
     match (t .kind)
-    ((Kinds.Whitespace, noteSkippedWhitespace (t .bytes)) ∷ (Kinds.Comma, writeSign 44 ∷ spacing newline ∷ []) ∷ [])
+    ((Kinds.Whitespace, noteSkippedWhitespace (t .bytes)) ∷ (Kinds.Comma, writeSign comma ∷ spacing newline ∷ []) ∷ [])
     (emitToken t)
 
 unfoldable pub formatAlterCommandList : Arms
