@@ -17,7 +17,8 @@ use Rattle.tape.specs.Call.{readCall}
 use Rattle.layout.specs.declared.Answer.{Answer}
 use Rattle.layout.specs.Layout.{original, format}
 use Rattle.layout.specs.Outcome.{Outcome, refusal, laid, ofRead, configOf, outcome, Result, fitted, measured, laidOut}
-use Rattle.layout.specs.Masking.{MaskedPairForLayout, SameLines, cellsAfter}
+use Rattle.layout.specs.Masking.{MaskedPair, MaskedPairForLayout, SameLines, cellsAfter}
+use Rattle.layout.proofs.AsciiPairs.{ascii-pair}
 use Rattle.layout.proofs.TwoCalls.{pair-for-layout, demand-3, cells-after}
 use Rattle.layout.proofs.Origins.{origins-after, comes-from}
 use Rattle.two_calls.specs.declared.Answers.{Answers}
@@ -133,20 +134,24 @@ module _ (width case : ℕ) (a b : Text) (tape beforeA beforeB : List ℕ) (m l 
               byte-at (cellsAfter x beforeA) afterA space-a i ∙ cells-alike k e i .bytes g ∙ sym (byte-at (cellsAfter y beforeB) afterB space-b i);
         }
 
+  same-lines : MaskedPair width case a b tape → beforeA ≡ beforeB → SameLines afterA afterB
+  same-lines k e =
+      subst₂ SameLines (sym (ap (λ (z : Result). z .space) (laysOut .first)))
+      (ap (λ (s : List ℕ). (laidOut y s) .space) e ∙ sym (ap (λ (z : Result). z .space) (laysOut .second)))
+      (demand-3 width case a b tape k beforeA .lines)
+
   pub demand3 : Demand3 width case a b tape beforeA beforeB r afterA afterB
   demand3 =
       record {
         calls = record { measuredA = measures .first; measuredB = measures .second; laidOutA = laysOut .first; laidOutB = laysOut .second };
         alike = alike-where (pair-for-layout width case a b tape);
-        lines =
-            λ k e.
-            subst₂ SameLines (sym (ap (λ (z : Result). z .space) (laysOut .first)))
-            (ap (λ (s : List ℕ). (laidOut y s) .space) e ∙ sym (ap (λ (z : Result). z .space) (laysOut .second)))
-            (demand-3 width case a b tape k beforeA .lines);
+        lines = same-lines;
         copied =
             λ i p e.
             ap toLowercase (byte-at (cellsAfter x beforeA) afterA space-a i)
             ∙ comes-from a (cellsAfter x beforeA) (origins-after a width case tape beforeA) i p e;
+        ascii = alike-where (λ k. pair-for-layout width case a b tape (ascii-pair width case a b tape k));
+        asciiLines = λ k e. same-lines (ascii-pair width case a b tape k) e;
         stronger = alike-where (λ k. k);
         strongerLines = λ k e. laysOut .masked k e .1 .lines;
       }

@@ -1,5 +1,6 @@
--- The demands of document 00, in its words, as promises about calls. Read with layout/specs/Outcome and Layout for what a layout is,
--- tape/specs/Call and Tape for the refusals, and layout/specs/Masking for what demand 3 asks of two texts.
+-- The demands of document 00, in its words, as promises about calls; demand 3 as request E1 of document 02 words it. Read with layout/specs/Outcome
+-- and Layout for what a layout is, tape/specs/Call and Tape for the refusals, utf8/specs/Table for well-formed text, and layout/specs/Masking for what
+-- demand 3 asks of two texts.
 use mathlib.Core.Path.{_≡_}
 use mathlib.Core.List.{List, _++_}
 use Prim.Native.Nat.{ℕ, _≤_, _<_}
@@ -14,7 +15,7 @@ use Rattle.tape.specs.Tape.{refused, got}
 use Rattle.tape.specs.Call.{readCall}
 use Rattle.layout.specs.Layout.{original, format}
 use Rattle.layout.specs.Outcome.{Result, answer, configOf, laidOut, measured, outcome}
-use Rattle.layout.specs.Masking.{MaskedPair, MaskedPairForLayout, SameLines, cellsAfter}
+use Rattle.layout.specs.Masking.{MaskedPair, AsciiPair, MaskedPairForLayout, SameLines, cellsAfter}
 use Rattle.acceptance.specs.declared.Calls.{Calls}
 use Rattle.acceptance.specs.declared.CallsOnTwoTexts.{CallsOnTwoTexts}
 
@@ -27,7 +28,7 @@ module _ (width case : ℕ) (text tape before : List ℕ) (r : Calls) (after : L
   -- "If the text, tree, settings or output space are bad in any way, the call refuses with the number and place that document 01 names,
   -- writes nothing, and still ends; it refuses nothing else, and the caller owes no check beforehand."
   pub record Demand1 : Type 0 where
-    -- 1 to 12
+    -- 1 to 12, 15 and 16
     pub refuses : (f : Fault) (p : ℕ) → readCall width case text tape ≡ refused f p
         → (r .measured ≡ answer (number f) p) × (r .«laid_out» ≡ answer (number f) p) × (after ≡ before)
     -- 13
@@ -66,8 +67,8 @@ module _ (width case : ℕ) (a b : Text) (tape beforeA beforeB : List ℕ) (r : 
     pub samePlace : Allowed → beforeA ≡ beforeB → (i : ℕ) → originAt a beforeA i ≡ originAt b beforeB i
     pub alike : Allowed → beforeA ≡ beforeB → (i : ℕ) → Agree a b (originAt a beforeA i) → getD afterA i 0 ≡ getD afterB i 0
 
-  -- "Whatever is masked inside the quotes: take any two ASCII texts of one length with the same tree, settings and output space", and let them
-  -- differ as `MaskedPair` says in the demand's words
+  -- "Whatever is masked inside the quotes: take any two [..] texts of one length with the same tree, settings and output space", and let them
+  -- differ as `MaskedPair` says in request E1's words
   pub record Demand3 : Type 0 where
     pub calls : EachCall
     pub alike : AlikeWhere (MaskedPair width case a b tape)
@@ -75,6 +76,9 @@ module _ (width case : ℕ) (a b : Text) (tape beforeA beforeB : List ℕ) (r : 
     pub lines : MaskedPair width case a b tape → beforeA ≡ beforeB → SameLines afterA afterB
     -- what "copied from" means: save for the case of a letter, the byte is the text's
     pub copied : (i p : ℕ) → originAt a beforeA i ≡ from p → toLowercase (getD afterA i 0) ≡ toLowercase (getD a p 0)
+    -- for ASCII texts in demand 3's own words, which speak of places and not of characters
+    pub ascii : AlikeWhere (AsciiPair width case a b tape)
+    pub asciiLines : AsciiPair width case a b tape → beforeA ≡ beforeB → SameLines afterA afterB
     -- the same holds where the texts differ as the layout needs, which is less
     pub stronger : AlikeWhere (MaskedPairForLayout width case a b tape)
     pub strongerLines : MaskedPairForLayout width case a b tape → beforeA ≡ beforeB → SameLines a b → SameLines afterA afterB

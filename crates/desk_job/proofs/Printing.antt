@@ -12,7 +12,7 @@ use borrow.Author.Tests.{leb-true}
 use Rattle.context.specs.Cells.{Cell, bytesOf}
 use Rattle.context.specs.Splice.{splice}
 use Rattle.tape.specs.declared.Fault.{Fault}
-use Rattle.tape.specs.declared.Fault.the-variants.{IndentWidth, CaseByte, TextTooLong, NotAscii, TapeTooLong, UnknownCommand, CutCommand, UnknownKind, KindNotCarried, SpanOutside, TooDeep, NotOneRoot}
+use Rattle.tape.specs.declared.Fault.the-variants.{IndentWidth, CaseByte, TextTooLong, IllFormed, TapeTooLong, UnknownCommand, CutCommand, UnknownKind, KindNotCarried, SpanOutside, TooDeep, NotOneRoot, InsideCharacter, WordNotAscii}
 use Rattle.tape.specs.Faults.{number}
 use Rattle.layout.specs.declared.Answer.{Answer}
 use Rattle.layout.specs.Layout.{original}
@@ -26,7 +26,7 @@ positive : (f : Fault) → 1 ≤ number f
 positive IndentWidth = omega arith
 positive CaseByte = omega arith
 positive TextTooLong = omega arith
-positive NotAscii = omega arith
+positive IllFormed = omega arith
 positive TapeTooLong = omega arith
 positive UnknownCommand = omega arith
 positive CutCommand = omega arith
@@ -35,6 +35,8 @@ positive KindNotCarried = omega arith
 positive SpanOutside = omega arith
 positive TooDeep = omega arith
 positive NotOneRoot = omega arith
+positive InsideCharacter = omega arith
+positive WordNotAscii = omega arith
 
 pub splice-front : (bs xs : List ℕ) → length bs ≤ length xs → bs ++ drop (length bs) xs ≡ splice 0 bs xs
 unfolding splice

@@ -41,7 +41,7 @@ decimal (suc places) n = cond (ltb n 10) ((48 + n) ∷ []) (decimal places (n / 
 unfoldable pub refusedLine : ℕ → ℕ → List ℕ
 refusedLine n p = bytes "refused " ++ decimal 20 n ++ bytes " at " ++ decimal 20 p ++ (10 ∷ [])
 
--- 1 to 12, else the layout if it fits into so many bytes, else 13
+-- 1 to 12, 15 or 16, else the layout if it fits into so many bytes, else 13
 unfoldable pub printedOutcome : Outcome → ℕ → List ℕ
 printedOutcome (refusal f p) room = refusedLine (number f) p
 printedOutcome (laid cs) room = cond (leb (length cs) room) (bytesOf cs) (refusedLine 13 (length cs))

@@ -7,15 +7,16 @@ use native.Mathlib.Omega.{arith}
 use lib.ListN.{length, take, drop, set}
 use lib.Seq.{length-take-le, take-take}
 use borrow.Author.Tests.{le-leb, lt-leb}
-use Rattle.context.specs.Cells.{Cell, bytesOf, isWhiteSpace}
-use Rattle.context.specs.Trim.{trimmedLength}
+use Rattle.utf8.specs.Trimming.{trimmedLength}
+use Rattle.utf8.proofs.Trimming.{trimmed-le}
+use Rattle.context.specs.Cells.{Cell, bytesOf}
 use Rattle.context.specs.Splice.{splice}
 use Rattle.context.specs.Context.{newState, finish}
 use Rattle.context.specs.Store.{new, advanced, Store, appended}
 use Rattle.context.specs.declared.FormatConfig.{FormatConfig}
 use Rattle.context.specs.declared.FormatterContext.{FormatterContext}
 use Rattle.context.proofs.Splicing.{splice-covers}
-use Rattle.context.proofs.Trimming.{after-none, trimmed-le}
+use Rattle.context.proofs.Trimming.{after-none}
 use Rattle.tape.specs.declared.Head.{Head}
 use Rattle.tape.specs.declared.Fault.{Fault}
 use Rattle.tape.specs.declared.Checked.{Checked}
@@ -33,6 +34,9 @@ use Rattle.layout.specs.Calls.{calls}
 use Rattle.layout.specs.Layout.{original, piecesOf, format}
 use Rattle.layout.specs.Run.{run}
 use Rattle.layout.specs.Outcome.{Outcome, refusal, laid, ofRead, configOf, outcome, Result, fitted, measured, laidOut}
+use Rattle.layout.specs.SpanStarts.{SpansStart}
+use Rattle.layout.proofs.EachCall.{each-call}
+use Rattle.layout.proofs.PieceStarts.{StartsAt, TokenStarts, spans-start}
 use Rattle.layout.proofs.Running.{after, run-appends, kept, finish-none, finish-length, finish-stored}
 use Rattle.formatter.specs.declared.Walk.{Walk}
 use Rattle.formatter.specs.RoutinePromises.{NodeReady, NodeDone}
@@ -70,7 +74,7 @@ same-tree : {t u : Tree} {p q : ℕ} → _≡_ {A = Read Tree} (got t p) (got u 
 same-tree e = cc
 
 record Walked (bs xs : List ℕ) (w : Walk) (ys : List ℕ) : Type 0 where
-  trimmed : w .context .position .trimmed ≡ trimmedLength isWhiteSpace bs
+  trimmed : w .context .position .trimmed ≡ trimmedLength bs
   bytes : ys ≡ splice 0 bs xs
   short : w .context .position .trimmed ≤ 2 ^ 60
 
@@ -81,21 +85,22 @@ walked {text} {tape} {facts} {config} {c} {xs} {ys} {w} r e d t p q =
     let a = r .accepted in
     let u = d .all (a .tree .kids) (a .kids) in
     let k : a .tree ≡ t = same-tree (sym (a .read) ∙ q) in
+    let s : SpansStart text t = subst (SpansStart text) k (r .starts) in
     let X = allCells config text t in
     let v : _≡_ {A = Store} (w .context, ys) (appended (after config text (calls formatNode text t) newState) (bytesOf X) (new, xs)) =
     u .did
     ∙ ap (λ (h : Head). run config text (calls formatNode text (record { head = h; kids = a .tree .kids })) (c, xs)) (sym (a .root .head))
     ∙ ap (λ (z : Tree). run config text (calls formatNode text z) (c, xs)) k
     ∙ ap (λ (z : FormatterContext). run config text (calls formatNode text t) (z, xs)) e
-    ∙ run-appends config text (calls formatNode text t) (new, xs) in
-    let n : w .context .position .trimmed ≡ trimmedLength isWhiteSpace (bytesOf X) =
-    ap (λ (z : Store). z .0 .position .trimmed) v ∙ after-none (trimmedLength isWhiteSpace (bytesOf X)) in
+    ∙ run-appends config text (calls formatNode text t) (new, xs) (each-call (TokenStarts config text) (StartsAt config text) formatNode text t (s .tokens) (s .copies)) in
+    let n : w .context .position .trimmed ≡ trimmedLength (bytesOf X) =
+    ap (λ (z : Store). z .0 .position .trimmed) v ∙ after-none (trimmedLength (bytesOf X)) in
     let l : w .context .position .length ≡ 0 + length (bytesOf X) = ap (λ (z : Store). z .0 .position .length) v in
     let b = ap (λ (z : FormatterContext). z .position .length) e in
     record {
       trimmed = n;
       bytes = ap (λ (z : Store). z .1) v;
-      short = omega (arith, trimmed-le isWhiteSpace (bytesOf X), d .grew .length, d .inside, r .sizes .tape-fits, b);
+      short = omega (arith, trimmed-le (bytesOf X), d .grew .length, d .inside, r .sizes .tape-fits, b);
     }
 
 module _ {text tape facts : List ℕ} {config : FormatConfig} {c : FormatterContext} {w : Walk} (r : Ready text tape facts config) (e : c ≡ new) where
@@ -124,7 +129,7 @@ module _ {text tape : List ℕ} {config : FormatConfig} (k : ℕ) (n : Trims tex
             λ t p q.
             let X = allCells config text t in
             let bs = bytesOf X in
-            let fits : k ≤ length bs = omega (arith, n .all t p q, trimmed-le isWhiteSpace bs) in
+            let fits : k ≤ length bs = omega (arith, n .all t p q, trimmed-le bs) in
             let first : take k vs ≡ take k bs = ap (take k) (d .all t p q) ∙ take-splice k bs us fits l in
             let lx = length-take-le k xs (omega arith) in
             let lb = length-take-le k bs fits in
@@ -203,6 +208,7 @@ module _ (width case : ℕ) (text tape : List ℕ) where
         record {
           sizes = record { text = call .text-fits; tape-fits = call .tape-fits; facts-fit = room (call .tape-fits); width = call .width-fits };
           accepted = call .accepted;
+          starts = spans-start call;
           noted = subst (λ (r : Read Tree). NotedOf r facts) (call .read) n;
         }
 

@@ -3,8 +3,8 @@ use mathlib.Core.Path.{_≡_}
 use mathlib.Core.List.{List, _++_}
 use Prim.Native.Nat.{ℕ, _^_, _≤_}
 use lib.ListN.{length, drop}
-use Rattle.context.specs.Cells.{Text, Cell, bytesOf, isWhiteSpace}
-use Rattle.context.specs.Trim.{trimmedLength}
+use Rattle.utf8.specs.Trimming.{trimmedLength}
+use Rattle.context.specs.Cells.{Text, Cell, bytesOf}
 use Rattle.context.specs.Splice.{splice}
 use Rattle.context.specs.declared.FormatConfig.{FormatConfig}
 use Rattle.tape.specs.Tree.{Tree}
@@ -13,13 +13,15 @@ use Rattle.tape.specs.SpelledAt.{AcceptedTape}
 use Rattle.tape.specs.NodeFacts.{Noted}
 use Rattle.layout.specs.declared.Answer.{Answer}
 use Rattle.layout.specs.Layout.{written, original, piecesOf, format}
+use Rattle.layout.specs.SpanStarts.{SpansStart}
 use Rattle.layout.specs.Outcome.{Result, laid, laidOut, measured}
 use Rattle.formatter.specs.RoutinePromises.{Sizes}
 
--- the tape is accepted, and the check has noted what is true of each node of its tree
+-- the tape is accepted, its spans begin at bounds of characters, and the check has noted what is true of each node of its tree
 pub record Ready (text tape facts : List ℕ) (config : FormatConfig) : Type 0 where
   pub sizes : Sizes text tape facts config
   pub accepted : AcceptedTape (length text) tape
+  pub starts : SpansStart text (accepted .tree)
   pub noted : Noted facts (accepted .tree)
 
 -- all that is written for the tree, before it is trimmed
@@ -29,7 +31,7 @@ allCells config text t = written (piecesOf original config text t)
 -- k is the trimmed length
 pub record Trims (text tape : List ℕ) (config : FormatConfig) (k : ℕ) : Type 0 where
   pub short : k ≤ 2 ^ 60
-  pub all : (t : Tree) (p : ℕ) → readTree (length text) tape ≡ got t p → k ≡ trimmedLength isWhiteSpace (bytesOf (allCells config text t))
+  pub all : (t : Tree) (p : ℕ) → readTree (length text) tape ≡ got t p → k ≡ trimmedLength (bytesOf (allCells config text t))
 
 -- a walk has trimmed length k, and took the space from xs to ys: all that is written, as far as the space goes
 pub record WalkedInto (text tape : List ℕ) (config : FormatConfig) (xs : List ℕ) (k : ℕ) (ys : List ℕ) : Type 0 where

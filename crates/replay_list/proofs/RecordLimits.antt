@@ -4,7 +4,7 @@ use mathlib.Core.Bool.{true, _&&_}
 use Prim.Native.Nat.{ℕ, _+_, _≤_}
 use lib.Dec.{leb}
 use borrow.Author.Tests.{leb-true, le-leb}
-use Rattle.keywords.proofs.Same.{and-true}
+use Rattle.basics.proofs.Same.{and-true}
 use Rattle.replay_list.specs.declared.Run.{Run}
 use Rattle.replay_list.specs.declared.RecordHead.{RecordHead}
 use Rattle.replay_list.specs.Record.{runFits, fitting, layoutLength}

@@ -9,7 +9,7 @@ use lib.ListN.{length, take, drop, replicate, length-drop, length-take, length-r
 use lib.Dec.{leb, ltb}
 use lib.Seq.{take-all, take-append-add, drop-drop}
 use borrow.Author.Tests.{le-leb, lt-leb, lt-ltb, le-ltb, leb-true}
-use Rattle.keywords.proofs.Same.{and-true}
+use Rattle.basics.proofs.Same.{and-true}
 use Rattle.layout.specs.Layout.{original}
 use Rattle.layout.specs.Outcome.{outcome}
 use Rattle.desk_job.proofs.Writing.{Wrote, space-of}

@@ -8,8 +8,8 @@ use lib.ListN.{length, getD, replicate}
 use lib.Dec.{eqb}
 use borrow.Author.Tests.{eqb-true, ne-eqb, le-leb, lt-leb}
 use Rattle.keywords.specs.Words.{isKeyword, isValueKeyword}
-use Rattle.context.specs.Cells.{Text, count, fixed, fresh, bytesOf, tokenText, spanCells, isWhiteSpace, toCase}
-use Rattle.context.specs.Trim.{trimmedLength}
+use Rattle.context.specs.Cells.{Text, count, fixed, fresh, bytesOf, tokenText, spanCells, toCase}
+use Rattle.utf8.specs.Trimming.{trimmedLength}
 use Rattle.context.specs.Splice.{splice}
 use Rattle.context.specs.Context.{Step, lead, writeNewline, writeToken, writeSpace, noteSkippedWhitespace, takePendingNewline, takePendingBlankLine, indent, dedent, writeRaw}
 use Rattle.context.specs.Context as context
@@ -23,7 +23,7 @@ use Rattle.context.proofs.Writes.{appended-none, spent-none, spent-twice, store
 use Rattle.tape.specs.Kinds.{Whitespace, BareWord}
 use Rattle.tape.specs.declared.Head.{Head}
 use Rattle.layout.specs.Arms as arms
-use Rattle.layout.specs.Arms.{Spacing, Act, spacing, writeText, writeKeyword, writeSign, isRead, seen}
+use Rattle.layout.specs.Arms.{Spacing, Act, spacing, writeText, writeKeyword, writeSign, Sign, signByte, isRead, seen}
 use Rattle.layout.specs.Tokens.{isLineComment, emitComment, emitToken}
 use Rattle.layout.specs.Calls.{Call, actAt, formatErrorVerbatim}
 use Rattle.layout.specs.Layout.{nothingWritten, doSpacing, step}
@@ -102,9 +102,9 @@ module _ {config : FormatConfig} {source : Text} {token : Head} {c r : Formatter
   pub as-acts : {n : ℕ} {x : List Spacing} → Spaced n x c xs r ys → Acted n config source token (map spacing x) c xs r ys
   as-acts {x = x} d = record { did = d .did ∙ sym (act-spacing config source token x (c, xs)); spent = d .spent }
 
-  pub did-sign : (b : ℕ) → Wrote 1 (stored (writeToken config (fresh b ∷ []) (c .state)) (c, xs)) c r ys → Acted 1 config source token (writeSign b ∷ []) c xs r ys
+  pub did-sign : (x : Sign) → Wrote 1 (stored (writeToken config (fresh (signByte x) ∷ []) (c .state)) (c, xs)) c r ys → Acted 1 config source token (writeSign x ∷ []) c xs r ys
   unfolding step
-  did-sign b w = record { did = w .did; spent = w .spent }
+  did-sign x w = record { did = w .did; spent = w .spent }
 
   module _ (bs : List ℕ) (e : bs ≡ tokenText source (token .start) (token .end)) where
     pub did-text : Wrote 1 (stored (writeToken config (fixed bs) (c .state)) (c, xs)) c r ys → Acted 1 config source token (writeText ∷ []) c xs r ys
@@ -294,7 +294,7 @@ full-put at blanks bs us xs h = sym (rw (splice-past at bs xs h) (splice-past (a
 
 -- a token's text as `put_text` and `after_text` write it
 put-acted : {config : FormatConfig} {source : Text} {token : Head} {c r : FormatterContext} {xs ys : List ℕ} {j : ℕ} (bs : List ℕ) → bs ≡ tokenText source (token .start) (token .end) → length bs ≤ 2 ^ 18
-    → (n : ℕ) → (bytesOf (lead config (c .state)) ≡ replicate n 32) × (n ≤ 2 ^ 24) → (b : Bool) → j ≡ trimmedLength isWhiteSpace bs
+    → (n : ℕ) → (bytesOf (lead config (c .state)) ≡ replicate n 32) × (n ≤ 2 ^ 24) → (b : Bool) → j ≡ trimmedLength bs
     → ys ≡ splice (c .position .length + n) (cond b (map (toCase (config .«uppercase_keywords»)) bs) bs) (splice (c .position .length) (replicate n 32) xs)
     → r ≡ afterText n (length bs) j c → Acted 1 config source token (cond b (writeKeyword ∷ []) (writeText ∷ [])) c xs r ys
 put-acted {config} {c = c} {xs = xs} bs e k n l true p w a = did-keyword bs e (keyword-put config bs c n (l .0) (l .1) k xs p a w)

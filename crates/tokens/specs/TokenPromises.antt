@@ -6,8 +6,8 @@ use mathlib.Core.List.{List, [], _∷_, map}
 use lib.ListN.{length, replicate}
 use lib.Dec.{eqb}
 use Rattle.basics.specs.Match.{match}
-use Rattle.context.specs.Cells.{Text, isWhiteSpace, toCase, tokenText}
-use Rattle.context.specs.Trim.{trimmedLength}
+use Rattle.utf8.specs.Trimming.{trimmedLength}
+use Rattle.context.specs.Cells.{Text, toCase, tokenText}
 use Rattle.context.specs.Splice.{splice}
 use Rattle.context.specs.Store.{Store, Room, Spent}
 use Rattle.context.specs.declared.FormatConfig.{FormatConfig}
@@ -71,7 +71,7 @@ casingOf k = cond (eqb k Kinds.BareWord) Listed AsTyped
 
 -- so many blanks and the text, or the text in another case, were written at a place: j is left of it once its trailing white space is dropped
 pub record PutText (at blanks : ℕ) (text : List ℕ) (cased uppercase : Bool) (xs : List ℕ) (j : ℕ) (ys : List ℕ) : Type 0 where
-  pub left : j ≡ trimmedLength isWhiteSpace text
+  pub left : j ≡ trimmedLength text
   pub written : ys ≡ splice (at + blanks) (cond cased (map (toCase uppercase) text) text) (splice at (replicate blanks 32) xs)
 
 -- the acts were done at the token

@@ -2,6 +2,7 @@
 use borrow.Author.Needs.{needs}
 use native.Mathlib.Omega.{arith}
 use borrow.Author.Tests.{ne-eqb}
+use Rattle.layout.specs.Arms.{semicolon}
 use Rattle.tokens.proofs.Runs.{acted, as-acts, did-sign, then}
 use Rattle.layout.specs.Arms.{seen}
 use Rattle.layout.specs.Routines.{fileToken}
@@ -30,7 +31,7 @@ same-length-2 c = search needs
 
 returns-2 : tie.Need-returns-2
 unfolding fileToken seen
-returns-2 c = acted 4 _ (omega arith) (rw (c .before .before .before .before .if2 .taken)) (did-sign 59 (c .before .before .write-sign .ensures))
+returns-2 c = acted 4 _ (omega arith) (rw (c .before .before .before .before .if2 .taken)) (did-sign semicolon (c .before .before .write-sign .ensures))
 
 emit-other-requires : tie.Need-emit-other-requires
 emit-other-requires c κs = search needs

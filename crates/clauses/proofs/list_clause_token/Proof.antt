@@ -2,6 +2,7 @@
 use borrow.Author.Needs.{needs}
 use native.Mathlib.Omega.{arith}
 use borrow.Author.Tests.{ne-eqb}
+use Rattle.layout.specs.Arms.{comma}
 use Rattle.tokens.proofs.Runs.{acted, as-acts, did-newline, did-sign, did-space, then}
 use Rattle.layout.specs.Arms.{seen}
 use Rattle.layout.specs.Routines.{listClauseToken}
@@ -33,7 +34,7 @@ same-length-2 c = search needs
 
 returns-2 : tie.Need-returns-2
 unfolding listClauseToken seen
-returns-2 c = acted 4 _ (omega arith) (rw (c .before .before .before .before .before .before .before .before .before .if2 .taken, c .before .before .before .before .if3 .taken)) (then (did-sign 44 (c .before .before .before .before .before .before .before .write-sign .ensures)) (as-acts (did-newline (c .before .before .write-newline .ensures))))
+returns-2 c = acted 4 _ (omega arith) (rw (c .before .before .before .before .before .before .before .before .before .if2 .taken, c .before .before .before .before .if3 .taken)) (then (did-sign comma (c .before .before .before .before .before .before .before .write-sign .ensures)) (as-acts (did-newline (c .before .before .write-newline .ensures))))
 
 write-space-requires-2 : tie.Need-write-space-requires-2
 write-space-requires-2 c κs = search needs
@@ -43,7 +44,7 @@ same-length-3 c = search needs
 
 returns-3 : tie.Need-returns-3
 unfolding listClauseToken seen
-returns-3 c = acted 4 _ (omega arith) (rw (c .before .before .before .before .before .before .if2 .taken, c .before .if3 .left)) (then (did-sign 44 (c .before .before .before .before .write-sign .ensures)) (as-acts (did-space (c .write-space2 .ensures))))
+returns-3 c = acted 4 _ (omega arith) (rw (c .before .before .before .before .before .before .if2 .taken, c .before .if3 .left)) (then (did-sign comma (c .before .before .before .before .write-sign .ensures)) (as-acts (did-space (c .write-space2 .ensures))))
 
 emit-other-requires : tie.Need-emit-other-requires
 emit-other-requires c κs = search needs

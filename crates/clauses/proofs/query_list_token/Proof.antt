@@ -2,6 +2,7 @@
 use borrow.Author.Needs.{needs}
 use native.Mathlib.Omega.{arith}
 use borrow.Author.Tests.{ne-eqb}
+use Rattle.layout.specs.Arms.{semicolon}
 use Rattle.tokens.proofs.Runs.{acted, did-sign}
 use Rattle.layout.specs.Arms.{seen}
 use Rattle.layout.specs.Routines.{queryListToken}
@@ -17,7 +18,7 @@ same-length c = search needs
 
 returns : tie.Need-returns
 unfolding queryListToken seen
-returns c = acted 4 _ (omega arith) (rw (c .before .before .before .before .if1 .taken)) (did-sign 59 (c .before .before .write-sign .ensures))
+returns c = acted 4 _ (omega arith) (rw (c .before .before .before .before .if1 .taken)) (did-sign semicolon (c .before .before .write-sign .ensures))
 
 emit-other-requires : tie.Need-emit-other-requires
 emit-other-requires c κs = search needs

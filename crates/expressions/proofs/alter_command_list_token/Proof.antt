@@ -2,6 +2,7 @@
 use borrow.Author.Needs.{needs}
 use native.Mathlib.Omega.{arith}
 use borrow.Author.Tests.{ne-eqb}
+use Rattle.layout.specs.Arms.{comma}
 use Rattle.tokens.proofs.Runs.{acted, as-acts, did-newline, did-sign, then}
 use Rattle.tokens.specs.TokenPromises.{emitUncommented}
 use Rattle.layout.specs.Arms.{seen}
@@ -20,7 +21,7 @@ same-length c = search needs
 
 returns : tie.Need-returns
 unfolding alterCommandListToken seen
-returns c = acted 4 _ (omega arith) (rw (c .before .before .before .before .before .before .before .before .if1 .taken)) (then (did-sign 44 (c .before .before .before .before .before .before .write-sign .ensures)) (as-acts (did-newline (c .before .before .write-newline .ensures))))
+returns c = acted 4 _ (omega arith) (rw (c .before .before .before .before .before .before .before .before .if1 .taken)) (then (did-sign comma (c .before .before .before .before .before .before .write-sign .ensures)) (as-acts (did-newline (c .before .before .write-newline .ensures))))
 
 emit-uncommented-requires : tie.Need-emit-uncommented-requires
 emit-uncommented-requires c κs = search needs

@@ -3,6 +3,7 @@ use borrow.Author.Needs.{needs}
 use native.Mathlib.Omega.{arith}
 use borrow.Author.Tests.{ne-eqb}
 use Rattle.tokens.proofs.Choices.{or-else-acts, or-else-local}
+use Rattle.layout.specs.Arms.{comma}
 use Rattle.tokens.proofs.Runs.{acted, as-acts, did-newline, did-sign, then}
 use Rattle.layout.specs.Arms.{seen}
 use Rattle.layout.specs.Routines.{commaListToken}
@@ -20,7 +21,7 @@ same-length c = search needs
 
 returns : tie.Need-returns
 unfolding commaListToken seen
-returns c = record { acted = acted 4 _ (omega arith) (rw (c .before .before .before .before .before .before .before .before .if1 .taken)) (then (did-sign 44 (c .before .before .before .before .before .before .write-sign .ensures)) (as-acts (did-newline (c .before .before .write-newline .ensures)))); local = rw (c .before .before .before .before .before .before .before .before .if1 .taken) }
+returns c = record { acted = acted 4 _ (omega arith) (rw (c .before .before .before .before .before .before .before .before .if1 .taken)) (then (did-sign comma (c .before .before .before .before .before .before .write-sign .ensures)) (as-acts (did-newline (c .before .before .write-newline .ensures)))); local = rw (c .before .before .before .before .before .before .before .before .if1 .taken) }
 
 emit-other-requires : tie.Need-emit-other-requires
 emit-other-requires c κs = search needs

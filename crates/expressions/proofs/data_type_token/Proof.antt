@@ -2,6 +2,7 @@
 use borrow.Author.Needs.{needs}
 use native.Mathlib.Omega.{arith}
 use borrow.Author.Tests.{ne-eqb}
+use Rattle.layout.specs.Arms.{comma, openingRoundBracket, closingRoundBracket}
 use Rattle.tokens.proofs.Runs.{acted, as-acts, did-sign, did-space, then}
 use Rattle.layout.specs.Arms.{seen}
 use Rattle.layout.specs.Routines.{dataTypeToken}
@@ -29,7 +30,7 @@ same-length-2 c = search needs
 
 returns-2 : tie.Need-returns-2
 unfolding dataTypeToken seen
-returns-2 c = acted 4 _ (omega arith) (rw (c .before .before .before .before .before .if2 .taken)) (then (did-sign 44 (c .before .before .before .write-sign .ensures)) (as-acts (did-space (c .write-space .ensures))))
+returns-2 c = acted 4 _ (omega arith) (rw (c .before .before .before .before .before .if2 .taken)) (then (did-sign comma (c .before .before .before .write-sign .ensures)) (as-acts (did-space (c .write-space .ensures))))
 
 write-sign-requires-2 : tie.Need-write-sign-requires-2
 write-sign-requires-2 c κs = search needs
@@ -39,7 +40,7 @@ same-length-3 c = search needs
 
 returns-3 : tie.Need-returns-3
 unfolding dataTypeToken seen
-returns-3 c = acted 4 _ (omega arith) (rw (c .before .before .before .before .if3 .taken)) (did-sign 40 (c .before .before .write-sign2 .ensures))
+returns-3 c = acted 4 _ (omega arith) (rw (c .before .before .before .before .if3 .taken)) (did-sign openingRoundBracket (c .before .before .write-sign2 .ensures))
 
 write-sign-requires-3 : tie.Need-write-sign-requires-3
 write-sign-requires-3 c κs = search needs
@@ -49,7 +50,7 @@ same-length-4 c = search needs
 
 returns-4 : tie.Need-returns-4
 unfolding dataTypeToken seen
-returns-4 c = acted 4 _ (omega arith) (rw (c .before .before .before .before .if4 .taken)) (did-sign 41 (c .before .before .write-sign3 .ensures))
+returns-4 c = acted 4 _ (omega arith) (rw (c .before .before .before .before .if4 .taken)) (did-sign closingRoundBracket (c .before .before .write-sign3 .ensures))
 
 emit-comment-requires : tie.Need-emit-comment-requires
 emit-comment-requires c κs = search needs

@@ -2,6 +2,7 @@
 use borrow.Author.Needs.{needs}
 use native.Mathlib.Omega.{arith}
 use borrow.Author.Tests.{ne-eqb}
+use Rattle.layout.specs.Arms.{openingRoundBracket, closingRoundBracket}
 use Rattle.tokens.proofs.Runs.{acted, did-sign}
 use Rattle.layout.specs.Arms.{seen}
 use Rattle.layout.specs.Routines.{functionCallToken}
@@ -17,7 +18,7 @@ same-length c = search needs
 
 returns : tie.Need-returns
 unfolding functionCallToken seen
-returns c = acted 4 _ (omega arith) (rw (c .before .before .before .before .if1 .taken)) (did-sign 40 (c .before .before .write-sign .ensures))
+returns c = acted 4 _ (omega arith) (rw (c .before .before .before .before .if1 .taken)) (did-sign openingRoundBracket (c .before .before .write-sign .ensures))
 
 write-sign-requires-2 : tie.Need-write-sign-requires-2
 write-sign-requires-2 c κs = search needs
@@ -27,7 +28,7 @@ same-length-2 c = search needs
 
 returns-2 : tie.Need-returns-2
 unfolding functionCallToken seen
-returns-2 c = acted 4 _ (omega arith) (rw (c .before .before .before .before .if2 .taken)) (did-sign 41 (c .before .before .write-sign2 .ensures))
+returns-2 c = acted 4 _ (omega arith) (rw (c .before .before .before .before .if2 .taken)) (did-sign closingRoundBracket (c .before .before .write-sign2 .ensures))
 
 write-text-requires : tie.Need-write-text-requires
 write-text-requires c κs = search needs

@@ -2,6 +2,7 @@
 use borrow.Author.Needs.{needs}
 use native.Mathlib.Omega.{arith}
 use borrow.Author.Tests.{ne-eqb}
+use Rattle.layout.specs.Arms.{comma}
 use Rattle.tokens.proofs.Runs.{acted, as-acts, did-sign, did-space, then}
 use Rattle.layout.specs.Arms.{seen}
 use Rattle.layout.specs.Routines.{inlineCommaListToken}
@@ -20,7 +21,7 @@ same-length c = search needs
 
 returns : tie.Need-returns
 unfolding inlineCommaListToken seen
-returns c = acted 4 _ (omega arith) (rw (c .before .before .before .before .before .if1 .taken)) (then (did-sign 44 (c .before .before .before .write-sign .ensures)) (as-acts (did-space (c .write-space .ensures))))
+returns c = acted 4 _ (omega arith) (rw (c .before .before .before .before .before .if1 .taken)) (then (did-sign comma (c .before .before .before .write-sign .ensures)) (as-acts (did-space (c .write-space .ensures))))
 
 emit-other-requires : tie.Need-emit-other-requires
 emit-other-requires c κs = search needs

@@ -2,6 +2,7 @@
 use borrow.Author.Needs.{needs}
 use native.Mathlib.Omega.{arith}
 use borrow.Author.Tests.{ne-eqb}
+use Rattle.layout.specs.Arms.{comma, openingRoundBracket, closingRoundBracket}
 use Rattle.tokens.proofs.Runs.{acted, as-acts, did-sign, did-space, then}
 use Rattle.tokens.specs.TokenPromises.{emitUncommented}
 use Rattle.layout.specs.Arms.{seen}
@@ -20,7 +21,7 @@ same-length c = search needs
 
 returns : tie.Need-returns
 unfolding parenListToken seen
-returns c = acted 4 _ (omega arith) (rw (c .before .before .before .before .before .if1 .taken)) (then (did-sign 44 (c .before .before .before .write-sign .ensures)) (as-acts (did-space (c .write-space .ensures))))
+returns c = acted 4 _ (omega arith) (rw (c .before .before .before .before .before .if1 .taken)) (then (did-sign comma (c .before .before .before .write-sign .ensures)) (as-acts (did-space (c .write-space .ensures))))
 
 write-sign-requires-2 : tie.Need-write-sign-requires-2
 write-sign-requires-2 c κs = search needs
@@ -30,7 +31,7 @@ same-length-2 c = search needs
 
 returns-2 : tie.Need-returns-2
 unfolding parenListToken seen
-returns-2 c = acted 4 _ (omega arith) (rw (c .before .before .before .before .if2 .taken)) (did-sign 40 (c .before .before .write-sign2 .ensures))
+returns-2 c = acted 4 _ (omega arith) (rw (c .before .before .before .before .if2 .taken)) (did-sign openingRoundBracket (c .before .before .write-sign2 .ensures))
 
 write-sign-requires-3 : tie.Need-write-sign-requires-3
 write-sign-requires-3 c κs = search needs
@@ -40,7 +41,7 @@ same-length-3 c = search needs
 
 returns-3 : tie.Need-returns-3
 unfolding parenListToken seen
-returns-3 c = acted 4 _ (omega arith) (rw (c .before .before .before .before .if3 .taken)) (did-sign 41 (c .before .before .write-sign3 .ensures))
+returns-3 c = acted 4 _ (omega arith) (rw (c .before .before .before .before .if3 .taken)) (did-sign closingRoundBracket (c .before .before .write-sign3 .ensures))
 
 emit-uncommented-requires : tie.Need-emit-uncommented-requires
 emit-uncommented-requires c κs = search needs

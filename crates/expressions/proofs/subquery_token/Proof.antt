@@ -2,6 +2,7 @@
 use borrow.Author.Needs.{needs}
 use native.Mathlib.Omega.{arith}
 use borrow.Author.Tests.{ne-eqb}
+use Rattle.layout.specs.Arms.{openingRoundBracket, closingRoundBracket}
 use Rattle.tokens.proofs.Runs.{acted, as-acts, did-dedent, did-indent, did-newline, did-sign, then}
 use Rattle.layout.specs.Arms.{seen}
 use Rattle.layout.specs.Routines.{subqueryToken}
@@ -23,7 +24,7 @@ same-length c = search needs
 
 returns : tie.Need-returns
 unfolding subqueryToken seen
-returns c = acted 4 _ (omega arith) (rw (c .before .before .before .before .before .before .before .before .before .if1 .taken)) (then (did-sign 40 (c .before .before .before .before .before .before .before .write-sign .ensures)) (then (as-acts (did-newline (c .before .before .before .write-newline .ensures))) (as-acts (did-indent (c .indent .ensures)))))
+returns c = acted 4 _ (omega arith) (rw (c .before .before .before .before .before .before .before .before .before .if1 .taken)) (then (did-sign openingRoundBracket (c .before .before .before .before .before .before .before .write-sign .ensures)) (then (as-acts (did-newline (c .before .before .before .write-newline .ensures))) (as-acts (did-indent (c .indent .ensures)))))
 
 dedent-requires : tie.Need-dedent-requires
 dedent-requires c κs = search needs
@@ -39,7 +40,7 @@ same-length-2 c = search needs
 
 returns-2 : tie.Need-returns-2
 unfolding subqueryToken seen
-returns-2 c = acted 4 _ (omega arith) (rw (c .before .before .before .before .before .before .before .before .before .if2 .taken)) (then (as-acts (did-dedent (c .before .before .before .before .before .before .before .before .dedent .ensures))) (then (as-acts (did-newline (c .before .before .before .before .before .before .write-newline2 .ensures))) (did-sign 41 (c .before .before .write-sign2 .ensures))))
+returns-2 c = acted 4 _ (omega arith) (rw (c .before .before .before .before .before .before .before .before .before .if2 .taken)) (then (as-acts (did-dedent (c .before .before .before .before .before .before .before .before .dedent .ensures))) (then (as-acts (did-newline (c .before .before .before .before .before .before .write-newline2 .ensures))) (did-sign closingRoundBracket (c .before .before .write-sign2 .ensures))))
 
 emit-other-requires : tie.Need-emit-other-requires
 emit-other-requires c κs = search needs

@@ -2,6 +2,7 @@
 use borrow.Author.Needs.{needs}
 use native.Mathlib.Omega.{arith}
 use borrow.Author.Tests.{ne-eqb}
+use Rattle.layout.specs.Arms.{minus}
 use Rattle.tokens.proofs.Runs.{acted, as-acts, did-sign, did-space, then}
 use Rattle.layout.specs.Arms.{seen}
 use Rattle.layout.specs.Routines.{unaryToken}
@@ -30,7 +31,7 @@ same-length-2 c = search needs
 
 returns-2 : tie.Need-returns-2
 unfolding unaryToken seen
-returns-2 c = acted 4 _ (omega arith) (rw (c .before .before .before .before .if2 .taken)) (did-sign 45 (c .before .before .write-sign .ensures))
+returns-2 c = acted 4 _ (omega arith) (rw (c .before .before .before .before .if2 .taken)) (did-sign minus (c .before .before .write-sign .ensures))
 
 emit-other-requires : tie.Need-emit-other-requires
 emit-other-requires c κs = search needs

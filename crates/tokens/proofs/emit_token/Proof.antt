@@ -1,8 +1,7 @@
 -- `emit_token` meets its contract.
 use native.Mathlib.Omega.{arith}
 use mathlib.Core.Path.{refl}
-use Rattle.context.specs.Cells.{isWhiteSpace}
-use Rattle.context.proofs.Trimming.{trimmed-le}
+use Rattle.utf8.proofs.Trimming.{trimmed-le}
 use Rattle.layout.specs.Arms.{seen}
 use Rattle.layout.specs.Tokens.{emitToken}
 use Rattle.tokens.proofs.Runs.{acted, no-acts, put-token, text-fits}
@@ -27,7 +26,7 @@ put-text-requires : tie.Need-put-text-requires
 put-text-requires c κs = search needs
 
 after-text-requires : tie.Need-after-text-requires
-after-text-requires c κs = let k = text-fits (c .before .before .before .before .before .before .before .before .before .before .before .before .pre) (c .before .before .before .before .before .before .before .token-text .ensures) in (omega (arith, k, c .before .before .before .before .before .lead-blanks .ensures .1, c .before .before .before .before .before .before .before .before .before .before .before .before .pre .room .length), omega (arith, c .before .before .put-text .ensures .left, trimmed-le isWhiteSpace (c .before .before .before .before .before .before .before .token-text .result .now)))
+after-text-requires c κs = let k = text-fits (c .before .before .before .before .before .before .before .before .before .before .before .before .pre) (c .before .before .before .before .before .before .before .token-text .ensures) in (omega (arith, k, c .before .before .before .before .before .lead-blanks .ensures .1, c .before .before .before .before .before .before .before .before .before .before .before .before .pre .room .length), omega (arith, c .before .before .put-text .ensures .left, trimmed-le (c .before .before .before .before .before .before .before .token-text .result .now)))
 
 same-length : tie.Need-same-length
 same-length c = search needs

@@ -1,7 +1,6 @@
 -- `write_word` meets its contract.
 use native.Mathlib.Omega.{arith}
-use Rattle.context.specs.Cells.{isWhiteSpace}
-use Rattle.context.proofs.Trimming.{trimmed-le}
+use Rattle.utf8.proofs.Trimming.{trimmed-le}
 use Rattle.tokens.proofs.Runs.{put-keyword, text-fits}
 use borrow.Author.Needs.{needs}
 use Rattle.tokens.proofs.write_word.Statement.{statement}
@@ -17,7 +16,7 @@ put-any-requires : tie.Need-put-any-requires
 put-any-requires c κs = search needs
 
 after-text-requires : tie.Need-after-text-requires
-after-text-requires c κs = let k = text-fits (c .before .before .before .before .before .before .before .before .before .pre) (c .before .before .before .before .before .before .token-text .ensures) in (omega (arith, k, c .before .before .before .before .lead-blanks .ensures .1, c .before .before .before .before .before .before .before .before .before .pre .room .length), omega (arith, c .before .before .put-any .ensures .left, trimmed-le isWhiteSpace (c .before .before .before .before .before .before .token-text .result .now)))
+after-text-requires c κs = let k = text-fits (c .before .before .before .before .before .before .before .before .before .pre) (c .before .before .before .before .before .before .token-text .ensures) in (omega (arith, k, c .before .before .before .before .lead-blanks .ensures .1, c .before .before .before .before .before .before .before .before .before .pre .room .length), omega (arith, c .before .before .put-any .ensures .left, trimmed-le (c .before .before .before .before .before .before .token-text .result .now)))
 
 same-length : tie.Need-same-length
 same-length c = search needs

@@ -6,7 +6,7 @@ use borrow.Author.Needs.{needs}
 use borrow.Author.Tests.{eq-eqb, ne-eqb}
 use lib.ListN.{length, drop, drop-of-length-le}
 use Rattle.keywords.specs.Words.{same}
-use Rattle.keywords.proofs.Same.{same-lengths, same-step, same-nil}
+use Rattle.basics.proofs.Same.{same-lengths, same-step, same-nil}
 use Rattle.replay_list.proofs.Agreeing.{expected, expected-byte, length-expected, longer-expected}
 use Rattle.replay_list.proofs.agree.same_space.Statement.{statement}
 use Rattle.replay_list.proofs.agree.same_space.Tie as tie
