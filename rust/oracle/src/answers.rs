@@ -1,7 +1,8 @@
-//! The two calls, measuring and laying out, as document 01 answers them.
+//! The two calls, measuring and laying out, as documents 01 and 02 (E1) answer them.
 
 use crate::source;
 use crate::tape::{self, Node, MOST_BYTES};
+use crate::text;
 
 /// One call: text, tape, settings, and the output space with its bytes before the call.
 #[derive(Clone, Debug, PartialEq)]
@@ -38,16 +39,20 @@ pub fn answer(case: &Case) -> Answered {
     }
 }
 
-/// What `format` returns, or the refusal among 1 to 12.
+/// What `format` returns, or the refusal, 13 aside.
 pub fn formatted(case: &Case) -> Result<String, Answer> {
-    let root = accepted_tree(case)?;
-    let text = std::str::from_utf8(&case.text).expect("4 was tried");
+    let (text, root) = read(case)?;
     let width = usize::try_from(case.width).expect("1 was tried");
     Ok(source::format(&root, width, case.case == 1, text))
 }
 
-/// The tree of an accepted input, or the first refusal among 1 to 12.
+/// The tree of an accepted input, or the first refusal, 13 aside.
 pub fn accepted_tree(case: &Case) -> Result<Node, Answer> {
+    read(case).map(|(_, root)| root)
+}
+
+/// The text and the tree of an accepted input.
+fn read(case: &Case) -> Result<(&str, Node), Answer> {
     if case.width > MOST_WIDTH {
         return refused(1, 0);
     }
@@ -57,13 +62,12 @@ pub fn accepted_tree(case: &Case) -> Result<Node, Answer> {
     if case.text.len() > MOST_BYTES {
         return refused(3, 0);
     }
-    if let Some(place) = case.text.iter().position(|byte| *byte > 127) {
-        return refused(4, place);
-    }
+    let text = text::well_formed(&case.text).or_else(|place| refused(4, place))?;
     if case.tape.len() > MOST_BYTES {
         return refused(5, 0);
     }
-    tape::read(&case.tape, case.text.len()).or_else(|fault| refused(fault.number, fault.place))
+    let root = tape::read(&case.tape, text).or_else(|fault| refused(fault.number, fault.place))?;
+    Ok((text, root))
 }
 
 fn refused<T>(number: u64, place: usize) -> Result<T, Answer> {

@@ -6,6 +6,7 @@ use crate::kinds::{self, TOKENS};
 use crate::masking::is_copied;
 use crate::source;
 use crate::tape::{Child, Node};
+use crate::text::accepted;
 use std::collections::BTreeSet;
 
 /// What may come before a child in its node, white space and comments aside; the local variables of a routine tell these apart.
@@ -116,7 +117,7 @@ fn add_dispatch(mut root: Node, case: &Case, names: &mut BTreeSet<String>) {
     if has_error_child(&root) || is_copied(&root) {
         return;
     }
-    let text = std::str::from_utf8(&case.text).expect("an accepted text");
+    let text = accepted(&case.text);
     let layout = |root: &Node| source::format(root, case.width as usize, case.case == 1, text);
     let (kind, own) = (root.kind, layout(&root));
     for other in others(kind) {

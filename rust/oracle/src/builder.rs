@@ -1,7 +1,8 @@
 //! A builder of text and tape at once: each token's text is appended, each node spans its tokens as a parser's does.
 
+use crate::edit::put_span;
 use crate::kinds;
-use crate::tape::{push_close, push_open, push_token, SPAN_COMMAND};
+use crate::tape::{push_close, push_open, push_token};
 
 #[derive(Default)]
 pub struct Builder {
@@ -42,8 +43,7 @@ impl Builder {
     /// Closes the innermost node; one without a token keeps the parser's empty span, start above end.
     pub fn close(&mut self) {
         let (place, start, end) = self.open.pop().expect("a node is open");
-        self.tape[place + 3..place + 7].copy_from_slice(&start.to_le_bytes());
-        self.tape[place + 7..place + SPAN_COMMAND].copy_from_slice(&end.to_le_bytes());
+        put_span(&mut self.tape, place, (start, end));
         push_close(&mut self.tape);
         self.widen(start, end);
     }

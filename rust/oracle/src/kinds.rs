@@ -8,6 +8,9 @@ include!(concat!(env!("OUT_DIR"), "/tables.rs"));
 /// How many kinds there are; a larger or equal number is answer 8.
 pub const COUNT: u16 = 258;
 
+/// The kind BareWord by number: 16 is looked for where the source is not at hand, too.
+pub const BARE_WORD: u16 = 211;
+
 /// The node kinds that are not carried (answer 9), in document 01's order.
 pub const NOT_CARRIED: [(&str, u16); 13] = [
     ("InsertStatement", 4),

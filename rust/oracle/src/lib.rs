@@ -1,4 +1,4 @@
-//! The oracle: answers to calls and jobs by document 01, with the layout made by the original Rust source.
+//! The oracle: answers to calls and jobs by documents 01 and 02, with the layout made by the original Rust source.
 //!
 //! `answers::answer` answers a call, `job::printed` a job, and `cases::make` makes inputs for both.
 
@@ -7,6 +7,7 @@ pub mod arms;
 pub mod builder;
 pub mod cases;
 pub mod coverage;
+pub mod edit;
 pub mod job;
 pub mod kinds;
 pub mod masking;
@@ -14,6 +15,7 @@ pub mod random;
 pub mod source;
 pub mod stored;
 pub mod tape;
+pub mod text;
 
 // The source's own modules lexer, parser and formatter; nothing where it is not at hand.
 include!(concat!(env!("OUT_DIR"), "/source.rs"));

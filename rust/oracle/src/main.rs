@@ -15,7 +15,8 @@ const USAGE: &str = "usage: oracle case SEED CLASS INDEX            prints a cas
        oracle job < FILE                       answers a job as the desk's program does
        oracle stored < FILE                    writes the stored list of the calls that FILE names, a line each
        oracle source                           says whether the source is at hand, which all of these need
-CLASS is parser, wild, damaged, jobs, masked, limits or small; the others are numbers from 0 to 2^64-1";
+CLASS is parser, wild, damaged, jobs, masked, limits, small, utf8, utf8-small, utf8-damaged, utf8-masked or
+utf8-limits; the others are numbers from 0 to 2^64-1";
 
 fn main() -> ExitCode {
     let arguments: Vec<String> = std::env::args().skip(1).collect();

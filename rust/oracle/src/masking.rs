@@ -1,9 +1,10 @@
-//! The masking rule: its conditions on two texts and one tree, and its claim as far as outputs show it.
+//! The masking rule in the form of document 02 (E1): its conditions on two texts and one tree, and its claim as far as outputs show it.
 
 use crate::answers::{accepted_tree, answer, Answered, Case};
 use crate::kinds;
 use crate::source;
 use crate::tape::{Child, Node, Token};
+use crate::text::{accepted, is_white_space};
 use std::ops::Range;
 
 /// Two calls that differ in their texts alone.
@@ -28,36 +29,42 @@ impl Pair {
 #[derive(Clone, Copy, Debug, PartialEq)]
 pub enum Breach {
     LengthsDiffer,
-    NotAscii,
-    /// A differing place lies in no token.
+    /// One of the calls answers 4, 15 or 16.
+    TextRefused,
+    /// A differing byte is a newline in one of the texts.
+    Newline,
+    /// A differing byte lies in no token.
     InNoToken,
-    /// A differing place lies in a token that is not quoted.
+    /// A differing byte lies in a token that is not quoted.
     NotQuoted,
-    /// A differing place is the first or last of a quoted token.
+    /// A differing byte lies, in one of the texts, in the first or last character of a quoted token.
     NotInside,
-    /// A differing place lies in a node copied as typed.
+    /// A differing byte lies in a node copied as typed.
     Copied,
-    /// A quoted token ends in white space in one of the texts.
+    /// A quoted token that holds a differing byte ends in white space in one of the texts.
     EndsInWhite,
 }
 
-/// The conditions that a pair does not meet, each once. A refused pair has none but those on its bytes and lengths.
+/// The conditions that a pair does not meet, each once. A refused pair has none but those on its lengths and on 4, 15 and 16.
 pub fn breaches(pair: &Pair) -> Vec<Breach> {
-    let [first, second] = &pair.texts;
-    if !first.is_ascii() || !second.is_ascii() {
-        return vec![Breach::NotAscii];
-    }
-    if first.len() != second.len() {
+    if pair.texts[0].len() != pair.texts[1].len() {
         return vec![Breach::LengthsDiffer];
     }
-    accepted_tree(&pair.case(0)).map_or(Vec::new(), |root| tree_breaches(&pair.texts, &Held::of(&root)))
+    let trees = [0, 1].map(|which| accepted_tree(&pair.case(which)));
+    if trees.iter().any(|tree| tree.as_ref().is_err_and(|answer| [4, 15, 16].contains(&answer.number))) {
+        return vec![Breach::TextRefused];
+    }
+    trees[0].as_ref().map_or(Vec::new(), |root| tree_breaches(&pair.texts, &Held::of(root)))
 }
 
 fn tree_breaches(texts: &[Vec<u8>; 2], held: &Held) -> Vec<Breach> {
-    let places = differing(&texts[0], &texts[1]);
-    let mut found: Vec<Breach> = places.into_iter().flat_map(|place| held.breaches_at(place)).collect();
-    if texts.iter().any(|text| held.quoted.iter().any(|span| ends_in_white(text, span))) {
-        found.push(Breach::EndsInWhite);
+    let mut found = Vec::new();
+    for place in differing(&texts[0], &texts[1]) {
+        for text in texts.iter().map(|text| accepted(text)) {
+            found.extend(held.breaches_at(text, place));
+            found.extend((text.as_bytes()[place] == b'\n').then_some(Breach::Newline));
+            found.extend(held.ends_in_white(text, place).then_some(Breach::EndsInWhite));
+        }
     }
     found.sort_by_key(|breach| *breach as u8);
     found.dedup();
@@ -67,15 +74,6 @@ fn tree_breaches(texts: &[Vec<u8>; 2], held: &Held) -> Vec<Breach> {
 /// The places where two texts of one length differ.
 pub fn differing(first: &[u8], second: &[u8]) -> Vec<usize> {
     (0..first.len()).filter(|place| first[*place] != second[*place]).collect()
-}
-
-pub fn is_white(byte: u8) -> bool {
-    matches!(byte, 9..=13 | 32)
-}
-
-/// Whether the text ends in white space there; an empty part does not.
-fn ends_in_white(text: &[u8], span: &Range<usize>) -> bool {
-    text[span.clone()].last().is_some_and(|byte| is_white(*byte))
 }
 
 fn is_quoted(token: &Token) -> bool {
@@ -117,11 +115,14 @@ impl Held {
         }
     }
 
-    /// The conditions that a differing place does not meet.
-    pub fn breaches_at(&self, place: usize) -> Vec<Breach> {
-        let mut quoted = self.quoted.iter().filter(|span| span.contains(&place)).peekable();
-        let in_quoted = quoted.peek().is_some();
-        let at_edge = quoted.any(|span| place == span.start || place + 1 == span.end);
+    fn quoted_at(&self, place: usize) -> impl Iterator<Item = &Range<usize>> {
+        self.quoted.iter().filter(move |span| span.contains(&place))
+    }
+
+    /// The conditions on tokens and nodes that a place of this text does not meet.
+    pub fn breaches_at(&self, text: &str, place: usize) -> Vec<Breach> {
+        let in_quoted = self.quoted_at(place).next().is_some();
+        let at_edge = self.quoted_at(place).any(|span| !inner(text, span).contains(&place));
         let in_other = self.others.iter().any(|span| span.contains(&place));
         let in_copied = self.copied.iter().any(|span| span.contains(&place));
         [
@@ -134,10 +135,22 @@ impl Held {
         .filter_map(|(missed, breach)| missed.then_some(breach))
         .collect()
     }
+
+    /// Whether a quoted token that holds the place ends in white space.
+    fn ends_in_white(&self, text: &str, place: usize) -> bool {
+        self.quoted_at(place).any(|span| text[span.clone()].ends_with(is_white_space))
+    }
 }
 
 fn span(token: &Token) -> Range<usize> {
     token.start as usize..token.end as usize
+}
+
+/// What lies strictly between the first and the last character of a part that is not empty.
+fn inner(text: &str, span: &Range<usize>) -> Range<usize> {
+    let length = |character: Option<char>| character.map_or(0, char::len_utf8);
+    let part = &text[span.clone()];
+    span.start + length(part.chars().next())..span.end - length(part.chars().next_back())
 }
 
 /// The rule's claim about both calls; the error says what does not hold.
@@ -164,7 +177,7 @@ fn untouched(pair: &Pair, first: &Answered, second: &Answered) -> Result<(), Str
 
 fn accepted_claim(pair: &Pair, layout: &Layout) -> Result<(), String> {
     let [first, second] = [0, 1].map(|which| layout.of_text(&pair.texts[which]));
-    bytes_claim(pair, layout, &first, &second)?;
+    bytes_claim(pair, layout, [&first, &second])?;
     lines_claim(pair, &first, &second)
 }
 
@@ -181,50 +194,82 @@ impl Layout {
     }
 
     fn of_text(&self, text: &[u8]) -> Vec<u8> {
-        let text = std::str::from_utf8(text).expect("an ASCII text");
-        source::format_tree(&self.tree, self.width, self.upper, text).into_bytes()
+        source::format_tree(&self.tree, self.width, self.upper, accepted(text)).into_bytes()
     }
 }
 
-/// The second output is the first with, for each differing place, the bytes that came from it replaced.
-fn bytes_claim(pair: &Pair, layout: &Layout, first: &[u8], second: &[u8]) -> Result<(), String> {
-    let mut expected = first.to_vec();
-    for place in differing(&pair.texts[0], &pair.texts[1]) {
-        for offset in offsets_from(pair, layout, place, first)? {
-            expected[offset] = pair.texts[1][place];
+/// Both outputs have each byte that came from a masked place as their own text has it, and all others alike.
+fn bytes_claim(pair: &Pair, layout: &Layout, outputs: [&[u8]; 2]) -> Result<(), String> {
+    let places = masked_places(pair);
+    let Origins { around, places } = Origins::of(layout, &pair.texts[0], &places)?;
+    for (text, output) in pair.texts.iter().zip(outputs) {
+        let expected: Vec<u8> =
+            places.iter().zip(&around).map(|(origin, byte)| origin.map_or(*byte, |place| text[place])).collect();
+        if expected != output {
+            return Err(format!("output {} instead of {}", output.escape_ascii(), expected.escape_ascii()));
         }
-    }
-    if expected != second {
-        return Err(format!("outputs {} and {}", first.escape_ascii(), second.escape_ascii()));
     }
     Ok(())
 }
 
-/// The output offsets that came from a place, seen by changing that place alone.
-/// A letter is tried besides the second text's byte, which may look like a blank or newline that the layout put in.
-fn offsets_from(pair: &Pair, layout: &Layout, place: usize, first: &[u8]) -> Result<Vec<usize>, String> {
-    let [text, second] = &pair.texts;
-    let letter = if text[place] == b'q' { b'w' } else { b'q' };
-    let offsets = changed_by(text, layout, place, letter, first)?;
-    if offsets != changed_by(text, layout, place, second[place], first)? {
-        return Err(format!("place {place} changes what did not come from it"));
-    }
-    Ok(offsets)
+/// The places of the characters that are not the same in both texts.
+fn masked_places(pair: &Pair) -> Vec<usize> {
+    let [first, second] = &pair.texts;
+    let characters = accepted(first).char_indices().map(|(start, character)| start..start + character.len_utf8());
+    characters.filter(|character| first[character.clone()] != second[character.clone()]).flatten().collect()
 }
 
-/// The output offsets that change when the text takes this byte at a place; each shows the byte.
-fn changed_by(text: &[u8], layout: &Layout, place: usize, byte: u8, first: &[u8]) -> Result<Vec<usize>, String> {
-    let mut text = text.to_vec();
-    let old = std::mem::replace(&mut text[place], byte);
-    let output = layout.of_text(&text);
-    if output.len() != first.len() {
-        return Err(format!("place {place} alone changes the length"));
+/// Where each byte of a layout came from, as far as some places of the text go.
+struct Origins {
+    /// The layout of the text with a letter at each of these places.
+    around: Vec<u8>,
+    /// For each byte of the layout the one of these places that it came from, if any.
+    places: Vec<Option<usize>>,
+}
+
+/// What stands at the places whose origins are looked for: one of two letters.
+const LETTERS: [u8; 2] = *b"qw";
+
+impl Origins {
+    /// Seen by laying out texts in which the letters at each place are the binary digits of its number, from 1.
+    fn of(layout: &Layout, text: &[u8], places: &[usize]) -> Result<Origins, String> {
+        let spelled = |digit: u32| {
+            let mut text = text.to_vec();
+            places.iter().zip(1..).for_each(|(place, number)| text[*place] = LETTERS[number >> digit & 1]);
+            layout.of_text(&text)
+        };
+        let digits = usize::BITS - places.len().leading_zeros();
+        // By a digit that all numbers lack.
+        let around = spelled(digits);
+        let mut numbers = vec![0; around.len()];
+        for digit in 0..digits {
+            add_digit(&mut numbers, digit, &around, &spelled(digit))?;
+        }
+        let places: Option<Vec<_>> = numbers.into_iter().map(|number| numbered(number, places)).collect();
+        Ok(Origins { around, places: places.ok_or("a byte came from several masked places")? })
     }
-    let offsets = differing(first, &output);
-    if offsets.iter().any(|offset| first[*offset] != old || output[*offset] != byte) {
-        return Err(format!("place {place} alone changes other bytes"));
+}
+
+/// Adds a digit to the numbers of the bytes that came from a place whose number has it.
+fn add_digit(numbers: &mut [usize], digit: u32, around: &[u8], output: &[u8]) -> Result<(), String> {
+    if output.len() != around.len() {
+        return Err("letters at masked places change the length".to_string());
     }
-    Ok(offsets)
+    for offset in differing(around, output) {
+        if [around[offset], output[offset]] != LETTERS {
+            return Err(format!("masked places change byte {offset}, which came from none"));
+        }
+        numbers[offset] |= 1 << digit;
+    }
+    Ok(())
+}
+
+/// The place of a number, or none for 0; no answer if there is no such place.
+fn numbered(number: usize, places: &[usize]) -> Option<Option<usize>> {
+    match number {
+        0 => Some(None),
+        _ => places.get(number - 1).map(|place| Some(*place)),
+    }
 }
 
 /// Line for line: where byte 10 stands at the same places of both texts, it does so in both outputs.

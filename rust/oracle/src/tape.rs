@@ -1,4 +1,4 @@
-//! The tape: its commands, the tree that it spells, and answers 6 to 12 in document 01's order.
+//! The tape: its commands, the tree that it spells, and answers 6 to 12, 15 and 16 in the order of documents 01 and 02 (E1).
 
 use crate::kinds;
 
@@ -85,9 +85,9 @@ pub fn command_places(tape: &[u8]) -> Vec<usize> {
     places
 }
 
-/// The tree that the tape spells over a text of `text_length` bytes, or its first fault.
-pub fn read(tape: &[u8], text_length: usize) -> Result<Node, Fault> {
-    let mut reader = Reader { open: Vec::new(), root: None, text_length };
+/// The tree that the tape spells over a text, or its first fault.
+pub fn read(tape: &[u8], text: &str) -> Result<Node, Fault> {
+    let mut reader = Reader { open: Vec::new(), root: None, text };
     let mut place = 0;
     while place < tape.len() {
         let length = command_length(tape[place]).ok_or(Fault { number: 6, place })?;
@@ -98,14 +98,14 @@ pub fn read(tape: &[u8], text_length: usize) -> Result<Node, Fault> {
     reader.root.ok_or(Fault { number: 12, place })
 }
 
-struct Reader {
+struct Reader<'t> {
     open: Vec<Node>,
     root: Option<Node>,
-    text_length: usize,
+    text: &'t str,
 }
 
-impl Reader {
-    /// Takes one whole command; the error is the answer's number, tried in the order 12, 8, 9, 10, 11.
+impl Reader<'_> {
+    /// Takes one whole command; the error is the answer's number, tried in the order 12, 8, 9, 10, 15, 16, 11.
     fn take(&mut self, command: &[u8]) -> Result<(), u64> {
         if self.root.is_some() || (command[0] != OPEN && self.open.is_empty()) {
             return Err(12);
@@ -127,13 +127,29 @@ impl Reader {
         }
     }
 
-    fn passes_text(&self, end: u32) -> bool {
-        end as usize > self.text_length
+    /// 10 and 15 for a span whose start is not above its end.
+    fn check_span(&self, start: u32, end: u32) -> Result<(), u64> {
+        if end as usize > self.text.len() {
+            return Err(10);
+        }
+        if self.is_inside(start) || self.is_inside(end) {
+            return Err(15);
+        }
+        Ok(())
+    }
+
+    /// Whether a place is inside a character.
+    fn is_inside(&self, place: u32) -> bool {
+        !self.text.is_char_boundary(place as usize)
     }
 
     fn token(&mut self, token: Token) -> Result<(), u64> {
-        if token.start > token.end || self.passes_text(token.end) {
+        if token.start > token.end {
             return Err(10);
+        }
+        self.check_span(token.start, token.end)?;
+        if token.kind == kinds::BARE_WORD && !self.text[token.start as usize..token.end as usize].is_ascii() {
+            return Err(16);
         }
         self.parent().push(Child::Token(token));
         Ok(())
@@ -143,8 +159,8 @@ impl Reader {
         if !kinds::is_carried(node.kind) {
             return Err(9);
         }
-        if node.start <= node.end && self.passes_text(node.end) {
-            return Err(10);
+        if node.start <= node.end {
+            self.check_span(node.start, node.end)?;
         }
         if self.open.len() == MOST_OPEN {
             return Err(11);

@@ -1,29 +1,37 @@
-//! Answers 1 to 13: the table's small inputs with their places, the order of the tests, and the limits.
+//! Answers 1 to 13, 15 and 16: the documents' small inputs with their places, the order of the tests, and the limits.
 
 mod common;
 
 use common::{assert_refused, call, nested_files, plain, sheet_b, FILE};
 use oracle::answers::{answer, formatted, Answer, Case};
-use oracle::kinds::{COUNT, NOT_CARRIED};
+use oracle::kinds::{BARE_WORD, COUNT, NOT_CARRIED};
 use oracle::tape::{push_close, push_open, push_token, MOST_BYTES};
 
 fn one_open(kind: u16) -> Vec<u8> {
+    one_open_over(kind, 0, 0)
+}
+
+fn one_open_over(kind: u16, start: u32, end: u32) -> Vec<u8> {
     let mut tape = Vec::new();
-    push_open(&mut tape, kind, 0, 0);
+    push_open(&mut tape, kind, start, end);
     tape
 }
 
 /// A File over an empty span that holds a token of this span.
 fn file_with_token(start: u32, end: u32) -> Vec<u8> {
+    file_with(FILE, start, end)
+}
+
+/// The same with a token of this kind.
+fn file_with(kind: u16, start: u32, end: u32) -> Vec<u8> {
     let mut tape = one_open(FILE);
-    push_token(&mut tape, FILE, start, end);
+    push_token(&mut tape, kind, start, end);
     push_close(&mut tape);
     tape
 }
 
 fn file_over(start: u32, end: u32) -> Vec<u8> {
-    let mut tape = Vec::new();
-    push_open(&mut tape, FILE, start, end);
+    let mut tape = one_open_over(FILE, start, end);
     push_close(&mut tape);
     tape
 }
@@ -58,13 +66,27 @@ fn text_of_262145_blanks_is_3() {
 }
 
 #[test]
-fn bytes_c3_a9_are_4_at_0() {
-    assert_refused(&plain(b"\xC3\xA9", nested_files(1)), 4, 0);
+fn a_text_that_is_not_well_formed_is_4_where_the_fault_begins() {
+    for (text, place) in [
+        (&b"\xC3\x28"[..], 0),
+        (b"a\xE2\x82", 1),
+        (b"\xF4\x90\x80\x80", 0),
+        (b"\x80", 0),
+        (b"a\x7F\x80\xFF", 2),
+        (b"\xC3\xA9\xC3", 2),
+        (b"\xC0\xAF", 0),
+        (b"\xED\xA0\x80", 0),
+        (b"\xF0\x9F\x98\x80\x80", 4),
+    ] {
+        assert_refused(&plain(text, nested_files(1)), 4, place);
+    }
 }
 
 #[test]
-fn the_first_byte_above_127_is_the_place() {
-    assert_refused(&plain(b"a\x7F\x80\xFF", nested_files(1)), 4, 2);
+fn bytes_c3_a9_are_a_character() {
+    needs_source!();
+    assert_eq!(answer(&plain(b"\xC3\xA9", nested_files(1))).measured, Answer { number: 0, second: 0 });
+    assert_eq!(formatted(&plain(b"\xC3\xA9", file_with_token(0, 2))).unwrap(), "é\n");
 }
 
 #[test]
@@ -123,6 +145,27 @@ fn token_with_start_above_end_is_10() {
 fn node_past_the_text_is_10() {
     assert_refused(&plain(b"", file_over(0, 1)), 10, 0);
     assert_refused(&plain(b"", file_over(u32::MAX, u32::MAX)), 10, 0);
+}
+
+#[test]
+fn a_token_that_starts_or_ends_inside_a_character_is_15() {
+    for (start, end) in [(1, 3), (0, 2), (2, 3), (1, 1), (1, 2), (2, 4)] {
+        assert_refused(&plain("€a".as_bytes(), file_with_token(start, end)), 15, 11);
+    }
+}
+
+#[test]
+fn a_node_that_starts_or_ends_inside_a_character_is_15() {
+    for (start, end) in [(1, 4), (0, 3), (2, 2)] {
+        assert_refused(&plain("😀".as_bytes(), file_over(start, end)), 15, 0);
+    }
+}
+
+#[test]
+fn a_bare_word_beyond_ascii_is_16() {
+    for text in ["é", "ſelect", "aß", "a\u{300}", "日"] {
+        assert_refused(&plain(text.as_bytes(), file_with(BARE_WORD, 0, text.len() as u32)), 16, 11);
+    }
 }
 
 #[test]
@@ -209,9 +252,54 @@ fn within_a_command_9_precedes_10_which_precedes_11() {
 }
 
 #[test]
+fn within_a_command_12_8_9_and_10_precede_15() {
+    let after_the_root = [nested_files(1), one_open_over(FILE, 1, 2)].concat();
+    assert_refused(&plain("é".as_bytes(), after_the_root), 12, 12);
+    assert_refused(&plain("é".as_bytes(), one_open_over(COUNT, 1, 2)), 8, 0);
+    assert_refused(&plain("é".as_bytes(), one_open_over(NOT_CARRIED[0].1, 1, 2)), 9, 0);
+    assert_refused(&plain("é".as_bytes(), one_open_over(FILE, 1, 3)), 10, 0);
+    assert_refused(&plain("é".as_bytes(), file_with_token(1, 3)), 10, 11);
+    assert_refused(&plain("é".as_bytes(), file_with_token(1, 0)), 10, 11);
+}
+
+#[test]
+fn within_a_command_10_and_15_precede_16() {
+    assert_refused(&plain("é".as_bytes(), file_with(BARE_WORD, 0, 3)), 10, 11);
+    assert_refused(&plain("éé".as_bytes(), file_with(BARE_WORD, 1, 4)), 15, 11);
+    assert_refused(&plain("éé".as_bytes(), file_with(BARE_WORD, 0, 3)), 15, 11);
+}
+
+#[test]
+fn within_a_command_15_precedes_11() {
+    let mut tape = one_open(FILE).repeat(64);
+    push_open(&mut tape, FILE, 1, 2);
+    assert_refused(&plain("é".as_bytes(), tape), 15, 704);
+}
+
+#[test]
+fn answers_4_and_5_precede_15_and_16() {
+    assert_refused(&plain(b"\xC3\xA9\xFF", file_with_token(1, 2)), 4, 2);
+    assert_refused(&plain("é".as_bytes(), [file_with_token(1, 2), vec![3; MOST_BYTES]].concat()), 5, 0);
+}
+
+#[test]
+fn below_a_copied_node_15_and_16_are_looked_for_too() {
+    let error = 0;
+    let tape = [one_open(error), one_open_over(FILE, 1, 2)].concat();
+    assert_refused(&plain("é".as_bytes(), tape), 15, 11);
+    let mut tape = one_open(error);
+    push_token(&mut tape, BARE_WORD, 0, 2);
+    assert_refused(&plain("é".as_bytes(), tape), 16, 11);
+}
+
+#[test]
 fn the_first_faulty_command_decides() {
     let tape = [file_with_token(0, 1), vec![9]].concat();
     assert_refused(&plain(b"", tape), 10, 11);
+    let mut tape = one_open(FILE);
+    push_token(&mut tape, BARE_WORD, 0, 2);
+    push_token(&mut tape, FILE, 1, 9);
+    assert_refused(&plain("é".as_bytes(), tape), 16, 11);
 }
 
 #[test]
@@ -273,9 +361,26 @@ fn node_with_start_above_end_may_pass_the_text() {
 }
 
 #[test]
+fn node_with_start_above_end_may_name_places_inside_a_character() {
+    needs_source!();
+    assert_eq!(formatted(&plain("😀".as_bytes(), file_over(3, 1))).unwrap(), "");
+}
+
+#[test]
+fn a_token_of_another_kind_may_hold_any_character() {
+    needs_source!();
+    for kind in (0..COUNT).filter(|kind| *kind != BARE_WORD) {
+        let text = "ſ€😀";
+        let number = answer(&plain(text.as_bytes(), file_with(kind, 0, text.len() as u32))).measured.number;
+        assert_eq!(number, 0, "kind {kind}");
+    }
+}
+
+#[test]
 fn an_empty_token_at_the_text_end_is_accepted() {
     needs_source!();
     assert_eq!(formatted(&plain(b"ab", file_with_token(2, 2))).unwrap(), "");
+    assert_eq!(formatted(&plain("é".as_bytes(), file_with(BARE_WORD, 2, 2))).unwrap(), "");
 }
 
 #[test]

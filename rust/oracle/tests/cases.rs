@@ -2,11 +2,14 @@
 
 mod common;
 
-use oracle::answers::{answer, Case};
+use oracle::answers::{answer, formatted, Case};
 use oracle::cases::{call, make, Class, Made};
+use oracle::edit::{kind_at, span_at, span_commands, text_at};
 use oracle::job::printed;
+use oracle::kinds::{self, BARE_WORD, TOKENS};
 use oracle::random::Random;
-use oracle::tape::{MOST_BYTES, MOST_OPEN};
+use oracle::tape::{command_places, CLOSE, MOST_BYTES, MOST_OPEN, OPEN, TOKEN};
+use oracle::text::{accepted, first_ill_formed, is_white_space, table, WHITE_SPACE};
 use std::collections::{BTreeMap, BTreeSet};
 
 const SEED: u64 = 1;
@@ -45,17 +48,17 @@ fn another_seed_class_or_index_gives_other_numbers() {
 fn a_case_is_made_again_alike() {
     needs_source!();
     for index in 0..50 {
-        for class in [Class::Parser, Class::Wild, Class::Damaged, Class::Limits, Class::Small] {
-            assert_eq!(call(SEED, class, index), call(SEED, class, index), "{class:?} {index}");
+        for (name, class) in Class::ALL {
+            let [one, again] = [0, 1].map(|_| bytes_of(make(SEED, class, index)));
+            assert_eq!(one, again, "{name} {index}");
         }
-        assert_eq!(job(index), job(index));
     }
 }
 
 #[test]
-fn parser_wild_and_small_calls_are_accepted_and_only_space_is_short() {
+fn good_calls_are_accepted_and_only_space_is_short() {
     needs_source!();
-    for class in [Class::Parser, Class::Wild, Class::Small] {
+    for class in [Class::Parser, Class::Wild, Class::Small, Class::Utf8, Class::Utf8Small] {
         let counts = answers_of(class, 2_000);
         assert_eq!(counts.keys().copied().collect::<Vec<_>>(), [0, 13], "{class:?}");
         assert!(counts[&13] > 200, "{class:?}");
@@ -65,13 +68,15 @@ fn parser_wild_and_small_calls_are_accepted_and_only_space_is_short() {
 #[test]
 fn spaces_are_full_one_short_five_over_or_empty() {
     needs_source!();
-    let mut seen = BTreeSet::new();
-    for index in 0..2_000 {
-        let case = call(SEED, Class::Parser, index);
-        let needed = answer(&case).measured.second as i64;
-        seen.insert(if case.space.is_empty() { None } else { Some(case.space.len() as i64 - needed) });
+    for class in [Class::Parser, Class::Utf8] {
+        let mut seen = BTreeSet::new();
+        for index in 0..2_000 {
+            let case = call(SEED, class, index);
+            let needed = answer(&case).measured.second as i64;
+            seen.insert(if case.space.is_empty() { None } else { Some(case.space.len() as i64 - needed) });
+        }
+        assert_eq!(seen.into_iter().collect::<Vec<_>>(), [None, Some(-1), Some(0), Some(5)], "{class:?}");
     }
-    assert_eq!(seen.into_iter().collect::<Vec<_>>(), [None, Some(-1), Some(0), Some(5)]);
 }
 
 #[test]
@@ -103,10 +108,153 @@ fn damaged_calls_meet_every_refusal_that_small_calls_can() {
 }
 
 #[test]
+fn damaged_calls_of_characters_meet_every_refusal_that_small_calls_can() {
+    needs_source!();
+    let counts = answers_of(Class::Utf8Damaged, 4_000);
+    for number in [0, 1, 2, 4, 6, 7, 8, 9, 10, 11, 12, 13, 15, 16] {
+        let least = if [4, 10, 15, 16].contains(&number) { 200 } else { 5 };
+        assert!(counts.get(&number).is_some_and(|count| *count >= least), "{number}: {counts:?}");
+    }
+}
+
+/// The answers that a command meets by itself, whatever comes before it: 10, 15 and 16, and 11 at the 65th open.
+fn faults_of(case: &Case, place: usize, open: usize) -> BTreeSet<u64> {
+    let (start, end) = span_at(&case.tape, place);
+    let (is_node, length) = (case.tape[place] == OPEN, case.text.len() as u32);
+    let text = accepted(&case.text);
+    let inside = |place: u32| place < length && !text.is_char_boundary(place as usize);
+    let is_bare_word = !is_node && kind_at(&case.tape, place) == BARE_WORD;
+    let beyond = text_at(case, place).is_some_and(|text| !text.is_ascii());
+    [
+        (10, (start > end && !is_node) || (start <= end && end > length)),
+        (11, is_node && open == MOST_OPEN),
+        (15, (start <= end || !is_node) && (inside(start) || inside(end))),
+        (16, is_bare_word && (beyond || (start <= end && end > length && !text.is_ascii()))),
+    ]
+    .into_iter()
+    .filter_map(|(number, met)| met.then_some(number))
+    .collect()
+}
+
+#[test]
+fn the_order_of_10_15_16_and_11_is_seen() {
+    needs_source!();
+    let mut seen = BTreeSet::new();
+    for index in 0..4_000 {
+        let case = call(SEED, Class::Utf8Damaged, index);
+        let refusal = answer(&case).measured;
+        let place = refusal.second as usize;
+        if [10, 11, 15, 16].contains(&refusal.number) {
+            let before = command_places(&case.tape).into_iter().filter(|at| *at < place);
+            let opens = before.clone().filter(|at| case.tape[*at] == OPEN).count();
+            let closes = before.filter(|at| case.tape[*at] == CLOSE).count();
+            seen.insert((refusal.number, faults_of(&case, place, opens - closes)));
+        }
+    }
+    for (number, faults) in [(10, [10, 15]), (10, [10, 16]), (15, [15, 16]), (15, [11, 15])] {
+        assert!(seen.contains(&(number, BTreeSet::from(faults))), "{number} of {faults:?}: {seen:?}");
+    }
+}
+
+/// Each row broken at each byte: below its range, above it, and cut before it.
+#[test]
+fn every_row_of_the_table_is_broken_at_every_byte() {
+    needs_source!();
+    let mut seen = BTreeSet::new();
+    for index in 0..20_000 {
+        let case = call(SEED, Class::Utf8Damaged, index);
+        if let Some(place) = first_ill_formed(&case.text) {
+            seen.extend(breaks(&case.text[place..]));
+        }
+    }
+    for (number, row) in table().iter().enumerate() {
+        for at in 0..row.len() {
+            for way in [Way::Below, Way::Above, Way::Cut] {
+                // No byte is below 00, and a character cut before its first byte is none.
+                let is_none = at == 0 && (way == Way::Cut || (number == 0 && way == Way::Below));
+                assert!(is_none || seen.contains(&(number, at, way)), "row {number}, byte {at}, {way:?}");
+            }
+        }
+    }
+}
+
+#[derive(Clone, Copy, Debug, PartialEq, Eq, PartialOrd, Ord)]
+enum Way {
+    Below,
+    Above,
+    Cut,
+}
+
+/// The rows that the bytes follow up to some byte, and how that one breaks them.
+fn breaks(bytes: &[u8]) -> Vec<(usize, usize, Way)> {
+    let mut found = Vec::new();
+    for (number, row) in table().iter().enumerate() {
+        let at = (0..row.len()).find(|at| !bytes.get(*at).is_some_and(|byte| (row[*at].0..=row[*at].1).contains(byte)));
+        let Some(at) = at else { continue };
+        found.push(match bytes.get(at) {
+            None => (number, at, Way::Cut),
+            Some(byte) if *byte < row[at].0 => (number, at, Way::Below),
+            Some(_) => (number, at, Way::Above),
+        });
+    }
+    found
+}
+
+#[test]
+fn characters_of_every_length_stand_in_tokens_of_every_sort() {
+    needs_source!();
+    let mut seen = BTreeSet::new();
+    for index in 0..3_000 {
+        let case = call(SEED, Class::Utf8, index);
+        for place in span_commands(&case.tape) {
+            let kind = kinds::name(kind_at(&case.tape, place));
+            let text = text_at(&case, place).map(accepted).unwrap_or_default();
+            if case.tape[place] == TOKEN || kind == "Error" {
+                seen.extend(text.chars().map(|character| (kind, character.len_utf8())));
+            }
+        }
+    }
+    for kind in TOKENS.into_iter().chain(["Error"]).filter(|kind| *kind != "BareWord") {
+        assert!((1..=4).all(|length| seen.contains(&(kind, length))), "{kind}");
+    }
+    assert!(!seen.contains(&("BareWord", 2)));
+}
+
+#[test]
+fn every_white_space_ends_tokens_of_every_kind_and_layouts() {
+    needs_source!();
+    let (mut ends, mut dropped) = (BTreeSet::new(), BTreeSet::new());
+    for index in 0..40_000 {
+        let case = call(SEED, Class::Utf8Small, index);
+        let output = formatted(&case).expect("a good call");
+        for place in span_commands(&case.tape) {
+            let kind = kinds::name(kind_at(&case.tape, place));
+            let last = text_at(&case, place).and_then(|text| accepted(text).chars().next_back());
+            let Some(last) = last.filter(|last| is_white_space(*last)) else { continue };
+            ends.insert((kind, last));
+            // A root that is copied as typed shows what its layout loses.
+            if place == 0 && kind == "Error" && !output.trim_end().ends_with(last) {
+                dropped.insert(last);
+            }
+        }
+    }
+    for white in WHITE_SPACE {
+        assert!(dropped.contains(&white), "{white:?} ends no copied node");
+        for kind in TOKENS.into_iter().filter(|kind| *kind != "BareWord") {
+            assert!(ends.contains(&(kind, white)), "{white:?} ends no {kind}");
+        }
+    }
+}
+
+#[test]
 fn limits_meet_every_answer_of_the_sizes() {
     needs_source!();
     let counts = answers_of(Class::Limits, 240);
     for number in [0, 1, 2, 3, 4, 5, 11, 12, 13] {
+        assert!(counts.contains_key(&number), "{number}: {counts:?}");
+    }
+    let counts = answers_of(Class::Utf8Limits, 75);
+    for number in [0, 3, 4, 5, 13, 15, 16] {
         assert!(counts.contains_key(&number), "{number}: {counts:?}");
     }
 }
@@ -164,6 +312,11 @@ fn the_first_cases_are_the_ones_they_always_were() {
         964_324_876_942_875_903,
         17_773_102_487_889_945_319,
         11_363_470_445_640_504_557,
+        7_686_843_692_516_724_998,
+        17_756_756_753_743_144_356,
+        4_785_548_435_630_006_274,
+        1_106_184_582_570_739_320,
+        6_201_839_075_419_040_035,
     ];
     assert_eq!(sums, expected);
 }

@@ -88,6 +88,11 @@ fn each_class_prints_its_case_and_answer() {
         ("small", "measured "),
         ("jobs", "printed: "),
         ("masked", "claim: Ok"),
+        ("utf8", "measured "),
+        ("utf8-small", "measured "),
+        ("utf8-damaged", "measured "),
+        ("utf8-masked", "claim: Ok"),
+        ("utf8-limits", "measured "),
     ] {
         let output = oracle(&["case", "1", class, "10"], b"");
         assert!(output.status.success(), "{class}");

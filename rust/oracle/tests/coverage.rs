@@ -69,7 +69,7 @@ fn small_calls_take_every_arm() {
 fn only_named_arms_are_taken() {
     needs_source!();
     let every = arms::every();
-    for class in [Class::Parser, Class::Wild, Class::Small] {
+    for class in [Class::Parser, Class::Wild, Class::Small, Class::Utf8, Class::Utf8Small] {
         for index in 0..500 {
             let taken = arms::taken(&call(SEED, class, index));
             assert!(taken.is_subset(&every), "{class:?} {index}: {:?}", taken.difference(&every));

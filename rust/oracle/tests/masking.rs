@@ -7,15 +7,25 @@ use oracle::cases::{make, Class, Made};
 use oracle::kinds;
 use oracle::masking::{breaches, claim, Breach, Held, Pair};
 use oracle::tape::{push_close, push_open, push_token};
+use oracle::text::{accepted, WHITE_SPACE};
+use std::collections::BTreeSet;
 
 const SEED: u64 = 20_241_115;
 const PAIRS: u64 = 3_000;
 
-fn generated(index: u64) -> Pair {
-    match make(SEED, Class::Masked, index) {
+fn generated(class: Class, index: u64) -> Pair {
+    match make(SEED, class, index) {
         Made::Pair(pair) => pair,
-        _ => panic!("the class masked makes pairs"),
+        _ => panic!("{class:?} makes no pairs"),
     }
+}
+
+fn masked(index: u64) -> Pair {
+    generated(Class::Masked, index)
+}
+
+fn utf8_masked(index: u64) -> Pair {
+    generated(Class::Utf8Masked, index)
 }
 
 /// A root of one kind over no byte with these children: a kind, whether it is a token, and a span.
@@ -40,15 +50,32 @@ fn pair(first: &[u8], second: &[u8], tape: Vec<u8>) -> Pair {
 
 /// Checks that a pair misses one condition alone, and that the claim fails.
 fn assert_needed(pair: Pair, condition: Breach) {
-    assert_eq!(breaches(&pair), [condition]);
+    assert_all_needed(pair, &[condition]);
+}
+
+/// Checks that a pair misses these conditions, which cannot be missed alone, and that the claim fails.
+fn assert_all_needed(pair: Pair, conditions: &[Breach]) {
+    assert_eq!(breaches(&pair), conditions);
     assert!(claim(&pair).is_err(), "the claim holds for {pair:?}");
 }
 
+/// Newlines are let be: the claim needs no condition on them, but for the lines.
 #[test]
-fn the_claim_holds_for_generated_pairs() {
+fn the_claim_holds_for_generated_pairs_of_ascii() {
     needs_source!();
     for index in 0..PAIRS {
-        let pair = generated(index);
+        let pair = masked(index);
+        let breaches: Vec<Breach> = breaches(&pair).into_iter().filter(|breach| *breach != Breach::Newline).collect();
+        assert_eq!(breaches, [], "conditions of pair {index}");
+        assert_eq!(claim(&pair), Ok(()), "claim of pair {index}");
+    }
+}
+
+#[test]
+fn the_claim_holds_for_generated_pairs_of_characters() {
+    needs_source!();
+    for index in 0..PAIRS {
+        let pair = utf8_masked(index);
         assert_eq!(breaches(&pair), [], "conditions of pair {index}");
         assert_eq!(claim(&pair), Ok(()), "claim of pair {index}");
     }
@@ -58,8 +85,44 @@ fn the_claim_holds_for_generated_pairs() {
 fn many_generated_pairs_do_differ() {
     needs_source!();
     let differ = |pair: &Pair| pair.texts[0] != pair.texts[1];
-    let count = (0..PAIRS).map(generated).filter(differ).count();
-    assert!(count > PAIRS as usize / 2, "only {count} pairs differ");
+    for pairs in [masked, utf8_masked] {
+        let count = (0..PAIRS).map(pairs).filter(differ).count();
+        assert!(count > PAIRS as usize / 2, "only {count} pairs differ");
+    }
+}
+
+/// How long the characters are from the first place where the texts differ up to the next bound that they share.
+fn lengths(pair: &Pair) -> Option<[Vec<usize>; 2]> {
+    let [first, second] = [0, 1].map(|which| accepted(&pair.texts[which]));
+    let start = (0..first.len()).find(|place| first.as_bytes()[*place] != second.as_bytes()[*place])?;
+    let shared = |place: &usize| first.is_char_boundary(*place) && second.is_char_boundary(*place);
+    let start = (0..=start).rev().find(shared)?;
+    let end = (start + 1..=first.len()).find(shared)?;
+    Some([first, second].map(|text| text[start..end].chars().map(char::len_utf8).collect()))
+}
+
+#[test]
+fn generated_pairs_have_characters_of_other_lengths_at_one_place() {
+    needs_source!();
+    let accepted = |pair: &Pair| accepted_tree(&pair.case(0)).is_ok();
+    let seen: BTreeSet<[Vec<usize>; 2]> =
+        (0..PAIRS).map(utf8_masked).filter(accepted).filter_map(|pair| lengths(&pair)).collect();
+    for length in 1..=4 {
+        assert!(seen.contains(&[vec![length], vec![length]]), "{length} bytes for {length}");
+    }
+    for (one, other) in [(vec![2, 2], vec![4]), (vec![4], vec![2, 2]), (vec![3], vec![1, 2]), (vec![1, 1], vec![2])] {
+        assert!(seen.contains(&[one.clone(), other.clone()]), "{other:?} for {one:?}");
+    }
+}
+
+#[test]
+fn generated_pairs_are_refused_in_every_way_but_for_their_characters() {
+    needs_source!();
+    let numbers: BTreeSet<u64> = (0..PAIRS)
+        .filter_map(|index| accepted_tree(&utf8_masked(index).case(0)).err())
+        .map(|answer| answer.number)
+        .collect();
+    assert_eq!(numbers.into_iter().collect::<Vec<_>>(), [1, 2, 6, 7, 8, 9, 10, 11, 12]);
 }
 
 #[test]
@@ -67,8 +130,10 @@ fn the_claim_holds_in_every_output_space() {
     needs_source!();
     for index in 0..200 {
         for length in [0, 1, 20, 5_000] {
-            let pair = Pair { space: vec![0x5A; length], ..generated(index) };
-            assert_eq!(claim(&pair), Ok(()), "claim of pair {index}");
+            for pair in [masked(index), utf8_masked(index)] {
+                let pair = Pair { space: vec![0x5A; length], ..pair };
+                assert_eq!(claim(&pair), Ok(()), "claim of pair {index}");
+            }
         }
     }
 }
@@ -81,10 +146,52 @@ fn texts_of_two_lengths_break_the_claim() {
 }
 
 #[test]
-fn a_byte_above_127_breaks_the_claim() {
+fn a_text_that_4_refuses_breaks_the_claim() {
     needs_source!();
     let tape = tree("File", &[("StringToken", true, 0, 3)]);
-    assert_needed(pair(b"'a'", b"'\x80'", tape), Breach::NotAscii);
+    assert_needed(pair(b"'a'", b"'\x80'", tape), Breach::TextRefused);
+}
+
+#[test]
+fn a_text_that_15_refuses_breaks_the_claim() {
+    needs_source!();
+    let tape = tree("File", &[("StringToken", true, 0, 4), ("File", false, 2, 2)]);
+    assert_needed(pair(b"'aa'", "'é'".as_bytes(), tape), Breach::TextRefused);
+}
+
+#[test]
+fn a_text_that_16_refuses_breaks_the_claim() {
+    needs_source!();
+    let tape = tree("File", &[("BareWord", true, 0, 2)]);
+    assert_needed(pair(b"aa", "é".as_bytes(), tape), Breach::TextRefused);
+}
+
+#[test]
+fn two_characters_for_one_keep_the_claim() {
+    needs_source!();
+    for (first, second) in [("'éé'", "'😀'"), ("`€ab`", "`aж\u{85}`"), ("'\u{2003}a'", "'\u{85}ß'")] {
+        let tape = tree("File", &[("StringToken", true, 0, first.len() as u32)]);
+        let pair = pair(first.as_bytes(), second.as_bytes(), tape);
+        assert_eq!(breaches(&pair), [], "{first} and {second}");
+        assert_eq!(claim(&pair), Ok(()), "{first} and {second}");
+    }
+}
+
+/// `à` ends in the byte A0, as the white space U+00A0 does.
+#[test]
+fn a_byte_of_the_last_character_breaks_the_claim() {
+    needs_source!();
+    let tape = tree("File", &[("StringToken", true, 0, 3)]);
+    assert_all_needed(pair("'à".as_bytes(), "'\u{A0}".as_bytes(), tape), &[Breach::NotInside, Breach::EndsInWhite]);
+}
+
+#[test]
+fn a_byte_of_the_first_or_last_character_is_not_inside() {
+    needs_source!();
+    for (first, second) in [("éa'", "èa'"), ("'aé", "'aè"), ("é", "è")] {
+        let tape = tree("File", &[("StringToken", true, 0, first.len() as u32)]);
+        assert_eq!(breaches(&pair(first.as_bytes(), second.as_bytes(), tape)), [Breach::NotInside], "{first}");
+    }
 }
 
 #[test]
@@ -98,7 +205,7 @@ fn a_word_over_the_place_breaks_the_claim() {
 fn white_space_over_the_place_breaks_the_claim() {
     needs_source!();
     let children = [("StringToken", true, 0, 3), ("Whitespace", true, 1, 2), ("Comment", true, 0, 1)];
-    assert_needed(pair(b"' '", b"'\n'", tree("File", &children)), Breach::NotQuoted);
+    assert_all_needed(pair(b"' '", b"'\n'", tree("File", &children)), &[Breach::Newline, Breach::NotQuoted]);
 }
 
 #[test]
@@ -119,7 +226,7 @@ fn a_token_not_quoted_that_ends_in_the_place_breaks_the_claim() {
 fn a_copied_node_over_the_place_breaks_the_claim() {
     needs_source!();
     let children = [("StringToken", true, 0, 3), ("Error", false, 0, 2), ("Comment", true, 2, 3)];
-    assert_needed(pair(b"'a'", b"'\n'", tree("QueryList", &children)), Breach::Copied);
+    assert_all_needed(pair(b"'a'", b"'\n'", tree("QueryList", &children)), &[Breach::Newline, Breach::Copied]);
 }
 
 #[test]
@@ -127,6 +234,20 @@ fn a_quoted_token_that_ends_in_white_space_breaks_the_claim() {
     needs_source!();
     let tape = tree("File", &[("StringToken", true, 0, 3)]);
     assert_needed(pair(b"'a ", b"'  ", tape), Breach::EndsInWhite);
+    for white in WHITE_SPACE {
+        let tape = tree("File", &[("StringToken", true, 0, 2 + white.len_utf8() as u32)]);
+        let [first, second] = ["'a", "' "].map(|front| format!("{front}{white}").into_bytes());
+        assert_needed(pair(&first, &second, tape), Breach::EndsInWhite);
+    }
+}
+
+#[test]
+fn a_quoted_token_that_holds_no_differing_byte_may_end_in_white_space() {
+    needs_source!();
+    let tape = tree("File", &[("StringToken", true, 0, 3), ("StringToken", true, 3, 5)]);
+    let pair = pair(b"'a'' ", b"'b'' ", tape);
+    assert_eq!(breaches(&pair), []);
+    assert_eq!(claim(&pair), Ok(()));
 }
 
 #[test]
@@ -165,10 +286,10 @@ fn the_claim_needs_neither_some_token_nor_strictly_inside() {
     needs_source!();
     let mut loosened = 0;
     for index in 0..PAIRS {
-        let mut pair = generated(index);
+        let mut pair = masked(index);
         loosen(&mut pair);
-        let breaches = breaches(&pair);
-        if breaches.iter().all(|breach| matches!(breach, Breach::InNoToken | Breach::NotInside)) {
+        let breaches: Vec<Breach> = breaches(&pair).into_iter().filter(|breach| *breach != Breach::Newline).collect();
+        if breaches.iter().all(is_not_needed) {
             loosened += usize::from(!breaches.is_empty());
             assert_eq!(claim(&pair), Ok(()), "claim of pair {index}");
         }
@@ -181,8 +302,12 @@ fn newlines_inside_quotes_move_lines_but_keep_the_length() {
     needs_source!();
     let tape = tree("File", &[("StringToken", true, 0, 3)]);
     let pair = pair(b"'a'", b"'\n'", tape);
-    assert_eq!(breaches(&pair), []);
+    assert_eq!(breaches(&pair), [Breach::Newline]);
     assert_eq!(claim(&pair), Ok(()));
+}
+
+fn is_not_needed(breach: &Breach) -> bool {
+    matches!(breach, Breach::InNoToken | Breach::NotInside)
 }
 
 /// Changes in the second text every place that misses no condition but those two, to a letter that differs.
@@ -190,9 +315,8 @@ fn loosen(pair: &mut Pair) {
     let Ok(root) = accepted_tree(&pair.case(0)) else { return };
     let held = Held::of(&root);
     for place in 0..pair.texts[1].len() {
-        let breaches = held.breaches_at(place);
-        if !breaches.is_empty() && breaches.iter().all(|breach| matches!(breach, Breach::InNoToken | Breach::NotInside))
-        {
+        let breaches = held.breaches_at(accepted(&pair.texts[0]), place);
+        if !breaches.is_empty() && breaches.iter().all(is_not_needed) {
             pair.texts[1][place] = if pair.texts[0][place] == b'z' { b'y' } else { b'z' };
         }
     }

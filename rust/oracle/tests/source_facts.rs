@@ -5,10 +5,14 @@ mod common;
 use common::{call, layout, one};
 use oracle::answers::{formatted, Case};
 use oracle::cases::{self, Class};
-use oracle::kinds::{self, COUNT, NAMES, NOT_CARRIED};
+use oracle::edit::{put_kind, put_span};
+use oracle::kinds::{self, BARE_WORD, COUNT, NAMES, NOT_CARRIED};
 use oracle::source::{is_keyword, is_value_keyword, keywords, own_name_and_number};
-use oracle::tape::command_places;
+use oracle::tape::{command_places, Child, Node, Token};
+use oracle::text::is_white_space;
+use oracle::{arms, source};
 use std::collections::HashSet;
+use std::panic::catch_unwind;
 
 // Kinds
 
@@ -26,6 +30,12 @@ fn the_first_kinds_have_the_numbers_of_document_01() {
     needs_source!();
     let numbers = ["Error", "File", "QueryList", "SelectStatement"].map(kinds::number);
     assert_eq!(numbers, [0, 1, 2, 3]);
+}
+
+#[test]
+fn bare_word_has_the_number_of_its_name() {
+    needs_source!();
+    assert_eq!(kinds::number("BareWord"), BARE_WORD);
 }
 
 #[test]
@@ -186,7 +196,7 @@ fn assert_alike(first: &str, second: &str) {
     for index in 0..1_000 {
         let mut case = cases::call(5, Class::Wild, index);
         let [one, other] = [first, second].map(|root| {
-            case.tape[1..3].copy_from_slice(&kinds::number(root).to_le_bytes());
+            put_kind(&mut case.tape, 0, kinds::number(root));
             formatted(&case)
         });
         assert_eq!(one, other, "wild {index} under {first} and {second}");
@@ -219,8 +229,7 @@ fn word_after_error(start: u32, end: u32) -> String {
         })
     });
     let error = command_places(&case.tape)[3];
-    case.tape[error + 3..error + 7].copy_from_slice(&start.to_le_bytes());
-    case.tape[error + 7..error + 11].copy_from_slice(&end.to_le_bytes());
+    put_span(&mut case.tape, error, (start, end));
     formatted(&case).unwrap()
 }
 
@@ -287,14 +296,72 @@ fn a_token_of_kind_error_does_not_copy_its_node() {
 // White space, comments and empty tokens
 
 #[test]
-fn trimming_drops_bytes_9_to_13_and_32_alone() {
+fn trimming_drops_white_space_alone() {
     needs_source!();
-    for byte in 0..=127u8 {
-        let text = format!("a{}", byte as char);
+    for character in (char::MIN..='\u{FFFF}').chain("😀\u{10000}\u{E0020}\u{10FFFF}".chars()) {
+        let text = format!("a{character}");
         let written = one("Identifier", "Number", &text);
-        let trimmed = matches!(byte, 9..=13 | 32);
-        assert_eq!(written, if trimmed { "a\n".to_string() } else { format!("{text}\n") }, "byte {byte}");
+        let expected = if is_white_space(character) { "a\n".to_string() } else { format!("{text}\n") };
+        assert_eq!(written, expected, "U+{:04X}", u32::from(character));
     }
+}
+
+// Letters beyond ASCII
+
+/// What the source writes for a root with one token over the text, whatever the call answers.
+fn written_by_source(root: &str, token: &str, text: &str, upper: bool) -> String {
+    let end = text.len() as u32;
+    let token = Token { kind: kinds::number(token), start: 0, end };
+    let root = Node { kind: kinds::number(root), start: 0, end, children: vec![Child::Token(token)] };
+    source::format(&root, 4, upper, text)
+}
+
+/// So what 16 lets pass is written in the case of ASCII letters alone.
+#[test]
+fn no_routine_changes_the_case_of_other_tokens_than_bare_words() {
+    needs_source!();
+    let text = "sSßſéÉ";
+    for root in arms::representatives() {
+        for token in (0..COUNT).filter(|kind| *kind != BARE_WORD) {
+            let (root, token) = (kinds::name(root), kinds::name(token));
+            let written = written_by_source(root, token, text, true);
+            let signs = written.trim().is_ascii();
+            assert!(signs || written.trim() == text, "{token} under {root} is written as {written}");
+        }
+    }
+}
+
+#[test]
+fn the_source_changes_the_case_of_every_letter_of_a_bare_word() {
+    needs_source!();
+    for (root, text, upper, expected) in [
+        ("ColumnReference", "ſelect", true, "SELECT\n"),
+        ("ColumnReference", "ſelect", false, "ſelect\n"),
+        ("ColumnReference", "é", true, "é\n"),
+        ("BinaryExpression", "ß", true, "SS\n"),
+        ("BinaryExpression", "é", true, "É\n"),
+        ("BinaryExpression", "\u{212A}", false, "k\n"),
+        ("CaseExpression", "elſe", true, "\nELSE\n"),
+    ] {
+        assert_eq!(written_by_source(root, "BareWord", text, upper), expected, "{text} under {root}");
+    }
+}
+
+#[test]
+fn the_source_panics_at_a_span_that_it_reads_and_that_cuts_a_character() {
+    needs_source!();
+    let panics = |root: &str, start: u32, tokens: &[(u32, u32)]| {
+        let kind = kinds::number("Whitespace");
+        let children =
+            tokens.iter().map(|(start, end)| Child::Token(Token { kind, start: *start, end: *end })).collect();
+        let root = Node { kind: kinds::number(root), start, end: 2, children };
+        catch_unwind(|| source::format(&root, 4, true, "é")).is_err()
+    };
+    assert!(panics("File", 0, &[(0, 1)]));
+    assert!(panics("File", 0, &[(1, 1)]));
+    assert!(panics("Error", 1, &[]));
+    assert!(!panics("File", 1, &[]), "it does not look at the span of a node that it lays out");
+    assert!(!panics("Error", 0, &[(0, 1)]), "nor at a token below a node copied as typed");
 }
 
 #[test]

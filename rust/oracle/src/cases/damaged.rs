@@ -2,6 +2,7 @@
 
 use super::{some_call, with_space};
 use crate::answers::Case;
+use crate::edit::{put_kind, put_span};
 use crate::kinds;
 use crate::random::Random;
 use crate::tape::{command_places, push_close, push_open, push_token, CLOSE, MOST_OPEN, OPEN, TOKEN};
@@ -68,7 +69,7 @@ fn flip_byte(tape: &mut [u8], random: &mut Random) {
 }
 
 /// The offset of some whole command of one of these sorts.
-fn some_command(tape: &[u8], sorts: &[u8], random: &mut Random) -> Option<usize> {
+pub fn some_command(tape: &[u8], sorts: &[u8], random: &mut Random) -> Option<usize> {
     let mut places = command_places(tape);
     places.retain(|place| sorts.contains(&tape[*place]));
     if places.is_empty() {
@@ -102,13 +103,18 @@ fn drop_command(tape: &mut Vec<u8>, random: &mut Random) {
 
 /// So many opens before the tape that it opens too many nodes, with closes after it or not.
 fn too_deep(tape: &mut Vec<u8>, random: &mut Random) {
-    let mut deep = Vec::new();
     let opens = MOST_OPEN - random.below(4);
+    put_under(tape, opens);
+    if random.percent(70) {
+        (0..opens).for_each(|_| push_close(tape));
+    }
+}
+
+/// So many opens before the tape.
+pub fn put_under(tape: &mut Vec<u8>, opens: usize) {
+    let mut deep = Vec::new();
     (0..opens).for_each(|_| push_open(&mut deep, kinds::number("File"), 0, 0));
     deep.append(tape);
-    if random.percent(70) {
-        (0..opens).for_each(|_| push_close(&mut deep));
-    }
     *tape = deep;
 }
 
@@ -119,12 +125,12 @@ fn wrong_kind(tape: &mut [u8], random: &mut Random) {
         1 => random.next() as u16,
         _ => kinds::NOT_CARRIED[random.below(13)].1,
     };
-    tape[place + 1..place + 3].copy_from_slice(&kind.to_le_bytes());
+    put_kind(tape, place, kind);
 }
 
 fn wrong_span(tape: &mut [u8], text_length: u32, random: &mut Random) {
     let Some(place) = some_command(tape, &[OPEN, TOKEN], random) else { return };
-    let (start, end) = match random.below(6) {
+    let span = match random.below(6) {
         0 => (text_length, text_length + 1),
         1 => (1, 0),
         2 => (0, u32::MAX),
@@ -132,6 +138,5 @@ fn wrong_span(tape: &mut [u8], text_length: u32, random: &mut Random) {
         4 => (text_length + 1, text_length),
         _ => (random.next() as u32, random.next() as u32),
     };
-    tape[place + 3..place + 7].copy_from_slice(&start.to_le_bytes());
-    tape[place + 7..place + 11].copy_from_slice(&end.to_le_bytes());
+    put_span(tape, place, span);
 }

@@ -38,12 +38,12 @@ pub fn make(random: &mut Random, index: u64) -> Case {
     }
 }
 
-fn plain(text: Vec<u8>, tape: Vec<u8>) -> Case {
+pub fn plain(text: Vec<u8>, tape: Vec<u8>) -> Case {
     Case { text, tape, width: 4, case: 1, space: vec![7; 9] }
 }
 
 /// So many File nodes one in another, and in the innermost a token over so many bytes if any.
-fn chain(levels: usize, token_length: u32) -> Vec<u8> {
+pub fn chain(levels: usize, token_length: u32) -> Vec<u8> {
     let mut tape = Vec::new();
     (0..levels).for_each(|_| push_open(&mut tape, kinds::number("File"), 0, token_length));
     if token_length > 0 {

@@ -2,8 +2,9 @@
 
 use super::{damaged, some_call, with_space};
 use crate::answers::{accepted_tree, Case};
-use crate::masking::{is_white, Held, Pair};
+use crate::masking::{Held, Pair};
 use crate::random::Random;
+use crate::text::{accepted, is_white_space};
 
 pub fn make(random: &mut Random) -> Pair {
     if random.percent(15) {
@@ -13,10 +14,9 @@ pub fn make(random: &mut Random) -> Pair {
     }
 }
 
-/// A pair that meets all conditions; where no place may differ, its texts are equal.
+/// A pair that meets all conditions but the one on newlines; where no place may differ, its texts are equal.
 fn masked(random: &mut Random) -> Pair {
-    let (mut case, held) = maskable_call(random);
-    no_white_ends(&mut case.text, &held);
+    let (case, held) = maskable_call(random, some_call, maskable_places);
     let mut second = case.text.clone();
     let share = [10, 50, 100][random.below(3)];
     for place in maskable_places(&case, &held) {
@@ -27,30 +27,36 @@ fn masked(random: &mut Random) -> Pair {
     pair(with_space(case, random), second)
 }
 
-/// A good call with places that may differ, if one of five has any.
-fn maskable_call(random: &mut Random) -> (Case, Held) {
+/// A good call in which no quoted token ends in white space, with something maskable in it, if one of five calls has it.
+pub fn maskable_call<T>(
+    random: &mut Random,
+    make: fn(&mut Random) -> Case,
+    maskable: fn(&Case, &Held) -> Vec<T>,
+) -> (Case, Held) {
     let mut tries = 0;
     loop {
-        let case = some_call(random);
+        let mut case = make(random);
         let held = Held::of(&accepted_tree(&case).expect("a good call"));
         tries += 1;
-        if tries == 5 || maskable_places(&case, &held).next().is_some() {
+        if tries == 5 || !maskable(&case, &held).is_empty() {
+            no_white_ends(&mut case.text, &held);
             return (case, held);
         }
     }
 }
 
 /// The places where the conditions let two texts differ.
-fn maskable_places<'h>(case: &Case, held: &'h Held) -> impl Iterator<Item = usize> + 'h {
-    (0..case.text.len()).filter(|place| held.breaches_at(*place).is_empty())
+fn maskable_places(case: &Case, held: &Held) -> Vec<usize> {
+    let text = accepted(&case.text);
+    (0..text.len()).filter(|place| held.breaches_at(text, *place).is_empty()).collect()
 }
 
-/// Puts a quote where a quoted token would end in white space.
+/// Puts another character of as many bytes where a quoted token would end in white space.
 fn no_white_ends(text: &mut [u8], held: &Held) {
-    for span in held.quoted.iter().filter(|span| !span.is_empty()) {
-        let last = &mut text[span.end - 1];
-        if is_white(*last) {
-            *last = b'\'';
+    for span in &held.quoted {
+        let last = accepted(&text[span.clone()]).chars().next_back().filter(|last| is_white_space(*last));
+        if let Some(length) = last.map(char::len_utf8) {
+            text[span.end - length..span.end].copy_from_slice(["'", "×", "€"][length - 1].as_bytes());
         }
     }
 }
@@ -75,7 +81,7 @@ fn refused(random: &mut Random) -> Pair {
     pair(with_space(case, random), second)
 }
 
-fn pair(case: Case, second: Vec<u8>) -> Pair {
+pub fn pair(case: Case, second: Vec<u8>) -> Pair {
     let Case { text, tape, width, case, space } = case;
     Pair { texts: [text, second], tape, width, case, space }
 }

@@ -6,7 +6,10 @@ mod limits;
 mod masked;
 mod query;
 mod small;
+mod utf8;
 mod wild;
+
+pub use utf8::characters::listed as characters;
 
 use crate::answers::{formatted, Case};
 use crate::masking::Pair;
@@ -28,10 +31,20 @@ pub enum Class {
     Limits,
     /// A node of each carried kind and of each routine in turn, with a few children.
     Small,
+    /// A parser's and wild trees over texts with characters of one to four bytes.
+    Utf8,
+    /// Each of many characters in turn, in a token of each kind in turn, with a few children around it.
+    Utf8Small,
+    /// Calls of the class Utf8 with texts that are not well-formed, spans inside characters, bare words beyond ASCII.
+    Utf8Damaged,
+    /// Two texts and one tape under the masking rule, with other characters in as many bytes.
+    Utf8Masked,
+    /// Characters of several bytes at the limits.
+    Utf8Limits,
 }
 
 impl Class {
-    pub const ALL: [(&'static str, Class); 7] = [
+    pub const ALL: [(&'static str, Class); 12] = [
         ("parser", Class::Parser),
         ("wild", Class::Wild),
         ("damaged", Class::Damaged),
@@ -39,6 +52,11 @@ impl Class {
         ("masked", Class::Masked),
         ("limits", Class::Limits),
         ("small", Class::Small),
+        ("utf8", Class::Utf8),
+        ("utf8-small", Class::Utf8Small),
+        ("utf8-damaged", Class::Utf8Damaged),
+        ("utf8-masked", Class::Utf8Masked),
+        ("utf8-limits", Class::Utf8Limits),
     ];
 
     pub fn named(name: &str) -> Option<Class> {
@@ -64,6 +82,11 @@ pub fn make(seed: u64, class: Class, index: u64) -> Made {
         Class::Wild => Made::Call(with_space(wild::make(&mut random), &mut random)),
         Class::Damaged => Made::Call(damaged::make(&mut random)),
         Class::Small => Made::Call(with_space(small::make(&mut random, index), &mut random)),
+        Class::Utf8 => Made::Call(with_space(utf8::make(&mut random), &mut random)),
+        Class::Utf8Small => Made::Call(with_space(utf8::small::make(&mut random, index), &mut random)),
+        Class::Utf8Damaged => Made::Call(utf8::damaged::make(&mut random)),
+        Class::Utf8Masked => Made::Pair(utf8::masked::make(&mut random)),
+        Class::Utf8Limits => Made::Call(utf8::limits::make(&mut random, index)),
     }
 }
 

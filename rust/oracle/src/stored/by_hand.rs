@@ -6,7 +6,7 @@ use crate::source;
 use crate::tape::MOST_BYTES;
 
 /// The calls whose texts and tapes are longer than what is stored of them.
-const LONG: [&str; 9] = [
+const LONG: [&str; 11] = [
     "tape-too-long",
     "tape-at-most",
     "text-and-tape-too-long",
@@ -16,6 +16,8 @@ const LONG: [&str; 9] = [
     "text-too-long-with-high-byte",
     "high-byte-and-tape-too-long",
     "text-at-most-accepted",
+    "character-and-tape-too-long",
+    "character-in-text-at-most",
 ];
 
 /// How many words a call of words has.
@@ -48,9 +50,11 @@ fn long(name: &str) -> Option<Case> {
         "text-and-tape-too-long" => (zeros(past), zeros(past)),
         "text-too-long" | "case-2-and-text-too-long" => (zeros(past), Vec::new()),
         "text-at-most" => (zeros(MOST_BYTES), Vec::new()),
-        "text-too-long-with-high-byte" => (before_zeros(128, past), Vec::new()),
+        "text-too-long-with-high-byte" => (before_zeros(&[128], past), Vec::new()),
         "high-byte-and-tape-too-long" => (vec![128], zeros(past)),
-        "text-at-most-accepted" => (before_zeros(b'a', MOST_BYTES), word_of_one_byte()),
+        "text-at-most-accepted" => (before_zeros(b"a", MOST_BYTES), one_token("BareWord", "a")),
+        "character-and-tape-too-long" => ("é".into(), zeros(past)),
+        "character-in-text-at-most" => (before_zeros("é".as_bytes(), MOST_BYTES), one_token("Number", "é")),
         _ => return None,
     };
     let case = if name.starts_with("case-2") { 2 } else { 1 };
@@ -61,15 +65,16 @@ fn zeros(length: usize) -> Vec<u8> {
     vec![0; length]
 }
 
-/// A byte and then zeros, so many bytes together.
-fn before_zeros(byte: u8, length: usize) -> Vec<u8> {
-    let mut bytes = zeros(length);
-    bytes[0] = byte;
+/// These bytes and then zeros, so many bytes together.
+fn before_zeros(front: &[u8], length: usize) -> Vec<u8> {
+    let mut bytes = front.to_vec();
+    bytes.resize(length, 0);
     bytes
 }
 
-fn word_of_one_byte() -> Vec<u8> {
-    Builder::build(|b| b.node("File", |b| b.token("BareWord", "a"))).1
+/// The tape of a File with one token.
+fn one_token(kind: &str, text: &str) -> Vec<u8> {
+    Builder::build(|b| b.node("File", |b| b.token(kind, text))).1
 }
 
 fn keywords() -> Vec<String> {
