@@ -3,11 +3,22 @@
 use crate::{layout, measure};
 use oracle::answers::{accepted_tree, answer, formatted, Answer, Answered, Case};
 use oracle::cases::{make, Class, Made};
-use oracle::masking::Pair;
+use oracle::masking::{claim, Pair};
 
 /// The classes whose cases are calls.
-pub const CLASSES: [Class; 6] =
-    [Class::Parser, Class::Wild, Class::Damaged, Class::Masked, Class::Limits, Class::Small];
+pub const CLASSES: [Class; 11] = [
+    Class::Parser,
+    Class::Wild,
+    Class::Damaged,
+    Class::Masked,
+    Class::Limits,
+    Class::Small,
+    Class::Utf8,
+    Class::Utf8Small,
+    Class::Utf8Damaged,
+    Class::Utf8Masked,
+    Class::Utf8Limits,
+];
 
 /// Bytes before and after the output space that no call may touch.
 const MARGIN: usize = 16;
@@ -35,9 +46,10 @@ fn call(case: &Case) -> Result<(), String> {
     Ok(())
 }
 
-/// Bytes that no layout has: above 127, each unlike its neighbours.
+/// Bytes that no well-formed text has, and so no layout; each unlike its neighbours.
 fn pattern(length: usize) -> Vec<u8> {
-    (0..length).map(|i| 128 + (i * 37 % 128) as u8).collect()
+    let bytes = [0xC0, 0xC1, 0xF5, 0xF6, 0xF7, 0xF8, 0xF9, 0xFA, 0xFB, 0xFC, 0xFD, 0xFE, 0xFF];
+    bytes.into_iter().cycle().take(length).collect()
 }
 
 fn in_space(case: &Case) -> Result<(), String> {
@@ -75,8 +87,9 @@ fn equal(call: &str, got: Answer, expected: Answer) -> Result<(), String> {
     Err(format!("{call} answers {got:?} instead of {expected:?}"))
 }
 
-/// Both calls of a pair, and the rule's claim on the port's own outputs: equal answers, and equal bytes but where the texts differ.
+/// Both calls of a pair, which are the oracle's byte for byte; the rule's claim on these, and on the port's own answers.
 fn masked(pair: &Pair) -> Result<(), String> {
+    claim(pair)?;
     let cases = [0, 1].map(|which| pair.case(which));
     for case in &cases {
         call(case)?;

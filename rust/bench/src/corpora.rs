@@ -2,9 +2,12 @@
 
 use oracle::answers::Case;
 use oracle::cases::{call, Class};
-use oracle::kinds;
+use oracle::edit::{kind_at, put_kind, respelled, span_at, text_at};
+use oracle::kinds::{self, BARE_WORD};
 use oracle::random::Random;
+use oracle::source;
 use oracle::tape::{command_places, push_close, push_open, push_token, CLOSE, OPEN, SPAN_COMMAND, TOKEN};
+use oracle::text::accepted;
 use std::collections::HashSet;
 
 /// A corpus by its name on the command line, what it is, and how it is made. Those of one shape are the same for every seed.
@@ -14,8 +17,9 @@ pub struct Corpus {
     pub make: fn(u64) -> Vec<Case>,
 }
 
-pub const ALL: [Corpus; 26] = [
+pub const ALL: [Corpus; 27] = [
     Corpus { name: "typical", label: "2,000 different queries, one in six broken", make: typical },
+    Corpus { name: "utf8", label: "the same with quoted names, strings and comments in many letters", make: utf8 },
     Corpus { name: "broken", label: "the broken ones among them", make: broken },
     Corpus { name: "repeated", label: "one query repeated", make: repeated },
     Corpus { name: "wide-50", label: "50 columns", make: |_| vec![wide(50)] },
@@ -63,6 +67,90 @@ fn typical(seed: u64) -> Vec<Case> {
     whole.take(QUERIES).map(|query| with_fault(query, faults.below(TOKENS_FOR_A_FAULT))).collect()
 }
 
+/// The typical queries with half of their names, their strings and their comments in letters beyond ASCII.
+fn utf8(seed: u64) -> Vec<Case> {
+    let mut random = Random::of(seed, LETTERS, 0);
+    typical(seed).into_iter().map(|query| in_letters(query, &mut random)).collect()
+}
+
+/// Names and words of plants, as they would type them.
+const WORDS: [&str; 20] = [
+    "Müller",
+    "Größe",
+    "Prüfstand 3",
+    "Żnin",
+    "naïve façade",
+    "Температура",
+    "Завод №5",
+    "давление",
+    "Θερμοκρασία",
+    "מפעל",
+    "مصنع",
+    "温度",
+    "工厂一号",
+    "東京工場",
+    "センサー",
+    "공장",
+    "कारखाना",
+    "โรงงาน",
+    "🏭 Halle",
+    "📈",
+];
+
+/// The query with other texts for some of its tokens.
+fn in_letters(mut query: Case, random: &mut Random) -> Case {
+    for place in names(&query) {
+        if random.percent(50) {
+            put_kind(&mut query.tape, place, kinds::number("QuotedIdentifier"));
+        }
+    }
+    // What is put for a byte of the text: a token's new text for its first byte, and nothing for the others.
+    let mut bytes: Vec<Vec<u8>> = query.text.iter().map(|byte| vec![*byte]).collect();
+    for place in tokens(&query) {
+        if let Some(text) = text_in_letters(&query, place, random.pick(&WORDS)) {
+            let (start, end) = span_at(&query.tape, place);
+            bytes[start as usize..end as usize].fill(Vec::new());
+            bytes[start as usize] = text.into_bytes();
+        }
+    }
+    respelled(&query, |place| bytes[place].clone())
+}
+
+/// The nodes whose bare words are names, if they are no keywords.
+const NAMED: [&str; 6] =
+    ["ColumnReference", "QualifiedName", "TableIdentifier", "ColumnAlias", "TableAlias", "UsingList"];
+
+/// The places of the bare words that are names of the plant's.
+fn names(query: &Case) -> Vec<usize> {
+    let mut open = Vec::new();
+    let mut found = Vec::new();
+    for place in command_places(&query.tape) {
+        match query.tape[place] {
+            OPEN => open.push(kinds::name(kind_at(&query.tape, place))),
+            CLOSE => _ = open.pop(),
+            _ if open.last().is_some_and(|parent| NAMED.contains(parent)) => found.push(place),
+            _ => {}
+        }
+    }
+    let is_word = |place: &usize| kind_at(&query.tape, *place) == BARE_WORD;
+    let is_keyword = |place: &usize| text_at(query, *place).is_some_and(|text| source::is_keyword(accepted(text)));
+    found.retain(|place| is_word(place) && !is_keyword(place));
+    found
+}
+
+/// The text of a quoted name, a string or a comment with this word in it; none for other tokens.
+fn text_in_letters(query: &Case, place: usize, word: &str) -> Option<String> {
+    let text = text_at(query, place)?;
+    match kinds::name(kind_at(&query.tape, place)) {
+        "QuotedIdentifier" => Some(format!("`{word}`")),
+        "StringToken" => Some(format!("'{word}'")),
+        "Comment" if text.starts_with(b"/*") => Some(format!("/* {word} */")),
+        "Comment" if text.ends_with(b"\n") => Some(format!("-- {word}\n")),
+        "Comment" => Some(format!("-- {word}")),
+        _ => None,
+    }
+}
+
 /// The broken ones among the typical.
 fn broken(seed: u64) -> Vec<Case> {
     typical(seed).into_iter().filter(is_broken).collect()
@@ -70,6 +158,7 @@ fn broken(seed: u64) -> Vec<Case> {
 
 /// In place of a class, for numbers that no case is made from.
 const FAULTS: u64 = u64::MAX;
+const LETTERS: u64 = u64::MAX - 1;
 
 /// The class's queries without an Error node.
 fn queries(seed: u64) -> impl Iterator<Item = Case> {
@@ -96,10 +185,6 @@ fn with_fault(mut query: Case, number: usize) -> Case {
 /// The first query of middling size.
 fn repeated(seed: u64) -> Vec<Case> {
     queries(seed).filter(|query| (150..200).contains(&tokens(query).len())).take(1).collect()
-}
-
-fn kind_at(tape: &[u8], place: usize) -> u16 {
-    u16::from_le_bytes([tape[place + 1], tape[place + 2]])
 }
 
 /// The places of the commands of one sort.

@@ -3,6 +3,7 @@
 use crate::corpora::tokens;
 use oracle::answers::{accepted_tree, formatted, Answer, Case};
 use oracle::source;
+use oracle::text::accepted;
 use std::hint::black_box;
 use std::ops::Range;
 use std::time::Instant;
@@ -10,7 +11,7 @@ use std::time::Instant;
 /// What is timed.
 #[derive(Clone, Copy)]
 pub enum Side {
-    /// The source's `format` on its own tree, made beforehand.
+    /// The source's `format` on its own tree and a `&str`, both made beforehand.
     ReadyTree,
     /// The oracle's reading of text and tape, with all refusals, then the source's `format`.
     FromTape,
@@ -26,20 +27,33 @@ const SIDES: [Side; 3] = [Side::ReadyTree, Side::FromTape, Side::Layout];
 /// Tokens of a batch, at least: long enough for the clock, short enough to be left alone by the machine's other work now and then.
 const BATCH_TOKENS: usize = 10_000;
 
+/// What the source takes: its own tree, and a text that is known to be well-formed.
+struct Ready {
+    tree: source::Tree,
+    text: String,
+}
+
+impl Ready {
+    fn of(case: &Case) -> Ready {
+        let tree = source::tree(&accepted_tree(case).expect("accepted"));
+        Ready { tree, text: accepted(&case.text).to_string() }
+    }
+}
+
 /// Queries, and what the sides need beforehand.
 pub struct Queries {
     cases: Vec<Case>,
-    trees: Vec<source::Tree>,
+    ready: Vec<Ready>,
     out: Vec<u8>,
     pub tokens: usize,
 }
 
 impl Queries {
     pub fn new(cases: Vec<Case>) -> Queries {
-        let trees = cases.iter().map(|case| source::tree(&accepted_tree(case).expect("accepted"))).collect();
+        let ready = cases.iter().map(Ready::of).collect();
         let longest = cases.iter().map(|case| formatted(case).expect("accepted").len()).max();
         let tokens = cases.iter().map(|case| tokens(case).len()).sum();
-        Queries { cases, trees, out: vec![0; longest.unwrap_or(0)], tokens }
+        Queries { cases, ready, out: vec![0; longest.unwrap_or(0)], tokens }
     }
 
     /// Holds what lays out to the source on every query; the error names the first that differs.
@@ -66,7 +80,7 @@ impl Queries {
     fn run(&mut self, side: Side, queries: Range<usize>) {
         let cases = &self.cases[queries.clone()];
         match side {
-            Side::ReadyTree => cases.iter().zip(&self.trees[queries]).for_each(|(case, tree)| ready_tree(case, tree)),
+            Side::ReadyTree => cases.iter().zip(&self.ready[queries]).for_each(|(case, ready)| ready_tree(case, ready)),
             Side::FromTape => cases.iter().for_each(from_tape),
             Side::Layout => cases.iter().for_each(|case| layout(case, &mut self.out)),
             Side::Measure => cases.iter().for_each(measure),
@@ -108,8 +122,7 @@ fn compare(layout: Layout, case: &Case) -> Result<(), String> {
 // A profiler finds the sides by the names of these functions.
 
 #[inline(never)]
-fn ready_tree(case: &Case, tree: &source::Tree) {
-    let text = std::str::from_utf8(&case.text).expect("ASCII");
+fn ready_tree(case: &Case, Ready { tree, text }: &Ready) {
     black_box(source::format_tree(black_box(tree), case.width as usize, case.case == 1, text));
 }
 

@@ -43,3 +43,28 @@ fn limits() {
 fn small_trees() {
     cases("small_trees", Class::Small, 50_000);
 }
+
+#[test]
+fn characters() {
+    cases("characters", Class::Utf8, 20_000);
+}
+
+#[test]
+fn characters_in_turn() {
+    cases("characters_in_turn", Class::Utf8Small, 30_000);
+}
+
+#[test]
+fn damaged_calls_of_characters() {
+    cases("damaged_calls_of_characters", Class::Utf8Damaged, 30_000);
+}
+
+#[test]
+fn masked_pairs_of_characters() {
+    cases("masked_pairs_of_characters", Class::Utf8Masked, 6_000);
+}
+
+#[test]
+fn limits_of_characters() {
+    cases("limits_of_characters", Class::Utf8Limits, 45);
+}

@@ -3,6 +3,8 @@
 use bench::corpora::{is_broken, named, tokens, ALL};
 use bench::rounds::{least_times, Queries};
 use oracle::answers::{Answer, Case};
+use oracle::edit::{kind_at, span_at, text_at};
+use oracle::kinds;
 use oracle::source::at_hand_for;
 use oracle::tape::{command_places, CLOSE, OPEN};
 use std::collections::HashSet;
@@ -77,6 +79,27 @@ fn typical_has_many_different_queries_and_a_sixth_of_them_broken() {
 }
 
 #[test]
+fn utf8_is_typical_in_other_letters() {
+    if !at_hand_for("utf8_is_typical_in_other_letters") {
+        return;
+    }
+    let (plain, letters) = (made("typical", SEED), made("utf8", SEED));
+    assert_eq!(plain.len(), letters.len());
+    assert!(plain.iter().zip(&letters).all(|(one, other)| one.tape.len() == other.tape.len()));
+    let sum = |count: fn(&Case) -> usize| letters.iter().map(count).sum::<usize>() as f64;
+    let beyond = sum(|query| query.text.iter().filter(|byte| !byte.is_ascii()).count()) / sum(|query| query.text.len());
+    assert!((0.2..=0.5).contains(&beyond), "{beyond} of the bytes are above 127");
+    let without = letters.iter().filter(|query| query.text.is_ascii()).count();
+    assert!(without * 20 < letters.len(), "{without} queries are ASCII");
+    let comments = |query: &Case| {
+        let comment = kinds::number("Comment");
+        let holds = |place: &usize| text_at(query, *place).is_some_and(|text| !text.is_ascii());
+        tokens(query).iter().any(|place| kind_at(&query.tape, *place) == comment && holds(place))
+    };
+    assert!(letters.iter().filter(|query| comments(query)).count() > 500);
+}
+
+#[test]
 fn a_seed_makes_the_same_queries_again_and_another_seed_makes_others() {
     if !at_hand_for("a_seed_makes_the_same_queries_again_and_another_seed_makes_others") {
         return;
@@ -145,12 +168,11 @@ fn tokens_of_blanks_overlap() {
         return;
     }
     let query = only("blank-gaps");
-    let number =
-        |place: usize| u32::from_le_bytes(query.tape[place..place + 4].try_into().expect("four bytes")) as usize;
-    let spans: Vec<(usize, usize)> = tokens(&query).iter().skip(1).map(|at| (number(at + 3), number(at + 7))).collect();
-    for (start, end) in &spans {
-        assert!(end - start == 4_096 && query.text[*start..*end].iter().all(|byte| *byte == b' '));
+    let blanks: Vec<usize> = tokens(&query).into_iter().skip(1).collect();
+    for place in &blanks {
+        assert!(text_at(&query, *place).is_some_and(|text| text == [b' '; 4_096]));
     }
+    let spans: Vec<(u32, u32)> = blanks.iter().map(|place| span_at(&query.tape, *place)).collect();
     assert!(spans.windows(2).all(|pair| pair[1].0 < pair[0].1));
 }
 

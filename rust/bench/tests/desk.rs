@@ -1,6 +1,6 @@
-//! The desk's program prints for a job what document 01 says: target/bin/desk, which `rt check desk` writes, on standard input.
+//! The desk's program prints for a job what documents 01 and 02 say: target/bin/desk, which `rt check desk` writes, on standard input.
 
-use oracle::cases::{make, Class, Made};
+use oracle::cases::{call, make, Class, Made};
 use oracle::job;
 use std::io::Write;
 use std::path::PathBuf;
@@ -8,6 +8,7 @@ use std::process::{Command, Stdio};
 
 const SEED: u64 = 30;
 const JOBS: u64 = 2_000;
+const JOBS_OF_CHARACTERS: u64 = 500;
 
 fn program() -> PathBuf {
     let program = PathBuf::from(env!("CARGO_MANIFEST_DIR")).join("../../target/bin/desk");
@@ -50,5 +51,18 @@ fn generated_jobs() {
     for index in 0..JOBS {
         let Made::Job(job) = make(SEED, Class::Jobs, index) else { panic!("the class makes jobs") };
         assert!(printed(&job) == job::printed(&job), "seed {SEED}, jobs, index {index}");
+    }
+}
+
+#[test]
+fn jobs_of_characters() {
+    if !oracle::source::at_hand_for("jobs_of_characters") {
+        return;
+    }
+    for class in [Class::Utf8, Class::Utf8Small, Class::Utf8Damaged] {
+        for index in 0..JOBS_OF_CHARACTERS {
+            let job = job::write(&call(SEED, class, index));
+            assert!(printed(&job) == job::printed(&job), "seed {SEED}, {class:?}, index {index}");
+        }
     }
 }

@@ -18,7 +18,7 @@ fn main() -> ExitCode {
     }
     for class in classes {
         // A case at the limits is as long as a thousand others.
-        let count = if class == Class::Limits { count / 1000 } else { count };
+        let count = if [Class::Limits, Class::Utf8Limits].contains(&class) { count / 1000 } else { count };
         for index in 0..count {
             if let Err(difference) = compare(seed, class, index) {
                 eprintln!("compare: {difference}");
