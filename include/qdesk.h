@@ -4,14 +4,14 @@
  *
  * What goes in
  *
- *   text, text_len   the query: at most 262,144 bytes, each 0 to 127
+ *   text, text_len   the query: at most 262,144 bytes of well-formed UTF-8
  *   tape, tape_len   its syntax tree: at most 262,144 bytes of commands, their operands low byte first
  *                      01 opens a node: kind (2 bytes), start (4), end (4)
  *                      02 is a token: the same operands
  *                      03 closes the innermost open node
- *                    with one root node, and at most 64 nodes open at once. Start and end are offsets in the text: a token's text is from
- *                    start up to, not including, end. A kind's number is its place in clickhouse-analyzer's SyntaxKind, from 0
- *                    (crates/tape/src/syntax_kind.rt has them all)
+ *                    with one root node, and at most 64 nodes open at once. Start and end are offsets in the text, in bytes, and inside
+ *                    no character: a token's text is from start up to, not including, end. Tokens of kind BareWord are ASCII. A kind's
+ *                    number is its place in clickhouse-analyzer's SyntaxKind, from 0 (crates/tape/src/syntax_kind.rt has them all)
  *   width            blanks for each level of indent, 0 to 16
  *   case_byte        the case of keywords, 0 lower or 1 upper
  *   out, out_len     the output space
@@ -49,14 +49,16 @@ struct qdesk_answer {
 
 /*
  * 1 to 5 are tried in that order. Then the tape is read from its start, and the first faulty command decides; within one, the order is
- * 6, 7, 12, 8, 9, 10, 11. 13 comes last. The value of 6 to 12 is the faulty command's offset in the tape.
+ * 6, 7, 12, 8, 9, 10, 15, 16, 11. 13 comes last. The value of 6 to 12, 15 and 16 is the faulty command's offset in the tape. 14 is the
+ * desk's program's own: no call answers it.
  */
 enum qdesk_number {
     QDESK_ACCEPTED = 0,         /* value: the layout's length */
     QDESK_INDENT_WIDTH = 1,     /* width above 16 */
     QDESK_CASE_BYTE = 2,        /* case byte above 1 */
     QDESK_TEXT_TOO_LONG = 3,    /* text above 262,144 bytes */
-    QDESK_NOT_ASCII = 4,        /* a byte of the text above 127; value: the first one's offset in the text */
+    QDESK_NOT_UTF8 = 4,         /* text that is not well-formed UTF-8; value: the offset in the text of the first byte that isn't part
+                                   of a well-formed character */
     QDESK_TAPE_TOO_LONG = 5,    /* tape above 262,144 bytes */
     QDESK_UNKNOWN_COMMAND = 6,  /* command not 01 to 03 */
     QDESK_CUT_COMMAND = 7,      /* command cut by the tape's end */
@@ -67,13 +69,15 @@ enum qdesk_number {
     QDESK_NOT_ONE_ROOT = 12,    /* token or close with no node open; any command after the root's close; tape ends with no finished
                                    root (value: the tape's length) */
     QDESK_SPACE_TOO_SHORT = 13, /* output space below the needed length (laying out only); value: the needed length */
+    QDESK_SPAN_INSIDE_CHARACTER = 15, /* token, or node with start not above end, that starts or ends inside a character */
+    QDESK_WORD_NOT_ASCII = 16,  /* token of kind BareWord with a byte above 127 */
 };
 
-/* The length of the layout, or a refusal among 1 to 12. */
+/* The length of the layout, or a refusal other than 13. */
 struct qdesk_answer qdesk_measure(const uint8_t *text, size_t text_len, const uint8_t *tape, size_t tape_len, uint64_t width,
                                   uint64_t case_byte);
 
-/* The same, and the layout in `out`; or a refusal among 1 to 13. */
+/* The same, and the layout in `out`; or a refusal. */
 struct qdesk_answer qdesk_layout(const uint8_t *text, size_t text_len, const uint8_t *tape, size_t tape_len, uint64_t width,
                                  uint64_t case_byte, uint8_t *out, size_t out_len);
 

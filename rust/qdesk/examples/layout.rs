@@ -1,6 +1,6 @@
 //! Lays out `select a,b from t` from a tree that is spelt by hand, and prints the query before and after.
 
-use qdesk::{layout_to_vec, Case, Kind, Settings, TapeBuilder, TapeError};
+use qdesk::{layout_to_string, Case, Kind, Settings, TapeBuilder, TapeError};
 use std::error::Error;
 
 pub const TEXT: &str = "select a,b from t";
@@ -24,7 +24,6 @@ pub fn tape() -> Result<Vec<u8>, TapeError> {
 
 fn main() -> Result<(), Box<dyn Error>> {
     let settings = Settings { indent_width: 4, case: Case::UPPER };
-    let laid_out = layout_to_vec(TEXT.as_bytes(), &tape()?, settings)?;
-    print!("before:\n\n{TEXT}\n\nafter:\n\n{}", String::from_utf8(laid_out)?);
+    print!("before:\n\n{TEXT}\n\nafter:\n\n{}", layout_to_string(TEXT, &tape()?, settings)?);
     Ok(())
 }

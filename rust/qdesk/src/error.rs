@@ -6,7 +6,7 @@ use std::fmt;
 /// The refusals, each with its number.
 ///
 /// 1 to 5 are tried in that order. Then the tape is read from its start, and the first faulty command decides; within one, the order is
-/// 6, 7, 12, 8, 9, 10, 11. 13 comes last.
+/// 6, 7, 12, 8, 9, 10, 15, 16, 11. 13 comes last. 14 is the desk's program's own.
 #[derive(Clone, Copy, Debug, PartialEq, Eq)]
 #[non_exhaustive]
 pub enum Refusal {
@@ -16,8 +16,8 @@ pub enum Refusal {
     CaseByte = 2,
     /// The text is longer than [`MOST_BYTES`](crate::MOST_BYTES).
     TextTooLong = 3,
-    /// A byte of the text is above 127. Its place is the first one's offset in the text.
-    NotAscii = 4,
+    /// The text is not well-formed UTF-8. The place is the offset of the first byte that isn't part of a well-formed character.
+    NotUtf8 = 4,
     /// The tape is longer than [`MOST_BYTES`](crate::MOST_BYTES).
     TapeTooLong = 5,
     /// A command is not 01, 02 or 03.
@@ -37,15 +37,19 @@ pub enum Refusal {
     NotOneRoot = 12,
     /// The output space is too short for the layout. In place of a place stands the needed length.
     SpaceTooShort = 13,
+    /// A token, or a node that does not start after its end, starts or ends inside a character.
+    SpanInsideCharacter = 15,
+    /// A token of kind `BareWord` holds a byte above 127.
+    WordNotAscii = 16,
 }
 
 impl Refusal {
-    /// Every refusal in the order of the numbers, from 1.
+    /// Every refusal in the order of the numbers.
     pub const ALL: &'static [Refusal] = &[
         Refusal::IndentWidth,
         Refusal::CaseByte,
         Refusal::TextTooLong,
-        Refusal::NotAscii,
+        Refusal::NotUtf8,
         Refusal::TapeTooLong,
         Refusal::UnknownCommand,
         Refusal::CutCommand,
@@ -55,6 +59,8 @@ impl Refusal {
         Refusal::TooDeep,
         Refusal::NotOneRoot,
         Refusal::SpaceTooShort,
+        Refusal::SpanInsideCharacter,
+        Refusal::WordNotAscii,
     ];
 
     fn words(self) -> &'static str {
@@ -62,7 +68,7 @@ impl Refusal {
             Refusal::IndentWidth => "indent width above 16",
             Refusal::CaseByte => "case above 1",
             Refusal::TextTooLong => "text longer than 262,144 bytes",
-            Refusal::NotAscii => "text byte above 127",
+            Refusal::NotUtf8 => "text is not well-formed UTF-8",
             Refusal::TapeTooLong => "tape longer than 262,144 bytes",
             Refusal::UnknownCommand => "command is not 01, 02 or 03",
             Refusal::CutCommand => "command cut by the tape's end",
@@ -72,6 +78,8 @@ impl Refusal {
             Refusal::TooDeep => "65th node opened",
             Refusal::NotOneRoot => "command outside the root node, or root not closed",
             Refusal::SpaceTooShort => "output space too short",
+            Refusal::SpanInsideCharacter => "token or node starts or ends inside a character",
+            Refusal::WordNotAscii => "bare word with a byte above 127",
         }
     }
 }
@@ -110,12 +118,12 @@ impl Error {
         self.refusal
     }
 
-    /// The refusal's number, 1 to 13.
+    /// The refusal's number, 1 to 13, 15 or 16.
     pub fn number(self) -> u64 {
         self.refusal as u64
     }
 
-    /// An offset in the text for 4, the faulty command's offset in the tape for 6 to 12, the needed length for 13, else 0.
+    /// An offset in the text for 4, the faulty command's offset in the tape for 6 to 12, 15 and 16, the needed length for 13, else 0.
     pub fn place(self) -> u64 {
         self.place
     }
@@ -126,7 +134,7 @@ impl fmt::Display for Error {
         write!(f, "{} (refusal {})", self.refusal.words(), self.number())?;
         match self.number() {
             4 => write!(f, " at text offset {}", self.place),
-            6..=12 => write!(f, " at tape offset {}", self.place),
+            6..=12 | 15 | 16 => write!(f, " at tape offset {}", self.place),
             13 => write!(f, ": {} bytes are needed", self.place),
             _ => Ok(()),
         }

@@ -2,10 +2,10 @@
 //! libformatter.a.
 //!
 //! The tree comes as a *tape*, a row of commands; [`TapeBuilder`] spells one. [`measure`] says how long the layout is, [`layout`] writes
-//! it into a lent space, [`layout_to_vec`] does both.
+//! it into a lent space, [`layout_to_vec`] does both, and [`layout_to_string`] does so from a `&str` to a `String`.
 //!
 //! ```
-//! use qdesk::{layout_to_vec, Case, Kind, Settings, TapeBuilder};
+//! use qdesk::{layout_to_string, Case, Kind, Settings, TapeBuilder};
 //!
 //! let mut tape = TapeBuilder::new();
 //! tape.open(Kind::BinaryExpression, 0..3)?;
@@ -13,9 +13,11 @@
 //! tape.token(Kind::Equals, 1..2)?.token(Kind::Number, 2..3)?.close()?;
 //!
 //! let settings = Settings { indent_width: 4, case: Case::UPPER };
-//! assert_eq!(layout_to_vec(b"a=1", &tape.finish()?, settings)?, b"a = 1\n");
+//! assert_eq!(layout_to_string("a=1", &tape.finish()?, settings)?, "a = 1\n");
 //! # Ok::<(), Box<dyn std::error::Error>>(())
 //! ```
+//!
+//! The text is UTF-8, and words outside of quotes are ASCII. All offsets and lengths count bytes.
 //!
 //! Any bytes and any numbers may be passed: each call has one answer, a length or a refusal ([`Error`]), and which one is proved. The calls
 //! keep no state, so that any number of threads may make them at once; [`measure`] and [`layout`] use no heap. Only a library of another
@@ -70,7 +72,7 @@ impl Case {
 ///
 /// # Errors
 ///
-/// Refusals 1 to 12.
+/// Refusals 1 to 12, 15 and 16.
 pub fn measure(text: &[u8], tape: &[u8], settings: Settings) -> Result<usize, Error> {
     length(ffi::measure(text, tape, settings.indent_width, settings.case.0))
 }
@@ -96,7 +98,7 @@ pub fn measure(text: &[u8], tape: &[u8], settings: Settings) -> Result<usize, Er
 ///
 /// # Errors
 ///
-/// Refusals 1 to 13.
+/// Refusals 1 to 13, 15 and 16.
 pub fn layout(text: &[u8], tape: &[u8], settings: Settings, out: &mut [u8]) -> Result<usize, Error> {
     length(ffi::layout(text, tape, settings.indent_width, settings.case.0, out))
 }
@@ -107,11 +109,43 @@ pub fn layout(text: &[u8], tape: &[u8], settings: Settings, out: &mut [u8]) -> R
 ///
 /// # Errors
 ///
-/// Refusals 1 to 12.
+/// Refusals 1 to 12, 15 and 16.
 pub fn layout_to_vec(text: &[u8], tape: &[u8], settings: Settings) -> Result<Vec<u8>, Error> {
     let mut out = vec![0; measure(text, tape, settings)?];
     layout(text, tape, settings, &mut out)?;
     Ok(out)
+}
+
+/// The layout of a `&str`, as a `String` of its length.
+///
+/// ```
+/// use qdesk::{layout_to_string, Case, Kind, Refusal, Settings, TapeBuilder};
+///
+/// let text = "select `Größe`,`温度`";
+/// let mut tape = TapeBuilder::new();
+/// tape.open(Kind::SelectClause, 0..25)?.token(Kind::BareWord, 0..6)?;
+/// tape.open(Kind::ColumnList, 7..25)?;
+/// tape.token(Kind::QuotedIdentifier, 7..16)?.token(Kind::Comma, 16..17)?.token(Kind::QuotedIdentifier, 17..25)?;
+/// tape.close()?.close()?;
+///
+/// let settings = Settings { indent_width: 4, case: Case::UPPER };
+/// assert_eq!(layout_to_string(text, &tape.finish()?, settings)?, "SELECT\n    `Größe`,\n    `温度`\n");
+///
+/// let mut tape = TapeBuilder::new();
+/// tape.open(Kind::ColumnReference, 0..2)?.token(Kind::BareWord, 0..2)?.close()?;
+/// let error = layout_to_string("é", &tape.finish()?, settings).unwrap_err();
+/// assert_eq!(error.refusal(), Refusal::WordNotAscii);
+/// # Ok::<(), Box<dyn std::error::Error>>(())
+/// ```
+///
+/// What is said of [`layout_to_vec`] about gigabytes holds here, too.
+///
+/// # Errors
+///
+/// Refusals 1 to 3, 5 to 12, 15 and 16; a `&str` is well-formed (4).
+pub fn layout_to_string(text: &str, tape: &[u8], settings: Settings) -> Result<String, Error> {
+    let out = layout_to_vec(text.as_bytes(), tape, settings)?;
+    Ok(String::from_utf8(out).expect("a layout is made of whole characters of the text, and of ASCII"))
 }
 
 fn length(answer: ffi::Answer) -> Result<usize, Error> {

@@ -24,7 +24,8 @@ const CLOSE_COMMAND: usize = 1;
 ///
 /// A kind is a [`Kind`] or its number, as a parser's own enum has it. A span is two offsets in the text, from start up to, not including,
 /// end. A call that would spell a faulty tape is refused and changes nothing, so that the builder can be used on. It does not know the
-/// text: that a span ends past it is left to the library (refusal 10).
+/// text: that a span ends past it or lies inside a character, or that a bare word is not ASCII, is left to the library (refusals 10, 15
+/// and 16).
 ///
 /// ```
 /// use qdesk::{Kind, TapeBuilder, TapeError};

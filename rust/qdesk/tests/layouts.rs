@@ -3,7 +3,7 @@
 mod common;
 
 use common::{example, nested_files, open, token, CLOSE, LAID_OUT, PLAIN};
-use qdesk::{layout, layout_to_vec, measure, Case, Kind, Settings, MOST_BYTES, MOST_OPEN};
+use qdesk::{layout, layout_to_string, layout_to_vec, measure, Case, Kind, Settings, MOST_BYTES, MOST_OPEN};
 
 #[test]
 fn the_examples_call_is_laid_out_in_both_cases() {
@@ -11,6 +11,38 @@ fn the_examples_call_is_laid_out_in_both_cases() {
     assert_eq!(layout_to_vec(text, &tape, PLAIN).unwrap(), LAID_OUT);
     let lower = Settings { indent_width: 0, case: Case::LOWER };
     assert_eq!(layout_to_vec(text, &tape, lower).unwrap(), b"select\na,\nb\nfrom t\n");
+}
+
+#[test]
+fn a_str_becomes_a_string() {
+    let tape = example::tape().unwrap();
+    assert_eq!(layout_to_string(example::TEXT, &tape, PLAIN).unwrap().as_bytes(), LAID_OUT);
+    let error = layout_to_string(example::TEXT, &tape[1..], PLAIN).unwrap_err();
+    assert_eq!(Err(error), layout_to_vec(example::TEXT.as_bytes(), &tape[1..], PLAIN));
+}
+
+/// The layout of a text as one token that is no word.
+fn one_token(text: &str) -> String {
+    let end = text.len() as u32;
+    let tape = [open(Kind::File, 0, end), token(Kind::StringToken, 0, end), CLOSE.to_vec()].concat();
+    layout_to_string(text, &tape, PLAIN).unwrap()
+}
+
+#[test]
+fn characters_of_every_length_are_written_as_they_stand() {
+    for text in ["'é'", "'ЖЯ'", "'漢字'", "'😀'", "'e\u{301}'", "'\u{10FFFF}'", "ß"] {
+        assert_eq!(one_token(text), format!("{text}\n"));
+    }
+}
+
+#[test]
+fn white_space_at_the_end_is_dropped_by_characters() {
+    for white in ['\u{85}', '\u{A0}', '\u{1680}', '\u{2003}', '\u{2028}', '\u{202F}', '\u{3000}'] {
+        assert_eq!(one_token(&format!("a{white}{white}")), "a\n", "{white:?}");
+    }
+    for other in ['\u{84}', '\u{C5}', '\u{E0}', '\u{180E}', '\u{200B}', '\u{2060}', '\u{FEFF}'] {
+        assert_eq!(one_token(&format!("a{other}")), format!("a{other}\n"), "{other:?}");
+    }
 }
 
 #[test]

@@ -1,4 +1,4 @@
-//! Document 01's table of refusals through the crate: number, name, place and words, and the output space left as it was.
+//! The refusals of documents 01 and 02 (E1) through the crate: number, name, place and words, and the output space left as it was.
 
 mod common;
 
@@ -49,11 +49,18 @@ fn text_of_262145_blanks_is_3() {
 }
 
 #[test]
-fn first_byte_above_127_is_4() {
-    let words = "text byte above 127 (refusal 4) at text offset 0";
-    assert_refused((b"\xC3\xA9", &nested_files(1), PLAIN), Refusal::NotAscii, 4, 0, words);
-    let words = "text byte above 127 (refusal 4) at text offset 2";
-    assert_refused((b"a\x7F\x80\xFF", &nested_files(1), PLAIN), Refusal::NotAscii, 4, 2, words);
+fn text_that_is_not_well_formed_is_4() {
+    for (text, place) in [
+        (&b"\xC3\x28"[..], 0),
+        (b"a\xE2\x82", 1),
+        (b"\xF4\x90\x80\x80", 0),
+        (b"\x80", 0),
+        (b"\xED\xA0\x80", 0),
+        (b"\xC3\xA9\xC0\xAF", 2),
+    ] {
+        let words = format!("text is not well-formed UTF-8 (refusal 4) at text offset {place}");
+        assert_refused((text, &nested_files(1), PLAIN), Refusal::NotUtf8, 4, place, &words);
+    }
 }
 
 #[test]
@@ -99,6 +106,35 @@ fn span_outside_the_text_is_10() {
 }
 
 #[test]
+fn span_inside_a_character_is_15() {
+    let words = "token or node starts or ends inside a character (refusal 15) at tape offset 11";
+    for inside in
+        [token(Kind::Number, 0, 1), token(Kind::Number, 1, 2), token(Kind::Number, 1, 1), open(Kind::File, 1, 2)]
+    {
+        let tape = [open(Kind::File, 0, 2), inside, CLOSE.to_vec()].concat();
+        assert_refused(("é".as_bytes(), &tape, PLAIN), Refusal::SpanInsideCharacter, 15, 11, words);
+    }
+}
+
+#[test]
+fn bare_word_beyond_ascii_is_16() {
+    let words = "bare word with a byte above 127 (refusal 16) at tape offset 11";
+    let tape = [open(Kind::ColumnReference, 0, 2), token(Kind::BareWord, 0, 2), CLOSE.to_vec()].concat();
+    assert_refused(("é".as_bytes(), &tape, PLAIN), Refusal::WordNotAscii, 16, 11, words);
+}
+
+#[test]
+fn within_a_command_the_order_is_10_15_16_11() {
+    let with = |command: Vec<u8>| [open(Kind::File, 0, 4), command].concat();
+    let refusal = |tape: Vec<u8>| measure("éé".as_bytes(), &tape, PLAIN).unwrap_err().refusal();
+    assert_eq!(refusal(with(token(Kind::BareWord, 1, 5))), Refusal::SpanOutside);
+    assert_eq!(refusal(with(token(Kind::BareWord, 1, 4))), Refusal::SpanInsideCharacter);
+    assert_eq!(refusal(with(token(Kind::BareWord, 0, 4))), Refusal::WordNotAscii);
+    let sixty_four = open(Kind::File, 0, 0).repeat(MOST_OPEN);
+    assert_eq!(refusal([sixty_four, open(Kind::File, 1, 4)].concat()), Refusal::SpanInsideCharacter);
+}
+
+#[test]
 fn a_65th_open_node_is_11() {
     let words = "65th node opened (refusal 11) at tape offset 704";
     assert_refused((b"", &nested_files(MOST_OPEN + 1), PLAIN), Refusal::TooDeep, 11, 704, words);
@@ -132,5 +168,5 @@ fn b_in_26_bytes_is_13_with_the_needed_length() {
 #[test]
 fn the_list_of_refusals_is_in_the_order_of_the_numbers() {
     let numbers: Vec<u64> = Refusal::ALL.iter().map(|refusal| *refusal as u64).collect();
-    assert_eq!(numbers, (1..=13).collect::<Vec<u64>>());
+    assert_eq!(numbers, (1..=13).chain(15..=16).collect::<Vec<u64>>());
 }
