@@ -7,6 +7,7 @@ mod parse;
 mod print;
 mod quote;
 mod spans;
+mod visible;
 
 pub use job::HeaderFault;
 pub use line::Fault;

@@ -1,10 +1,11 @@
 //! A line of the readable form, read word by word.
 
-use crate::quote::{hexadecimal, is_printable, unquoted};
+use crate::quote::{hexadecimal, unquoted};
+use crate::visible::is_visible;
 use std::fmt;
 use std::str::FromStr;
 
-/// Why a form can't be read, and where; line and column count from 1.
+/// Why a form can't be read, and where; line and column count from 1, columns in bytes.
 #[derive(Debug, PartialEq)]
 pub struct Fault {
     pub line: usize,
@@ -26,15 +27,13 @@ pub struct Line<'a> {
 }
 
 impl<'a> Line<'a> {
-    /// The line of this number, at its first word. Its bytes are printable, save for a carriage return at its end.
+    /// The line of this number, at its first word. All its characters can be seen, save for a carriage return at its end.
     pub fn new(number: usize, bytes: &'a [u8]) -> Result<Line<'a>, Fault> {
         let bytes = bytes.strip_suffix(b"\r").unwrap_or(bytes);
-        if let Some(place) = bytes.iter().position(|byte| !is_printable(*byte)) {
-            let byte = bytes[place];
-            let message = format!("byte {byte:02X} can't stand here; a quoted text has it as an escape");
-            return Err(Fault { line: number, column: place + 1, message });
-        }
-        let text = std::str::from_utf8(bytes).expect("printable bytes are ASCII");
+        let text = seen(bytes).map_err(|(place, what)| {
+            let message = format!("{what} can't stand here; a quoted text has it as an escape");
+            Fault { line: number, column: place + 1, message }
+        })?;
         let mut line = Line { number, text, place: 0 };
         line.skip(0);
         Ok(line)
@@ -141,5 +140,26 @@ impl<'a> Line<'a> {
             return Err(self.fault("an indent is two blanks a level"));
         }
         Ok(self.place / 2)
+    }
+}
+
+/// The bytes as a text of visible characters, or what is not one and its place.
+fn seen(bytes: &[u8]) -> Result<&str, (usize, String)> {
+    let length = std::str::from_utf8(bytes).err().map_or(bytes.len(), |error| error.valid_up_to());
+    let (text, rest) = bytes.split_at(length);
+    let text = std::str::from_utf8(text).expect("well-formed up to there");
+    if let Some((place, character)) = text.char_indices().find(|(_, character)| !is_visible(*character)) {
+        return Err((place, unseen(character)));
+    }
+    match rest.first() {
+        Some(byte) => Err((length, format!("byte {byte:02X}"))),
+        None => Ok(text),
+    }
+}
+
+fn unseen(character: char) -> String {
+    match character.is_ascii() {
+        true => format!("byte {:02X}", character as u8),
+        false => format!("character U+{:04X}", u32::from(character)),
     }
 }

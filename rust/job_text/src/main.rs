@@ -6,8 +6,8 @@ use std::process::ExitCode;
 const USAGE: &str = "usage: job to-bytes < FORM > JOB   writes the job that a readable form spells
        job to-text < JOB > FORM    writes the readable form of a job
        job --help                  writes this
-The form is described in examples/README.md. A fault gets a message with its line and column, or with
-the job's byte, on standard error and status 2, and nothing is written.";
+The form is described in examples/README.md. A fault gets a message with its line and column in bytes,
+or with the job's byte, on standard error and status 2, and nothing is written.";
 
 fn main() -> ExitCode {
     let arguments: Vec<String> = std::env::args().skip(1).collect();

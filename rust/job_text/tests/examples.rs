@@ -55,7 +55,11 @@ fn each_layout_is_the_oracles() {
 
 #[test]
 fn masked_names_leave_every_line_as_long_as_it_was() {
-    let lengths = |name| file(name, ".out").lines().map(str::len).collect::<Vec<_>>();
-    assert_eq!(lengths("quoted-names"), lengths("quoted-names-masked"));
-    assert_ne!(file("quoted-names", ".out"), file("quoted-names-masked", ".out"));
+    // In bytes.
+    let lengths = |name: &str| file(name, ".out").lines().map(str::len).collect::<Vec<_>>();
+    for name in ["quoted-names", "names-in-letters"] {
+        let masked = format!("{name}-masked");
+        assert_eq!(lengths(name), lengths(&masked), "{name}");
+        assert_ne!(file(name, ".out"), file(&masked, ".out"), "{name}");
+    }
 }

@@ -55,7 +55,7 @@ fn kinds() {
 
 #[test]
 fn quotes() {
-    let escape = r#"an escape is \n, \t, \r, \\, \" or \x with two hexadecimal digits"#;
+    let escape = r#"an escape is \n, \t, \r, \\, \", \x with two hexadecimal digits or \u{} with a character's number in hexadecimal digits"#;
     assert_tree_fault("BareWord \"a\n", "line 3, column 10: this quote is not closed");
     assert_tree_fault("BareWord \"a\\\"\n", "line 3, column 10: this quote is not closed");
     assert_tree_fault("BareWord \"\n", "line 3, column 10: this quote is not closed");
@@ -65,15 +65,49 @@ fn quotes() {
     assert_tree_fault("BareWord \"\\x\"\n", &format!("line 3, column 11: {escape}"));
     assert_tree_fault("BareWord \"\\xG0\"\n", &format!("line 3, column 11: {escape}"));
     assert_tree_fault("text \"ab\\z\"\n", &format!("line 3, column 9: {escape}"));
+    for character in ["\\u", "\\uE9", "\\u{", "\\u{}", "\\u{E9", "\\u{G}", "\\u{+41}", "\\u{ E9}", "\\u{0000E9 }"] {
+        assert_tree_fault(&format!("BareWord \"{character}\"\n"), &format!("line 3, column 11: {escape}"));
+    }
+    // A surrogate, a number past the last character's, seven digits.
+    for number in ["D800", "DFFF", "110000", "00000E9"] {
+        assert_tree_fault(&format!("BareWord \"\\u{{{number}}}\"\n"), &format!("line 3, column 11: {escape}"));
+    }
 }
 
 #[test]
-fn bytes_that_are_not_printable() {
+fn what_cannot_be_seen() {
     let message = "can't stand here; a quoted text has it as an escape";
     assert_tree_fault("\tFile\n", &format!("line 3, column 1: byte 09 {message}"));
-    assert_tree_fault("File\n  BareWord \"\u{e9}\"\n", &format!("line 4, column 13: byte C3 {message}"));
     assert_tree_fault("File\r \n", &format!("line 3, column 5: byte 0D {message}"));
     assert_tree_fault("File \x7f", &format!("line 3, column 6: byte 7F {message}"));
+    assert_tree_fault("File\u{A0}", &format!("line 3, column 5: character U+00A0 {message}"));
+    for character in ['\u{85}', '\u{AD}', '\u{200B}', '\u{202E}', '\u{2066}', '\u{3000}', '\u{FEFF}', '\u{E0020}'] {
+        let number = u32::from(character);
+        let fault = format!("line 4, column 15: character U+{number:04X} {message}");
+        assert_tree_fault(&format!("File\n  BareWord \"é{character}\"\n"), &fault);
+    }
+}
+
+#[test]
+fn bytes_that_are_no_character() {
+    let message = "can't stand here; a quoted text has it as an escape";
+    for (bytes, place, byte) in [(&b"\xE9"[..], 1, "E9"), (b"\xC3\xA9\x80", 3, "80"), (b"\xED\xA0\x80", 1, "ED")] {
+        let form = [b"width 4\ncase upper\n\"", bytes, b"\"\n"].concat();
+        let fault = format!("line 3, column {}: byte {byte} {message}", place + 1);
+        assert_eq!(parse(&form).unwrap_err().to_string(), fault);
+    }
+    let both = "width 4\ncase upper\nFile \u{200B}".bytes().chain([0xFF]).collect::<Vec<u8>>();
+    assert_eq!(parse(&both).unwrap_err().to_string(), format!("line 3, column 6: character U+200B {message}"));
+}
+
+/// Columns count bytes.
+#[test]
+fn places_behind_letters_of_several_bytes() {
+    assert_tree_fault("BareWord \"é\" x\n", "line 3, column 15: nothing more is expected in this line");
+    assert_tree_fault("Größe\n", "line 3, column 1: no kind is named Größe");
+    let other = "the text above the tree has";
+    assert_tree_fault("text \"éb\"\nNumber \"è\"\n", &format!("line 4, column 8: {other} \"é\" from 0 to 2"));
+    assert_tree_fault("text \"éb\"\nNumber \"a\"\n", &format!("line 4, column 8: {other} \"\\xC3\" from 0 to 1"));
 }
 
 #[test]

@@ -1,6 +1,7 @@
 //! Jobs by the thousand from bytes to the readable form and back.
 
 use job_text::{parse, print};
+use oracle::answers::Case;
 use oracle::cases::{make, Class, Made};
 use oracle::job::{read, write, BUFFER};
 use oracle::random::Random;
@@ -66,6 +67,42 @@ fn masked() {
 #[test]
 fn limits() {
     assert_class("limits", 48);
+}
+
+#[test]
+fn utf8() {
+    assert_class("utf8", 3_000);
+}
+
+#[test]
+fn utf8_small() {
+    assert_class("utf8-small", 5_000);
+}
+
+#[test]
+fn utf8_damaged() {
+    assert_class("utf8-damaged", 5_000);
+}
+
+#[test]
+fn utf8_masked() {
+    assert_class("utf8-masked", 1_000);
+}
+
+#[test]
+fn utf8_limits() {
+    assert_class("utf8-limits", 30);
+}
+
+/// Every character there is, a few hundred to a job.
+#[test]
+fn every_character() {
+    let all: Vec<char> = (char::MIN..=char::MAX).collect();
+    for characters in all.chunks(500) {
+        let text: String = characters.iter().collect();
+        let job = write(&Case { text: text.into_bytes(), tape: Vec::new(), width: 4, case: 1, space: Vec::new() });
+        assert_round(&job, &format!("the characters from {:?}", characters[0]));
+    }
 }
 
 /// A job has a form exactly if the desk's program can read its header.
@@ -162,7 +199,7 @@ fn the_stored_jobs_of_the_desk() {
         }
         let job = fs::read(&path).expect("a stored job");
         let printed = fs::read(path.with_extension("out")).expect("what it prints");
-        let printed = str::from_utf8(&printed).expect("ASCII");
+        let printed = str::from_utf8(&printed).expect("UTF-8");
         match printed.strip_prefix("refused 14 at ").filter(|place| place.trim() != "65536") {
             Some(place) => assert_eq!(print(&job).unwrap_err().place.to_string(), place.trim(), "{path:?}"),
             None => {
