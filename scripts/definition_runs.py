@@ -24,7 +24,17 @@ ROOT = pathlib.Path(__file__).resolve().parent.parent
 CRATE = "layout"
 
 # So many calls of each class, the first whose tape and text are at most so long together.
-RANDOM = {"parser": 60, "wild": 80, "damaged": 60, "masked": 80, "limits": 20}
+RANDOM = {
+    "parser": 60,
+    "wild": 80,
+    "damaged": 60,
+    "masked": 80,
+    "limits": 20,
+    "utf8": 60,
+    "utf8-small": 80,
+    "utf8-damaged": 80,
+    "utf8-masked": 60,
+}
 RANDOM_BYTES = 1_500
 
 # The small calls of which some are picked, so that every arm is taken.

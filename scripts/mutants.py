@@ -2,10 +2,11 @@
 """Makes single edits of the original formatter, and tries on them whether the stored list tells each from the original.
 
 An edit of a function's text becomes a copy of that function beside the original; a number that is set while the program runs picks the
-copy that is called. So all edits are one program, which is built in a folder outside of the repository with mutants/ as its driver. Four
+copy that is called. So all edits are one program, which is built in a folder outside of the repository with mutants/ as its driver. Five
 families need no copies: a test of a kind that answers otherwise for one kind, a row of the dispatch that leads to another routine, a
-word that is or is not on the keyword list, and a kind that is or is not carried. Edits that do not compile are counted and left out. The
-oracle's own check of a call (answers.rs and tape.rs) is edited in the same way, for the refusals.
+word that is or is not on the keyword list, a character that is or is not white space, and a kind that is or is not carried. Edits that do
+not compile are counted and left out. The oracle's own check of a call (answers.rs, text.rs and tape.rs) is edited in the same way, for the
+refusals.
 
 Writes vectors/score.txt: how many edits of each family the list shows, and how many vectors/equivalent.txt names as ones that change
 nothing; fails if any other is left. With --choose the calls are chosen anew first, so that every edit that any of many calls shows is
@@ -51,7 +52,7 @@ LEFT_OUT = {
 }
 
 FORMATTER = ["format_node.rs", "context.rs", "mod.rs"]
-CHECKS = ["tape.rs", "answers.rs"]
+CHECKS = ["tape.rs", "text.rs", "answers.rs"]
 
 CARGO = """[package]
 name = "mutants"
@@ -95,7 +96,7 @@ def read_check(file):
     types = re.findall(r"pub (?:struct|enum) (\w+)", text)
     text = re.sub(r"#\[derive[^\n]*\npub (?:struct|enum)[^}]*\}", lambda match: re.sub(r"[^\n]", "", match[0]), text)
     uses = f"pub use oracle::{file[:-3]}::{{{', '.join(types)}}};"
-    return uses + text.replace("use crate::tape", "use super::tape")
+    return uses + re.sub(r"\buse crate::(tape|text)\b", r"use super::\1", text)
 
 
 class Function:
@@ -121,7 +122,7 @@ class Function:
 
     def call(self, name):
         """The call of a copy with the function's own arguments."""
-        inner = self.signature[self.signature.index("(") + 1 : self.signature.rindex(")")]
+        inner = self.signature[self.signature.index("(") + 1 : self.signature.index(")")]
         names = [part.split(":")[0].strip() for part in inner.split(",") if part.strip()]
         method = names and names[0].split()[-1].lstrip("&") == "self"
         if method:
@@ -195,14 +196,26 @@ def statements(body):
         yield match.start(), end, ""
 
 
+LINE = r"(?=\S)(?!let\b|return\b|\}|//)[^\n]*;\n"
+BLOCK = r"if [^\n]*\{\n(?:(?!\1\})[^\n]*\n)*\1\}\n"
+
+
+def swapped(body, first, second):
+    """Each place of one pattern exchanged with the other that follows at once, at the same indent."""
+    for match in re.finditer(rf"(?m)^( +)({first})(?=\1({second}))", body):
+        yield match.start(), match.end() + len(match[1]) + len(match[3]), f"{match[1]}{match[3]}{match[1]}{match[2]}"
+
+
 def swaps(body):
     """Statements of one line, and whole `if`s, exchanged with the next."""
-    line = r"(?=\S)(?!let\b|return\b|\}|//)[^\n]*;\n"
-    for match in re.finditer(rf"(?m)^( +)({line})(?=\1({line}))", body):
-        yield match.start(), match.end() + len(match[1]) + len(match[3]), f"{match[1]}{match[3]}{match[1]}{match[2]}"
-    block = r"if [^\n]*\{\n(?:(?!\1\})[^\n]*\n)*\1\}\n"
-    for match in re.finditer(rf"(?m)^( +)({block})(?=\1({block}))", body):
-        yield match.start(), match.end() + len(match[1]) + len(match[3]), f"{match[1]}{match[3]}{match[1]}{match[2]}"
+    yield from swapped(body, LINE, LINE)
+    yield from swapped(body, BLOCK, BLOCK)
+
+
+def orders(body):
+    """A statement of one line exchanged with an `if` beside it: refusals in another order."""
+    yield from swapped(body, LINE, BLOCK)
+    yield from swapped(body, BLOCK, LINE)
 
 
 def insertions(body):
@@ -246,6 +259,9 @@ def constants(body):
     for match in re.finditer(r"(?<![\w.'\"])\d+(?![\w'\"])", body):
         value = int(match[0])
         yield from ((match.start(), match.end(), str(new)) for new in (value - 1, value + 1) if new >= 0)
+    for match in re.finditer(r"\b0x[0-9A-F]{2}\b", body):
+        value = int(match[0], 16)
+        yield from ((match.start(), match.end(), f"0x{new:02X}") for new in (value - 1, value + 1) if 0 <= new <= 255)
     yield from exchanged(body, r"'\\n'", "' '", r"'\\r'", "'a'")
     yield from exchanged(body, r"' '", r"'\\n'", r"'\\t'")
 
@@ -292,6 +308,8 @@ CALLS = [
     (r"\bneeds_space\b", ["at_line_start"]),
     (r"\bself\.at_line_start\b", ["self.needs_space"]),
     (r"\.any\(", [".all("]),
+    (r"\.all\(", [".any("]),
+    (r"\bfirst\.\.=last\b", ["first..last"]),
     (r"\btrim_end\(\)", ["trim()", "trim_start()", "as_str()", r"trim_end_matches('\\n')", "trim_end_matches(' ')"]),
     (r"\btrim_end\(\)", [r"trim_end_matches([' ', '\\n'])", "trim_end_matches(|c: char| c.is_ascii_whitespace())"]),
     (r"\bstarts_with\(", ["ends_with(", "contains("]),
@@ -334,8 +352,7 @@ def edits(function, names):
     last = body.index("match tree.kind") if function.name == "format_node" else len(body)
     seen = {body}
     families = [comparisons, conditions, booleans, statements, swaps, arms, constants, strings, calls]
-    if not function.checks:
-        families.append(insertions)
+    families.append(orders if function.checks else insertions)
     made = itertools.chain(kinds(body, names), *(family(body) for family in families))
     for start, end, new in made:
         text = body[:start] + new + body[end:]
@@ -415,7 +432,14 @@ QUESTIONS = [
         'matches!(upper.as_str(), "TRUE" | "FALSE" | "NULL")',
         'crate::value_listed(matches!(upper.as_str(), "TRUE" | "FALSE" | "NULL"), &upper)',
     ),
+    ("finish", "self.buf.trim_end()", "self.buf.trim_end_matches(|c: char| crate::white(c.is_whitespace(), c))"),
     ("node", "kinds::is_carried(node.kind)", "crate::carried(kinds::is_carried(node.kind), node.kind)"),
+    # By the table of well-formed sequences, so that its edits show; a test of the oracle holds the table to the library.
+    (
+        "well_formed",
+        "std::str::from_utf8(bytes).map_err(|error| error.valid_up_to())",
+        "match first_ill_formed(bytes) { Some(place) => Err(place), None => Ok(std::str::from_utf8(bytes).unwrap()) }",
+    ),
 ]
 
 

@@ -12,12 +12,17 @@ use std::collections::{BTreeMap, BTreeSet, BinaryHeap, HashSet};
 const ENOUGH: usize = 40;
 
 /// How many records of each class there are at least: calls that 1 to 12 accept, or of any answer.
-const LEAST: [(&str, usize, Counted); 5] = [
+const LEAST: [(&str, usize, Counted); 10] = [
     ("parser", 150, Counted::Accepted),
     ("wild", 150, Counted::Accepted),
     ("damaged", 250, Counted::Any),
     ("masked", 120, Counted::Accepted),
     ("limits", 40, Counted::Any),
+    ("utf8", 80, Counted::Accepted),
+    ("utf8-small", 150, Counted::Accepted),
+    ("utf8-damaged", 200, Counted::Any),
+    ("utf8-masked", 80, Counted::Accepted),
+    ("utf8-limits", 10, Counted::Any),
 ];
 
 #[derive(PartialEq)]
@@ -109,7 +114,7 @@ fn without_spare(picked: Vec<usize>, showing: &[Vec<usize>]) -> BTreeSet<usize> 
 /// Adds what else the list is to hold: all calls made by hand, every refusal, and enough of each class.
 fn filled(mut chosen: BTreeSet<usize>, pool: &[Candidate]) -> BTreeSet<usize> {
     chosen.extend((0..pool.len()).filter(|place| pool[*place].is_by_hand()));
-    for number in 1..=13 {
+    for number in (1..=13).chain(15..=16) {
         add_refusals(&mut chosen, pool, number);
     }
     for (class, least, counted) in LEAST {

@@ -2,6 +2,7 @@
 
 use crate::formatter::format_node::ROUTINES;
 use crate::on::{Edit, Met};
+use oracle::cases::characters;
 use oracle::coverage::NODE_KINDS;
 use oracle::stored::by_hand;
 use oracle::{kinds, source};
@@ -40,7 +41,7 @@ pub fn mutants() -> Vec<Mutant> {
         let name = format!("kinds.rs is_carried: otherwise for {}", kinds::name(kind));
         mutant(Edit::Carried(kind), vec![Met::Carried(kind)], CHECK, name)
     });
-    copies.chain(kinds).chain(flips()).chain(moves()).chain(word_edits()).collect()
+    copies.chain(kinds).chain(flips()).chain(moves()).chain(word_edits()).chain(white_edits()).collect()
 }
 
 fn carried_kinds() -> impl Iterator<Item = u16> {
@@ -80,6 +81,15 @@ fn moves() -> Vec<Mutant> {
         }
     }
     all
+}
+
+/// Each character of a list taken for white space, or no longer.
+fn white_edits() -> Vec<Mutant> {
+    let edit = |character: char| {
+        let name = format!("context.rs finish: white space otherwise for U+{:04X}", u32::from(character));
+        mutant(Edit::White(character), vec![Met::White(character)], "white space", name)
+    };
+    characters().into_iter().map(edit).collect()
 }
 
 /// Each keyword gone, cut by its last letter, with a letter more beside it, or taken for a value.

@@ -15,10 +15,11 @@ mod formatter;
 mod checks {
     pub mod answers;
     pub mod tape;
+    pub mod text;
 }
 
 // What the edited files name.
-pub use on::{carried, copy, flipped, listed, moved, touch, value_listed};
+pub use on::{carried, copy, flipped, listed, moved, touch, value_listed, white};
 pub use oracle::{kinds, lexer, parser, source};
 
 use oracle::stored;

@@ -17,6 +17,8 @@ pub enum Edit {
     Words(Option<&'static str>, Option<&'static str>),
     /// The list of values holds this word, or no longer.
     Value(&'static str),
+    /// This character is white space, or no longer.
+    White(char),
     /// This kind is not carried, or is.
     Carried(u16),
 }
@@ -28,6 +30,7 @@ pub enum Met {
     Site(usize, u16),
     Kind(u16),
     Word(String),
+    White(char),
     Carried(u16),
 }
 
@@ -107,6 +110,12 @@ pub fn listed(answer: bool, word: &str) -> bool {
 pub fn value_listed(answer: bool, word: &str) -> bool {
     meet(Met::Word(word.to_string()));
     answer ^ (matches!(ON.get(), Edit::Value(value) if value == word))
+}
+
+/// Whether a character is white space.
+pub fn white(answer: bool, character: char) -> bool {
+    meet(Met::White(character));
+    answer ^ (ON.get() == Edit::White(character))
 }
 
 /// Whether a kind is carried.

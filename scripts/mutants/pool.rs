@@ -7,13 +7,18 @@ use std::collections::HashSet;
 const SEED: u64 = 1;
 
 /// How many cases of each class the choice is made from.
-const POOL: [(&str, u64); 6] = [
+const POOL: [(&str, u64); 11] = [
     ("small", 200_000),
     ("wild", 30_000),
     ("parser", 20_000),
     ("masked", 10_000),
     ("damaged", 10_000),
     ("limits", 960),
+    ("utf8", 10_000),
+    ("utf8-small", 60_000),
+    ("utf8-damaged", 30_000),
+    ("utf8-masked", 5_000),
+    ("utf8-limits", 300),
 ];
 
 /// The most bytes of a record that may be chosen.
@@ -67,7 +72,7 @@ impl Candidate {
 fn names_of(class: &str, index: u64) -> Vec<String> {
     let name = format!("{SEED} {class} {index}");
     match class {
-        "masked" => vec![format!("{name} first"), format!("{name} second")],
+        "masked" | "utf8-masked" => vec![format!("{name} first"), format!("{name} second")],
         _ => vec![name],
     }
 }

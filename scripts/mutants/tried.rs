@@ -7,6 +7,7 @@ use crate::{checks, formatter};
 use oracle::answers::accepted_tree;
 use oracle::source;
 use oracle::stored::Record;
+use oracle::text::accepted;
 use std::collections::{BTreeSet, HashMap, HashSet};
 use std::panic::{catch_unwind, AssertUnwindSafe};
 
@@ -32,7 +33,7 @@ impl Tried<'_> {
     fn shows_layout(&self) -> bool {
         let (Some(tree), case) = (&self.tree, &self.record.case) else { return false };
         let config = formatter::FormatConfig { indent_width: case.width as usize, uppercase_keywords: case.case == 1 };
-        let text = std::str::from_utf8(&case.text).expect("an accepted text");
+        let text = accepted(&case.text);
         let Ok(layout) = catch_unwind(AssertUnwindSafe(|| formatter::format(tree, &config, text))) else { return true };
         match self.record.laid_out.number {
             13 => layout.len() as u64 != self.record.laid_out.second,
