@@ -82,15 +82,10 @@ mod absent {
 #[cfg(not(has_library))]
 pub use absent::*;
 
-/// What a comparison of the port with the source lacks, if anything.
-pub fn missing() -> Option<&'static str> {
-    if !AT_HAND {
-        return Some(HINT);
-    }
-    if !oracle::source::AT_HAND {
-        return Some(oracle::source::HINT);
-    }
-    None
+/// Whether the port can be compared with the source; the error says what is missing.
+pub fn all_at_hand() -> Result<(), String> {
+    let needed = [(AT_HAND, HINT), (oracle::source::AT_HAND, oracle::source::HINT)];
+    needed.iter().try_for_each(|(at_hand, hint)| if *at_hand { Ok(()) } else { Err(hint.to_string()) })
 }
 
 /// The middle one of the times.

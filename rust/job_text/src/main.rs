@@ -1,32 +1,26 @@
 //! The program between a job's readable form and its bytes, on standard input and output.
 
-use std::io::{self, Read, Write};
+use command_line::{Failure, Program};
+use std::io::{self, Read};
 use std::process::ExitCode;
 
 const USAGE: &str = "usage: job to-bytes < FORM > JOB   writes the job that a readable form spells
        job to-text < JOB > FORM    writes the readable form of a job
-       job --help                  writes this
+       job --help, job --version
 The form is described in examples/README.md. A fault gets a message with its line and column in bytes,
 or with the job's byte, on standard error and status 2, and nothing is written.";
 
+const PROGRAM: Program = Program { name: "job", version: env!("CARGO_PKG_VERSION"), usage: USAGE };
+
 fn main() -> ExitCode {
-    let arguments: Vec<String> = std::env::args().skip(1).collect();
-    let arguments: Vec<&str> = arguments.iter().map(String::as_str).collect();
-    match run(&arguments).and_then(|output| io::stdout().write_all(&output).map_err(|error| error.to_string())) {
-        Ok(()) => ExitCode::SUCCESS,
-        Err(message) => {
-            eprintln!("job: {message}");
-            ExitCode::from(2)
-        }
-    }
+    PROGRAM.run(|arguments, out| Ok(out.write_all(&run(arguments)?)?))
 }
 
-fn run(arguments: &[&str]) -> Result<Vec<u8>, String> {
+fn run(arguments: &[&str]) -> Result<Vec<u8>, Failure> {
     match arguments {
-        ["to-bytes"] => job_text::parse(&input()?).map_err(|fault| fault.to_string()),
-        ["to-text"] => job_text::print(&input()?).map(String::into_bytes).map_err(|fault| fault.to_string()),
-        ["--help"] => Ok(format!("{USAGE}\n").into_bytes()),
-        _ => Err(USAGE.to_string()),
+        ["to-bytes"] => Ok(job_text::parse(&input()?).map_err(|fault| fault.to_string())?),
+        ["to-text"] => Ok(job_text::print(&input()?).map(String::into_bytes).map_err(|fault| fault.to_string())?),
+        _ => Err(Failure::BadCall),
     }
 }
 

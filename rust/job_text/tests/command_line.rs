@@ -1,23 +1,16 @@
 //! The program: both ways on standard input and output, and that a fault gets a message, status 2 and no output.
 
-use std::io::Write;
-use std::process::{Command, Output, Stdio};
+use command_line::rules;
+use std::process::Output;
 
 const FORM: &[u8] = b"width 4\ncase upper\n\nFile\n  BareWord \"a\"\n";
 const JOB: &[u8] =
     &[0x10, 4, 0x11, 1, 0x12, 1, 0, 0, 0, b'a', 1, 1, 0, 0, 0, 0, 0, 1, 0, 0, 0, 2, 211, 0, 0, 0, 0, 0, 1, 0, 0, 0, 3];
 
+const PROGRAM: &str = env!("CARGO_BIN_EXE_job");
+
 fn program(arguments: &[&str], input: &[u8]) -> Output {
-    let mut child = Command::new(env!("CARGO_BIN_EXE_job"))
-        .args(arguments)
-        .stdin(Stdio::piped())
-        .stdout(Stdio::piped())
-        .stderr(Stdio::piped())
-        .spawn()
-        .expect("the program starts");
-    // A program that refuses its arguments may end before it reads.
-    let _ = child.stdin.take().expect("a pipe").write_all(input);
-    child.wait_with_output().expect("the program ends")
+    rules::run(PROGRAM, arguments, input)
 }
 
 fn assert_writes(arguments: &[&str], input: &[u8], expected: &[u8]) {
@@ -55,7 +48,12 @@ fn a_bad_call_gets_the_usage_and_status_2() {
 }
 
 #[test]
-fn help_is_written_on_standard_output() {
-    let output = program(&["--help"], b"");
-    assert!(output.status.success() && output.stdout.starts_with(b"usage: job to-bytes < FORM > JOB "));
+fn what_holds_of_every_program() {
+    rules::assert_kept(PROGRAM, "job");
+}
+
+#[test]
+fn output_that_is_lost_is_told() {
+    rules::assert_output_kept(PROGRAM, "job", &["to-bytes"], FORM);
+    rules::assert_output_kept(PROGRAM, "job", &["to-text"], JOB);
 }

@@ -1,12 +1,13 @@
 //! The command line of the oracle: prints cases with their answers, or answers a job.
 
+use command_line::Program;
 use oracle::answers::{accepted_tree, answer, Answer, Case};
 use oracle::cases::{make, Class, Made};
 use oracle::masking::{breaches, claim, Pair};
 use oracle::stored::{self, names, Record};
 use oracle::tape::{Child, Node};
 use oracle::{arms, job, kinds, source};
-use std::io::{self, Read, Write};
+use std::io::{self, Read};
 use std::process::ExitCode;
 
 const USAGE: &str = "usage: oracle case SEED CLASS INDEX            prints a case and its answer
@@ -15,19 +16,14 @@ const USAGE: &str = "usage: oracle case SEED CLASS INDEX            prints a cas
        oracle job < FILE                       answers a job as the desk's program does
        oracle stored < FILE                    writes the stored list of the calls that FILE names, a line each
        oracle source                           says whether the source is at hand, which all of these need
+       oracle --help, oracle --version
 CLASS is parser, wild, damaged, jobs, masked, limits, small, utf8, utf8-small, utf8-damaged, utf8-masked or
 utf8-limits; the others are numbers from 0 to 2^64-1";
 
+const PROGRAM: Program = Program { name: "oracle", version: env!("CARGO_PKG_VERSION"), usage: USAGE };
+
 fn main() -> ExitCode {
-    let arguments: Vec<String> = std::env::args().skip(1).collect();
-    let arguments: Vec<&str> = arguments.iter().map(String::as_str).collect();
-    match run(&arguments).and_then(|output| io::stdout().write_all(&output).map_err(|error| error.to_string())) {
-        Ok(()) => ExitCode::SUCCESS,
-        Err(message) => {
-            eprintln!("oracle: {message}");
-            ExitCode::from(2)
-        }
-    }
+    PROGRAM.run(|arguments, out| Ok(out.write_all(&run(arguments)?)?))
 }
 
 fn run(arguments: &[&str]) -> Result<Vec<u8>, String> {

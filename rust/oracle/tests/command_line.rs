@@ -2,23 +2,16 @@
 
 mod common;
 
+use command_line::rules;
 use oracle::answers::answer;
 use oracle::cases::{call, Class};
 use oracle::stored::{self, names, Record};
-use std::io::Write;
-use std::process::{Command, Output, Stdio};
+use std::process::Output;
+
+const PROGRAM: &str = env!("CARGO_BIN_EXE_oracle");
 
 fn oracle(arguments: &[&str], input: &[u8]) -> Output {
-    let mut child = Command::new(env!("CARGO_BIN_EXE_oracle"))
-        .args(arguments)
-        .stdin(Stdio::piped())
-        .stdout(Stdio::piped())
-        .stderr(Stdio::piped())
-        .spawn()
-        .expect("the program starts");
-    // A program that refuses its arguments may end before it reads.
-    let _ = child.stdin.take().expect("a pipe").write_all(input);
-    child.wait_with_output().expect("the program ends")
+    rules::run(PROGRAM, arguments, input)
 }
 
 fn assert_bad_call(arguments: &[&str], message: &str) {
@@ -44,6 +37,20 @@ fn a_bad_call_gets_a_message_and_status_2() {
     assert_bad_call(&["arms", "parser"], "usage: oracle");
     assert_bad_call(&["stored", "file"], "usage: oracle");
     assert_bad_call(&["source", "file"], "usage: oracle");
+}
+
+#[test]
+fn what_holds_of_every_program() {
+    rules::assert_kept(PROGRAM, "oracle");
+}
+
+#[test]
+fn output_that_is_lost_is_told() {
+    needs_source!();
+    let job = [0x10, 4, 0x11, 1, 0x12, 1, 0, 0, 0, 0x61, 1, 0, 0, 0, 0, 0, 0, 1, 0, 0, 0, 3];
+    rules::assert_output_kept(PROGRAM, "oracle", &["job"], &job);
+    rules::assert_output_kept(PROGRAM, "oracle", &["stored"], b"1 small 0\n");
+    rules::assert_output_kept(PROGRAM, "oracle", &["case", "1", "parser", "0"], b"");
 }
 
 #[test]

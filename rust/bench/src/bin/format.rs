@@ -2,6 +2,8 @@
 
 use bench::corpora::{self, Corpus};
 use bench::rounds::{least_times, Queries, Side};
+use command_line::{Failure, Program};
+use std::io::{self, Write};
 use std::process::ExitCode;
 
 const USAGE: &str = "usage: format [--seed SEED] [--rounds ROUNDS] [CORPUS...]
@@ -10,7 +12,8 @@ const USAGE: &str = "usage: format [--seed SEED] [--rounds ROUNDS] [CORPUS...]
            runs a corpus once on one side with no clock, for a profiler, and prints how many tokens and tape bytes it has;
            SIDE is ready-tree, from-tape, layout or measure
        format --list
-           prints the corpora";
+           prints the corpora
+       format --help, format --version";
 
 /// The seed that the documents' table is made with.
 const SEED: u64 = 1;
@@ -23,38 +26,31 @@ enum Asked {
     List,
 }
 
+const PROGRAM: Program = Program { name: "format", version: env!("CARGO_PKG_VERSION"), usage: USAGE };
+
 fn main() -> ExitCode {
-    let words: Vec<String> = std::env::args().skip(1).collect();
-    let Some(asked) = asked(&words) else {
-        eprintln!("format: {USAGE}");
-        return ExitCode::from(2);
-    };
-    if let Some(missing) = bench::missing() {
-        eprintln!("format: {missing}");
-        return ExitCode::from(2);
-    }
+    PROGRAM.run(run)
+}
+
+fn run(words: &[&str], out: &mut dyn Write) -> Result<(), Failure> {
+    let asked = asked(words).ok_or(Failure::BadCall)?;
+    bench::all_at_hand()?;
     match asked {
-        Asked::List => list(),
-        Asked::Once { seed, side, corpus } => once(seed, side, corpus),
-        Asked::Table { seed, rounds, corpora } => {
-            if let Err(difference) = table(seed, rounds, &corpora) {
-                eprintln!("format: {difference}");
-                return ExitCode::FAILURE;
-            }
-        }
+        Asked::List => Ok(list(out)?),
+        Asked::Once { seed, side, corpus } => Ok(once(seed, side, corpus, out)?),
+        Asked::Table { seed, rounds, corpora } => table(seed, rounds, &corpora, out),
     }
-    ExitCode::SUCCESS
 }
 
 /// None if the words are no call of this program.
-fn asked(words: &[String]) -> Option<Asked> {
+fn asked(words: &[&str]) -> Option<Asked> {
     if words == ["--list"] {
         return Some(Asked::List);
     }
     let (mut seed, mut rounds, mut side, mut names) = (SEED, None, None, Vec::new());
     let mut words = words.iter();
     while let Some(word) = words.next() {
-        match word.as_str() {
+        match *word {
             "--seed" => seed = words.next()?.parse().ok()?,
             "--rounds" => rounds = Some(words.next()?.parse().ok().filter(|rounds| *rounds > 0)?),
             "--once" => side = Some(side_named(words.next()?)?),
@@ -80,34 +76,38 @@ fn side_named(name: &str) -> Option<Side> {
     }
 }
 
-fn list() {
-    for corpus in &corpora::ALL {
-        println!("{:<14} {}", corpus.name, corpus.label);
-    }
+fn list(out: &mut dyn Write) -> io::Result<()> {
+    corpora::ALL.iter().try_for_each(|corpus| writeln!(out, "{:<14} {}", corpus.name, corpus.label))
 }
 
-fn once(seed: u64, side: Side, corpus: &Corpus) {
+fn once(seed: u64, side: Side, corpus: &Corpus, out: &mut dyn Write) -> io::Result<()> {
     let mut queries = Queries::new((corpus.make)(seed));
     queries.once(side);
-    println!("{} tokens, {} tape bytes", queries.tokens, queries.tape_bytes());
+    writeln!(out, "{} tokens, {} tape bytes", queries.tokens, queries.tape_bytes())
 }
 
 /// Prints a row for each corpus as soon as it is timed; the error is a query that the port lays out unlike the source.
-fn table(seed: u64, rounds: usize, corpora: &[&Corpus]) -> Result<(), String> {
-    println!("seed {seed}, {rounds} rounds, the least time of each side; a ratio above 1 says that the port is faster");
-    println!("{:<14} {:>7} {:>8} | {:^22} | {:^26}", "", "", "", "the source's time over", "nanoseconds a token");
-    println!(
+fn table(seed: u64, rounds: usize, corpora: &[&Corpus], out: &mut dyn Write) -> Result<(), Failure> {
+    writeln!(
+        out,
+        "seed {seed}, {rounds} rounds, the least time of each side; a ratio above 1 says that the port is faster"
+    )?;
+    writeln!(out, "{:<14} {:>7} {:>8} | {:^22} | {:^26}", "", "", "", "the source's time over", "nanoseconds a token")?;
+    writeln!(
+        out,
         "{:<14} {:>7} {:>8} | {:>10} {:>11} | {:>10} {:>9} {:>5}",
         "corpus", "queries", "tokens", "ready tree", "from tape", "ready tree", "from tape", "port"
-    );
-    corpora.iter().try_for_each(|corpus| row(seed, rounds, corpus))
+    )?;
+    corpora.iter().try_for_each(|corpus| row(seed, rounds, corpus, out))
 }
 
-fn row(seed: u64, rounds: usize, corpus: &Corpus) -> Result<(), String> {
+fn row(seed: u64, rounds: usize, corpus: &Corpus, out: &mut dyn Write) -> Result<(), Failure> {
     let mut queries = Queries::new((corpus.make)(seed));
-    queries.compare(bench::layout).map_err(|difference| format!("{}, seed {seed}, {difference}", corpus.name))?;
+    let differs = |difference| Failure::Found(format!("{}, seed {seed}, {difference}", corpus.name));
+    queries.compare(bench::layout).map_err(differs)?;
     let times = least_times(&mut queries, rounds);
-    println!(
+    writeln!(
+        out,
         "{:<14} {:>7} {:>8} | {:>10.2} {:>11.2} | {:>10.1} {:>9.1} {:>5.1}",
         corpus.name,
         queries.count(),
@@ -117,6 +117,6 @@ fn row(seed: u64, rounds: usize, corpus: &Corpus) -> Result<(), String> {
         times.ready_tree,
         times.from_tape,
         times.port
-    );
+    )?;
     Ok(())
 }

@@ -1,8 +1,10 @@
 //! Times the word tests of the source and of the port on the same words, in one run.
 
+use command_line::{Failure, Program};
 use oracle::random::Random;
 use oracle::source;
 use std::hint::black_box;
+use std::io::{self, Write};
 use std::process::ExitCode;
 use std::time::Instant;
 
@@ -20,33 +22,31 @@ const WORDS: usize = 1024;
 const PASSES: usize = 64;
 const ROUNDS: usize = 31;
 
+const PROGRAM: Program = Program { name: "keywords", version: env!("CARGO_PKG_VERSION"), usage: USAGE };
+
 fn main() -> ExitCode {
-    if std::env::args().len() > 1 {
-        eprintln!("keywords: {USAGE}");
-        return ExitCode::from(2);
-    }
-    if let Some(missing) = bench::missing() {
-        eprintln!("keywords: {missing}");
-        return ExitCode::from(2);
-    }
-    print_times();
-    ExitCode::SUCCESS
+    PROGRAM.run(|arguments, out| {
+        arguments.is_empty().then_some(()).ok_or(Failure::BadCall)?;
+        bench::all_at_hand()?;
+        Ok(print_times(out)?)
+    })
 }
 
-fn print_times() {
+fn print_times(out: &mut dyn Write) -> io::Result<()> {
     let mut random = Random::of(1, 0, 0);
     let texts = [
         ("keywords", text(|| keyword(&mut random))),
         ("names", text(|| name(&mut random))),
         ("half and half", text(|| if random.percent(50) { keyword(&mut random) } else { name(&mut random) })),
     ];
-    println!("{:<17} {:<14} {:>10} {:>9} {:>6}", "test", "words", "source ns", "port ns", "ratio");
+    writeln!(out, "{:<17} {:<14} {:>10} {:>9} {:>6}", "test", "words", "source ns", "port ns", "ratio")?;
     for (label, text) in &texts {
-        row("is_keyword", label, text, source::is_keyword, bench::is_keyword);
+        row(out, "is_keyword", label, text, source::is_keyword, bench::is_keyword)?;
     }
     for (label, text) in &texts {
-        row("is_value_keyword", label, text, source::is_value_keyword, bench::is_value_keyword);
+        row(out, "is_value_keyword", label, text, source::is_value_keyword, bench::is_value_keyword)?;
     }
+    Ok(())
 }
 
 /// A text of so many words, each followed by a blank.
@@ -70,7 +70,14 @@ fn name(random: &mut Random) -> String {
 }
 
 /// Prints the median of the rounds of each side, which take turns.
-fn row(test: &str, label: &str, text: &str, source: fn(&str) -> bool, port: fn(&[u8]) -> bool) {
+fn row(
+    out: &mut dyn Write,
+    test: &str,
+    label: &str,
+    text: &str,
+    source: fn(&str) -> bool,
+    port: fn(&[u8]) -> bool,
+) -> io::Result<()> {
     let words: Vec<&str> = text.split_terminator(' ').collect();
     let mut times = [Vec::new(), Vec::new()];
     for _ in 0..ROUNDS {
@@ -78,7 +85,7 @@ fn row(test: &str, label: &str, text: &str, source: fn(&str) -> bool, port: fn(&
         times[1].push(time(&words, |word| port(word.as_bytes())));
     }
     let [source, port] = times.map(bench::median);
-    println!("{test:<17} {label:<14} {source:>10.1} {port:>9.1} {:>6.1}", source / port);
+    writeln!(out, "{test:<17} {label:<14} {source:>10.1} {port:>9.1} {:>6.1}", source / port)
 }
 
 /// Nanoseconds for a word.

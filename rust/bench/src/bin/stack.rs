@@ -1,8 +1,10 @@
 //! Prints how many bytes of stack the two calls take for trees of 64 levels.
 
+use command_line::{Failure, Program};
 use oracle::answers::Answer;
 use oracle::kinds::{self, COUNT};
 use oracle::tape::{push_close, push_open, push_token};
+use std::io::{self, Write};
 use std::process::ExitCode;
 
 const USAGE: &str = "usage: stack   prints the bytes of stack that the two calls take at 64 levels; takes no argument";
@@ -19,23 +21,25 @@ const QUERY_LIST: u16 = 2;
 const STACK: usize = 512 * 1024;
 const PAINT: u8 = 0xA5;
 
+const PROGRAM: Program = Program { name: "stack", version: env!("CARGO_PKG_VERSION"), usage: USAGE };
+
 fn main() -> ExitCode {
-    if std::env::args().len() > 1 {
-        eprintln!("stack: {USAGE}");
-        return ExitCode::from(2);
-    }
-    if !bench::AT_HAND {
-        eprintln!("stack: {}", bench::HINT);
-        return ExitCode::from(2);
-    }
-    println!("{:<8} {:>10} {:>14}", "call", "tape bytes", "bytes of stack");
-    let mut out = vec![0; 1 << 20];
+    PROGRAM.run(|arguments, out| {
+        arguments.is_empty().then_some(()).ok_or(Failure::BadCall)?;
+        bench::AT_HAND.then_some(()).ok_or(bench::HINT.to_string())?;
+        Ok(print_stack(out)?)
+    })
+}
+
+fn print_stack(out: &mut dyn Write) -> io::Result<()> {
+    writeln!(out, "{:<8} {:>10} {:>14}", "call", "tape bytes", "bytes of stack")?;
+    let mut space = vec![0; 1 << 20];
     for rounds in [1, 2] {
         let tapes = tapes(rounds);
-        print_most("measure", &tapes, |tape| bench::measure(TEXT, tape, 4, 1));
-        print_most("layout", &tapes, |tape| bench::layout(TEXT, tape, 4, 1, &mut out));
+        print_most(out, "measure", &tapes, |tape| bench::measure(TEXT, tape, 4, 1))?;
+        print_most(out, "layout", &tapes, |tape| bench::layout(TEXT, tape, 4, 1, &mut space))?;
     }
-    ExitCode::SUCCESS
+    Ok(())
 }
 
 /// For each carried kind, 64 levels of it, and 63 levels of QueryList around one. The innermost node has tokens of every kind, so many times.
@@ -56,14 +60,19 @@ fn tape(outer: u16, inner: u16, rounds: usize) -> Vec<u8> {
     tape
 }
 
-fn print_most(name: &str, tapes: &[Vec<u8>], mut call: impl FnMut(&[u8]) -> Answer) {
+fn print_most(
+    out: &mut dyn Write,
+    name: &str,
+    tapes: &[Vec<u8>],
+    mut call: impl FnMut(&[u8]) -> Answer,
+) -> io::Result<()> {
     let mut most = 0;
     for tape in tapes {
         let mut answer = None;
         most = most.max(used(&mut || answer = Some(call(tape))));
         assert_eq!(answer.map(|answer| answer.number), Some(0));
     }
-    println!("{name:<8} {:>10} {most:>14}", tapes[0].len());
+    writeln!(out, "{name:<8} {:>10} {most:>14}", tapes[0].len())
 }
 
 /// The bytes of stack that the call takes, with the Rust around it: it runs on a stack of its own, and the lowest byte that changes tells.
