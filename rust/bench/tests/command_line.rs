@@ -36,3 +36,23 @@ fn output_that_is_lost_is_told() {
     rules::assert_output_kept(COMPARE, "compare", &["1", "1", "small"], b"");
     rules::assert_output_kept(FORMAT, "format", &["--list"], b"");
 }
+
+/// What `compare` prints for this call, which must agree.
+fn compared(arguments: &[&str]) -> String {
+    let printed = rules::run(COMPARE, arguments, b"");
+    assert!(printed.status.success(), "{arguments:?}: {}", printed.stderr.escape_ascii());
+    String::from_utf8(printed.stdout).unwrap()
+}
+
+#[test]
+fn as_many_cases_are_compared_as_the_call_says() {
+    if !oracle::source::at_hand_for("as_many_cases_are_compared_as_the_call_says") {
+        return;
+    }
+    assert_eq!(compared(&["1", "3", "limits"]), "Limits: 3 cases agree\n");
+    assert_eq!(compared(&["1", "2", "utf8-limits", "small"]), "Utf8Limits: 2 cases agree\nSmall: 2 cases agree\n");
+    let all = compared(&["1", "2"]);
+    assert_eq!(all.lines().count(), bench::compare::CLASSES.len());
+    assert!(all.contains("Small: 2 cases agree\n") && all.contains("\nLimits: 1 cases agree\n"), "{all}");
+    assert_eq!(rules::run(COMPARE, &["1", "0"], b"").status.code(), Some(2));
+}
