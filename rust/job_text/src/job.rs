@@ -24,13 +24,14 @@ pub enum Command {
     Close,
 }
 
+/// A job whose header is whole.
 pub struct Job {
-    pub width: u8,
-    pub case: u8,
-    pub text: Vec<u8>,
-    pub tape: Vec<Command>,
+    pub(crate) width: u8,
+    pub(crate) case: u8,
+    pub(crate) text: Vec<u8>,
+    pub(crate) tape: Vec<Command>,
     /// The tape's bytes from the first command that is wrong or cut.
-    pub rest: Vec<u8>,
+    pub(crate) rest: Vec<u8>,
 }
 
 /// A header command that is missing, wrong or cut short, and the offset where it is due.
@@ -54,6 +55,7 @@ impl Operands {
 }
 
 impl Job {
+    /// The job of these bytes.
     pub fn read(bytes: &[u8]) -> Result<Job, HeaderFault> {
         let fault = |place, message| HeaderFault { place, message };
         let (width, bytes) =
@@ -66,7 +68,7 @@ impl Job {
         Ok(Job { width, case, text: text.to_vec(), tape, rest: rest.to_vec() })
     }
 
-    pub fn write(&self) -> Vec<u8> {
+    pub(crate) fn write(&self) -> Vec<u8> {
         let mut bytes = vec![WIDTH, self.width, CASE, self.case, TEXT];
         bytes.extend((self.text.len() as u32).to_le_bytes());
         bytes.extend(&self.text);
@@ -75,7 +77,7 @@ impl Job {
         bytes
     }
 
-    pub fn tokens(&self) -> impl Iterator<Item = Operands> + '_ {
+    pub(crate) fn tokens(&self) -> impl Iterator<Item = Operands> + '_ {
         self.tape.iter().filter_map(|command| match command {
             Command::Token(token) => Some(*token),
             _ => None,

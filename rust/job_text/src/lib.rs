@@ -9,10 +9,10 @@ mod quote;
 mod spans;
 mod visible;
 
-pub use job::HeaderFault;
+pub use job::{HeaderFault, Job};
 pub use line::Fault;
 
-use job::Job;
+use std::io::{self, Write};
 
 /// The bytes of the job that a readable form spells.
 pub fn parse(form: &[u8]) -> Result<Vec<u8>, Fault> {
@@ -21,5 +21,14 @@ pub fn parse(form: &[u8]) -> Result<Vec<u8>, Fault> {
 
 /// The readable form of a job's bytes.
 pub fn print(job: &[u8]) -> Result<String, HeaderFault> {
-    Job::read(job).map(|job| print::form(&job))
+    let mut form = Vec::new();
+    Job::read(job)?.print(&mut form).expect("memory takes what is written");
+    Ok(String::from_utf8(form).expect("a form is made of whole characters"))
+}
+
+impl Job {
+    /// Writes the readable form, which can be far longer than the job, in the memory of a few times the job.
+    pub fn print(&self, out: &mut dyn Write) -> io::Result<()> {
+        print::form(self, out)
+    }
 }

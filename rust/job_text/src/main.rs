@@ -1,7 +1,8 @@
 //! The program between a job's readable form and its bytes, on standard input and output.
 
 use command_line::{Failure, Program};
-use std::io::{self, Read};
+use job_text::Job;
+use std::io::{self, BufWriter, Read, Write};
 use std::process::ExitCode;
 
 const USAGE: &str = "usage: job to-bytes < FORM > JOB   writes the job that a readable form spells
@@ -13,13 +14,21 @@ or with the job's byte, on standard error and status 2, and nothing is written."
 const PROGRAM: Program = Program { name: "job", version: env!("CARGO_PKG_VERSION"), usage: USAGE };
 
 fn main() -> ExitCode {
-    PROGRAM.run(|arguments, out| Ok(out.write_all(&run(arguments)?)?))
+    PROGRAM.run(run)
 }
 
-fn run(arguments: &[&str]) -> Result<Vec<u8>, Failure> {
+fn run(arguments: &[&str], out: &mut dyn Write) -> Result<(), Failure> {
     match arguments {
-        ["to-bytes"] => Ok(job_text::parse(&input()?).map_err(|fault| fault.to_string())?),
-        ["to-text"] => Ok(job_text::print(&input()?).map(String::into_bytes).map_err(|fault| fault.to_string())?),
+        ["to-bytes"] => {
+            let job = job_text::parse(&input()?).map_err(|fault| fault.to_string())?;
+            Ok(out.write_all(&job)?)
+        }
+        ["to-text"] => {
+            let job = Job::read(&input()?).map_err(|fault| fault.to_string())?;
+            let mut out = BufWriter::new(out);
+            job.print(&mut out)?;
+            Ok(out.flush()?)
+        }
         _ => Err(Failure::BadCall),
     }
 }

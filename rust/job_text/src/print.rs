@@ -4,24 +4,25 @@ use crate::job::{Command, Job, Operands};
 use crate::kinds;
 use crate::quote::quoted;
 use crate::spans::{worked_out, Span};
+use std::io::{self, Write};
 
 /// Bytes of a `rest` line.
 const REST_LINE: usize = 16;
 
-pub fn form(job: &Job) -> String {
-    let mut printer = Printer { job, out: String::new(), depth: 0, end: 0 };
-    printer.settings();
+/// Writes a job's readable form line by line. It can be far longer than the job: levels are indented, and texts of tokens may overlap.
+pub fn form(job: &Job, out: &mut dyn Write) -> io::Result<()> {
+    let mut printer = Printer { job, out, depth: 0, end: 0 };
+    printer.settings()?;
     if !tokens_make_text(job) {
-        printer.text();
+        printer.text()?;
     }
     if !job.tape.is_empty() || !job.rest.is_empty() {
-        printer.line("");
+        printer.line("")?;
     }
     for (command, span) in job.tape.iter().zip(worked_out(&job.tape, &job.text)) {
-        printer.command(command, span);
+        printer.command(command, span)?;
     }
-    printer.rest();
-    printer.out
+    printer.rest()
 }
 
 /// Whether the tokens' texts in their order are the text, so that it need not be given.
@@ -38,7 +39,7 @@ fn tokens_make_text(job: &Job) -> bool {
 
 struct Printer<'a> {
     job: &'a Job,
-    out: String,
+    out: &'a mut dyn Write,
     /// The nodes open.
     depth: usize,
     /// The end of the last token with a text, where the next one is expected.
@@ -46,16 +47,19 @@ struct Printer<'a> {
 }
 
 impl Printer<'_> {
-    fn line(&mut self, line: &str) {
+    fn line(&mut self, line: &str) -> io::Result<()> {
         if !line.is_empty() {
-            self.out.extend(std::iter::repeat_n("  ", self.depth));
+            self.indent()?;
         }
-        self.out.push_str(line);
-        self.out.push('\n');
+        writeln!(self.out, "{line}")
     }
 
-    fn settings(&mut self) {
-        self.line(&format!("width {}", self.job.width));
+    fn indent(&mut self) -> io::Result<()> {
+        (0..self.depth).try_for_each(|_| self.out.write_all(b"  "))
+    }
+
+    fn settings(&mut self) -> io::Result<()> {
+        self.line(&format!("width {}", self.job.width))?;
         match self.job.case {
             0 => self.line("case lower"),
             1 => self.line("case upper"),
@@ -64,51 +68,54 @@ impl Printer<'_> {
     }
 
     /// The text, a line for each of its lines.
-    fn text(&mut self) {
+    fn text(&mut self) -> io::Result<()> {
         if self.job.text.is_empty() {
-            self.line("text \"\"");
+            self.line("text \"\"")?;
         }
-        for part in self.job.text.split_inclusive(|byte| *byte == b'\n') {
-            self.line(&format!("text {}", quoted(part)));
-        }
+        let mut lines = self.job.text.split_inclusive(|byte| *byte == b'\n');
+        lines.try_for_each(|part| self.line(&format!("text {}", quoted(part))))
     }
 
-    fn command(&mut self, command: &Command, worked_out: Span) {
+    fn command(&mut self, command: &Command, worked_out: Span) -> io::Result<()> {
         match command {
             Command::Open(node) => self.open(node, worked_out),
             Command::Token(token) => self.token(token),
             Command::Close if self.depth == 0 => self.line("close"),
-            Command::Close => self.depth -= 1,
+            Command::Close => {
+                self.depth -= 1;
+                Ok(())
+            }
         }
     }
 
-    fn open(&mut self, node: &Operands, worked_out: Span) {
+    fn open(&mut self, node: &Operands, worked_out: Span) -> io::Result<()> {
         if worked_out == (node.start, node.end) {
-            self.line(&kind(node));
+            self.line(&kind(node))?;
         } else {
-            self.line(&format!("{} {}", kind(node), span(node)));
+            self.line(&format!("{} {}", kind(node), span(node)))?;
         }
         self.depth += 1;
+        Ok(())
     }
 
-    fn token(&mut self, token: &Operands) {
+    fn token(&mut self, token: &Operands) -> io::Result<()> {
         let Some(text) = token.text_in(&self.job.text) else {
             return self.line(&format!("token {} {}", kind(token), span(token)));
         };
         let place = if token.start == self.end { String::new() } else { format!(" at {}", token.start) };
-        self.line(&format!("{} {}{place}", kind(token), quoted(text)));
         self.end = token.end;
+        self.line(&format!("{} {}{place}", kind(token), quoted(text)))
     }
 
     /// The bytes that are no commands, or nothing behind nodes that stay open.
-    fn rest(&mut self) {
+    fn rest(&mut self) -> io::Result<()> {
         if self.depth > 0 && self.job.rest.is_empty() {
-            self.line("rest");
+            self.line("rest")?;
         }
-        for part in self.job.rest.chunks(REST_LINE) {
+        self.job.rest.chunks(REST_LINE).try_for_each(|part| {
             let bytes: String = part.iter().map(|byte| format!(" {byte:02X}")).collect();
-            self.line(&format!("rest{bytes}"));
-        }
+            self.line(&format!("rest{bytes}"))
+        })
     }
 }
 

@@ -57,3 +57,18 @@ fn output_that_is_lost_is_told() {
     rules::assert_output_kept(PROGRAM, "job", &["to-bytes"], FORM);
     rules::assert_output_kept(PROGRAM, "job", &["to-text"], JOB);
 }
+
+/// The form of a deep tree is as long as the square of its levels; the memory for it is not.
+#[test]
+fn a_deep_job_takes_little_memory() {
+    const LEVELS: usize = 20_000;
+    let header = [0x10, 4, 0x11, 1, 0x12, 0, 0, 0, 0];
+    let open = [1, 1, 0, 0xFF, 0xFF, 0xFF, 0xFF, 0, 0, 0, 0];
+    let job = [&header[..], &open.repeat(LEVELS), &[3; LEVELS]].concat();
+    let in_little_memory = "ulimit -v 100000; \"$0\" to-text | wc -c";
+    let printed = rules::run("sh", &["-c", in_little_memory, PROGRAM], &job);
+    let settings = "width 4\ncase upper\n\n".len();
+    let nodes = LEVELS * (LEVELS - 1) + LEVELS * "File\n".len();
+    assert_eq!(String::from_utf8_lossy(&printed.stdout).trim(), (settings + nodes).to_string());
+    assert!(printed.stderr.is_empty(), "{}", printed.stderr.escape_ascii());
+}
