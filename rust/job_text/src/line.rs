@@ -31,7 +31,11 @@ impl<'a> Line<'a> {
     pub fn new(number: usize, bytes: &'a [u8]) -> Result<Line<'a>, Fault> {
         let bytes = bytes.strip_suffix(b"\r").unwrap_or(bytes);
         let text = seen(bytes).map_err(|(place, what)| {
-            let message = format!("{what} can't stand here; a quoted text has it as an escape");
+            let is_indent = bytes[place] == b'\t' && bytes[..place].iter().all(|byte| *byte == b' ');
+            let message = match is_indent {
+                true => "indent with blanks: a tab can't stand here".to_string(),
+                false => format!("{what} can't stand here; a quoted text has it as an escape"),
+            };
             Fault { line: number, column: place + 1, message }
         })?;
         let mut line = Line { number, text, place: 0 };
@@ -61,6 +65,10 @@ impl<'a> Line<'a> {
 
     pub fn is_at_quote(&self) -> bool {
         self.remaining().starts_with('"')
+    }
+
+    pub fn is_at_digit(&self) -> bool {
+        self.remaining().starts_with(|character: char| character.is_ascii_digit())
     }
 
     /// The word that comes next, which a blank or a quote ends; empty at the line's end and before a quote.

@@ -172,8 +172,10 @@ impl Tree {
         let node = if line.is_at_end() {
             self.bare.push(self.tape.len());
             Operands { kind, start: 0, end: 0 }
-        } else {
+        } else if line.is_at_digit() {
             with_span(kind, line)?
+        } else {
+            return Err(line.fault("expected a quoted text or a span"));
         };
         self.tape.push(Command::Open(node));
         self.depth += 1;

@@ -77,7 +77,7 @@ fn quotes() {
 #[test]
 fn what_cannot_be_seen() {
     let message = "can't stand here; a quoted text has it as an escape";
-    assert_tree_fault("\tFile\n", &format!("line 3, column 1: byte 09 {message}"));
+    assert_tree_fault("File\tx\n", &format!("line 3, column 5: byte 09 {message}"));
     assert_tree_fault("File\r \n", &format!("line 3, column 5: byte 0D {message}"));
     assert_tree_fault("File \x7f", &format!("line 3, column 6: byte 7F {message}"));
     assert_tree_fault("File\u{A0}", &format!("line 3, column 5: character U+00A0 {message}"));
@@ -113,7 +113,11 @@ fn places_behind_letters_of_several_bytes() {
 #[test]
 fn spans_of_nodes() {
     let number = "expected a number from 0 to 4294967295";
-    assert_tree_fault("File x\n", &format!("line 3, column 6: {number}"));
+    assert_tree_fault("File x\n", "line 3, column 6: expected a quoted text or a span");
+    assert_tree_fault("File\n  BareWord a\n", "line 4, column 12: expected a quoted text or a span");
+    assert_tree_fault("File 'a'\n", "line 3, column 6: expected a quoted text or a span");
+    assert_tree_fault("File -1 to 3\n", "line 3, column 6: expected a quoted text or a span");
+    assert_tree_fault("File 0x to 3\n", &format!("line 3, column 6: {number}"));
     assert_tree_fault("File 4294967296 to 0\n", &format!("line 3, column 6: {number}"));
     assert_tree_fault("File 0\n", "line 3, column 7: expected to");
     assert_tree_fault("File 0 2\n", "line 3, column 8: expected to");
@@ -151,6 +155,9 @@ fn places_of_tokens() {
 
 #[test]
 fn indents() {
+    let tab = "indent with blanks: a tab can't stand here";
+    assert_tree_fault("\tFile\n", &format!("line 3, column 1: {tab}"));
+    assert_tree_fault("File\n  \tBareWord \"a\"\n", &format!("line 4, column 3: {tab}"));
     assert_tree_fault("File\n BareWord \"a\"\n", "line 4, column 2: an indent is two blanks a level");
     assert_tree_fault("File\n   BareWord \"a\"\n", "line 4, column 4: an indent is two blanks a level");
     assert_tree_fault("  File\n", "line 3, column 3: indented too far: at most 0 blanks here");

@@ -59,11 +59,11 @@ fn stored_list() -> Result<Vec<u8>, String> {
 }
 
 fn number(text: &str) -> Result<u64, String> {
-    text.parse().map_err(|_| format!("{text} is not a number\n{USAGE}"))
+    text.parse().map_err(|_| format!("{} is not a number\n{USAGE}", text.escape_debug()))
 }
 
 fn class_named(name: &str) -> Result<Class, String> {
-    Class::named(name).ok_or(format!("{name} is not a class\n{USAGE}"))
+    Class::named(name).ok_or(format!("{} is not a class\n{USAGE}", name.escape_debug()))
 }
 
 fn print_case(seed: &str, class: &str, index: &str) -> Result<String, String> {

@@ -74,6 +74,16 @@ fn a_stored_list_has_a_record_for_each_name() {
 }
 
 #[test]
+fn messages_have_no_control_bytes() {
+    needs_source!();
+    let output = oracle(&["stored"], b"\x1B[2J 1\x07\n");
+    assert_eq!(output.status.code(), Some(2));
+    assert_eq!(output.stderr, b"oracle: no call has the name: \\u{1b}[2J 1\\u{7}\n");
+    assert_bad_call(&["case", "\x1B", "parser", "0"], "\\u{1b} is not a number");
+    assert_bad_call(&["case", "1", "\x1B", "0"], "\\u{1b} is not a class");
+}
+
+#[test]
 fn a_job_is_answered_on_standard_output() {
     needs_source!();
     let job = [0x10, 4, 0x11, 1, 0x12, 1, 0, 0, 0, 0x61, 1, 0, 0, 0, 0, 0, 0, 1, 0, 0, 0, 3];

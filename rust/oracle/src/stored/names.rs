@@ -13,7 +13,8 @@ pub fn call(line: &str) -> Result<Case, String> {
         [seed, class, index, which] => generated(seed, class, index).and_then(|made| of_pair(made, which)),
         _ => None,
     };
-    case.ok_or(format!("no call has the name: {line}"))
+    // A name comes from a file: no control byte of it goes to the terminal.
+    case.ok_or_else(|| format!("no call has the name: {}", line.escape_debug()))
 }
 
 fn generated(seed: &str, class: &str, index: &str) -> Option<Made> {
