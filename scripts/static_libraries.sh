@@ -13,6 +13,10 @@ for library in keywords formatter; do
     kept=target/staticlib/$library.made
     if made "$library" 2>/dev/null | cmp -s - "$kept"; then
         echo "static library $library: made before"
+        # Sources that were written again and are the same are no reason for qdesk's build script to take the library for an old one.
+        if [ -n "$(find crates/*/src -newer "target/staticlib/lib$library.a")" ]; then
+            touch "target/staticlib/lib$library.a"
+        fi
     else
         rt staticlib "$library"
         made "$library" >"$kept"

@@ -1,12 +1,14 @@
-//! What the build script says where the library is not at hand.
+//! What the build script says where the library is not at hand or too old, and that it proves nothing.
 
 #[allow(dead_code)]
 #[path = "../build.rs"]
 mod build_script;
 
-use build_script::{named_folder, repository_folder, LIBRARY};
-use std::fs;
+use build_script::{named_folder, newer_source, repository_folder, LIBRARY};
+use std::fs::{self, File};
 use std::path::{Path, PathBuf};
+use std::process::Command;
+use std::time::{Duration, SystemTime};
 
 /// An empty folder of a test's own.
 fn empty(name: &str) -> PathBuf {
@@ -44,39 +46,56 @@ fn a_named_folder_has_its_full_path() {
 }
 
 #[test]
-fn the_repositorys_library_is_taken_and_not_made() {
+fn the_repositorys_library_is_taken() {
     let repository = filled("repository", "target/staticlib");
-    assert_eq!(repository_folder(&repository, "no-such-program"), Ok(repository.join("target/staticlib")));
+    assert_eq!(repository_folder(&repository), Ok(repository.join("target/staticlib")));
 }
 
 #[test]
-fn a_missing_library_is_made() {
-    let repository = empty("made");
-    // `sh staticlib formatter` runs this file.
-    let script = "mkdir -p target/staticlib && echo \"$1\" > target/staticlib/libformatter.a";
-    fs::write(repository.join("staticlib"), script).unwrap();
-    let folder = repository_folder(&repository, "sh").unwrap();
-    assert_eq!(fs::read_to_string(folder.join(LIBRARY)).unwrap(), "formatter\n");
+fn where_there_is_no_library_it_is_said_how_it_is_made_and_how_long_that_takes() {
+    let message = repository_folder(&empty("no_library")).unwrap_err();
+    assert!(message.starts_with("no target/staticlib/libformatter.a in the repository: run `rt staticlib formatter`"));
+    assert!(message.contains("3 to 7 minutes") && message.contains("set QDESK_LIB_DIR"), "{message}");
+}
+
+/// A file of a repository, changed so many seconds after the library was made.
+fn changed(repository: &Path, file: &str, after: u64) {
+    let path = repository.join(file);
+    fs::create_dir_all(path.parent().unwrap()).unwrap();
+    let time = SystemTime::UNIX_EPOCH + Duration::from_secs(1_000_000 + after);
+    File::create(path).unwrap().set_modified(time).unwrap();
 }
 
 #[test]
-fn a_missing_library_and_no_rt() {
-    let message = repository_folder(&empty("no_rt"), "no-such-program").unwrap_err();
-    assert!(
-        message.starts_with("no target/staticlib/libformatter.a in the repository, and `no-such-program`"),
-        "{message}"
-    );
-    assert!(message.contains("run `rt staticlib formatter` there, or set QDESK_LIB_DIR"), "{message}");
+fn a_library_that_is_older_than_its_sources_is_told() {
+    let repository = empty("older");
+    let list = "# NAME: what it depends on\nbasics:\ntape: basics\nformatter: tape\ndesk: formatter\n";
+    fs::write(repository.join("crates.txt"), list).unwrap();
+    changed(&repository, "target/staticlib/libformatter.a", 1);
+    changed(&repository, "crates/basics/src/lib.rt", 0);
+    changed(&repository, "crates/formatter/src/lib.rt", 1);
+    changed(&repository, "crates/desk/src/main.rt", 2);
+    assert_eq!(newer_source(&repository), None);
+    changed(&repository, "crates/basics/src/lib.rt", 2);
+    assert_eq!(newer_source(&repository), Some(PathBuf::from("crates/basics/src/lib.rt")));
 }
 
+/// `cargo package` builds the crate outside of its repository, where it finds no library: it says so at once, and no `rt` is started.
 #[test]
-fn a_missing_library_and_an_rt_that_fails() {
-    let message = repository_folder(&empty("rt_fails"), "false").unwrap_err();
-    assert_eq!(message, "`false staticlib formatter` ended with exit status: 1: run it in the repository to see why");
-}
-
-#[test]
-fn a_missing_library_and_an_rt_that_writes_nothing() {
-    let message = repository_folder(&empty("rt_idle"), "true").unwrap_err();
-    assert_eq!(message, "`true staticlib formatter` ended well and wrote no target/staticlib/libformatter.a");
+fn a_package_starts_no_proof() {
+    let folder = empty("package");
+    fs::write(folder.join("rt"), "#!/bin/sh\n: > \"$(dirname \"$0\")/started\"\n").unwrap();
+    assert!(Command::new("chmod").arg("+x").arg(folder.join("rt")).status().unwrap().success());
+    let path = format!("{}:{}", folder.display(), std::env::var("PATH").unwrap());
+    let package = Command::new(env!("CARGO"))
+        .args(["package", "--offline", "--allow-dirty", "--package", "qdesk", "--target-dir"])
+        .arg(folder.join("target"))
+        .current_dir(env!("CARGO_MANIFEST_DIR"))
+        .env("PATH", path)
+        .env_remove("QDESK_LIB_DIR")
+        .output()
+        .unwrap();
+    let errors = String::from_utf8_lossy(&package.stderr);
+    assert!(errors.contains("no target/staticlib/libformatter.a in the repository"), "{errors}");
+    assert!(!folder.join("started").exists(), "{errors}");
 }
