@@ -70,7 +70,7 @@ enum qdesk_number {
                                    root (value: the tape's length) */
     QDESK_SPACE_TOO_SHORT = 13, /* output space below the needed length (laying out only); value: the needed length */
     QDESK_SPAN_INSIDE_CHARACTER = 15, /* token, or node with start not above end, that starts or ends inside a character */
-    QDESK_WORD_NOT_ASCII = 16,  /* token of kind BareWord with a byte above 127 */
+    QDESK_WORD_NOT_ASCII = 16   /* token of kind BareWord with a byte above 127 */
 };
 
 /* The length of the layout, or a refusal other than 13. */

@@ -1,6 +1,7 @@
 #!/bin/sh
-# Compiles and runs the C tests (tests/c) as C and as C++, without and with the compiler's checks of addresses and undefined behaviour, where
-# it has them. Needs scripts/static_libraries.sh first.
+# Compiles the header alone by every compiler at hand, as the oldest C and C++ that it is for and as later ones. Compiles and runs the C tests
+# (tests/c) as C and as C++, without and with the compiler's checks of addresses and undefined behaviour, where it has them. Needs
+# scripts/static_libraries.sh first.
 set -eu
 cd "$(dirname "$0")/.."
 built=target/c_tests
@@ -29,8 +30,29 @@ try_both() { # NAME COMPILER WORDS...
     fi
 }
 
+# Compiles the header, included twice, with no word of complaint.
+header() { # LANGUAGE STANDARD COMPILERS...
+    language=$1 standard=$2
+    shift 2
+    for compiler; do
+        if command -v "$compiler" >/dev/null; then
+            "$compiler" -x "$language" "-std=$standard" -Wall -Wextra -pedantic -Werror -fsyntax-only -Iinclude "$built/header.c"
+            headers=$((headers + 1))
+        fi
+    done
+}
+
+printf '#include "qdesk.h"\n#include "qdesk.h"\n' >"$built/header.c"
+headers=0
+for standard in c90 c99 c11 c17; do
+    header c $standard "${CC:-cc}" gcc clang
+done
+for standard in c++98 c++11 c++17; do
+    header c++ $standard "${CXX:-c++}" g++ clang++
+done
+
 for test in tests/c/*.c; do
     try_both "$(basename "$test" .c)" "${CC:-cc}" -std=c11
     try_both "$(basename "$test" .c)" "${CXX:-c++}" -x c++ -std=c++11
 done
-echo "C tests: $runs runs passed"
+echo "C tests: the header compiles in $headers ways, $runs runs passed"

@@ -57,7 +57,9 @@ fn the_refusals_are_those_of_the_header() {
     let source = read("include/qdesk.h");
     let (_, list) = source.split_once("enum qdesk_number {").expect("the header's enum");
     let (list, _) = list.split_once("};").expect("its end");
-    let header: Vec<&str> = list.lines().filter_map(|line| line.trim().split_once(',')).map(|pair| pair.0).collect();
+    let entries = list.lines().map(str::trim).filter(|line| line.starts_with("QDESK_"));
+    let header: Vec<&str> =
+        entries.filter_map(|line| line.split("/*").next()).map(|e| e.trim_end_matches([',', ' '])).collect();
     let refusals = Refusal::ALL.iter().map(|refusal| (constant(&format!("{refusal:?}")), *refusal as u64));
     let here: Vec<String> = std::iter::once(("ACCEPTED".to_string(), 0))
         .chain(refusals)
