@@ -1,17 +1,23 @@
 #!/bin/sh
-# Runs each command of README.md (a line that begins with four blanks and a dollar sign) as it is printed there, and holds what it prints to
-# the lines below it, where there are any.
+# Runs each command of README.md and examples/README.md (a line that begins with four blanks and a dollar sign) as it is printed there, and holds
+# what it prints to the lines below it, where there are any. None leaves a file behind that git would show.
 set -eu
 cd "$(dirname "$0")/.."
 folder=$(mktemp -d)
 trap 'rm -rf "$folder"' EXIT
+
+# The files that git neither has nor ignores; where this is no clone, none.
+untracked() {
+    git ls-files --others --exclude-standard 2>/dev/null || :
+}
 
 # Each command to N.command, and the block of lines below it to N.expected.
 awk -v folder="$folder" '
     /^    \$ / { n++; print substr($0, 7) > (folder "/" n ".command"); below = 1; next }
     /^    / && below { print substr($0, 5) > (folder "/" n ".expected"); next }
     { below = 0 }
-' README.md
+' README.md examples/README.md
+untracked >"$folder/before"
 
 n=0
 while [ -f "$folder/$((n + 1)).command" ]; do
@@ -25,5 +31,10 @@ while [ -f "$folder/$((n + 1)).command" ]; do
         exit 1
     fi
 done
+untracked >"$folder/after"
+if ! diff -u "$folder/before" "$folder/after"; then
+    echo "README: a command leaves files behind" >&2
+    exit 1
+fi
 echo "README: $n commands run as printed"
 [ "$n" -gt 0 ]
