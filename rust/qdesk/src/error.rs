@@ -1,6 +1,8 @@
 //! Why a call was refused, and where.
 
+use crate::command::{command_at, Command};
 use crate::ffi::Answer;
+use crate::tape::TapeError;
 use std::fmt;
 
 /// The refusals, each with its number.
@@ -123,6 +125,15 @@ impl Error {
         self.refusal as u64
     }
 
+    /// The command of the tape that the place names: the faulty one for 6 to 12, 15 and 16. None for the others, for a command that is
+    /// unknown or cut (6, 7), and where the tape ends with no finished root.
+    pub fn command_in(self, tape: &[u8]) -> Option<Command> {
+        match self.number() {
+            6..=12 | 15 | 16 => command_at(tape, usize::try_from(self.place).ok()?),
+            _ => None,
+        }
+    }
+
     /// An offset in the text for 4, the faulty command's offset in the tape for 6 to 12, 15 and 16, the needed length for 13, else 0.
     pub fn place(self) -> u64 {
         self.place
@@ -142,3 +153,12 @@ impl fmt::Display for Error {
 }
 
 impl std::error::Error for Error {}
+
+/// What the library answers where the refused command is in the tape. So one error type serves for building a tape and for laying out.
+impl From<TapeError> for Error {
+    fn from(error: TapeError) -> Error {
+        let refusal = error.fault().refusal();
+        let place = if refusal == Refusal::TapeTooLong { 0 } else { error.place() as u64 };
+        Error { refusal, place }
+    }
+}

@@ -14,7 +14,7 @@
 //!
 //! let settings = Settings { indent_width: 4, case: Case::UPPER };
 //! assert_eq!(layout_to_string("a=1", &tape.finish()?, settings)?, "a = 1\n");
-//! # Ok::<(), Box<dyn std::error::Error>>(())
+//! # Ok::<(), qdesk::Error>(())
 //! ```
 //!
 //! The text is UTF-8, and words outside of quotes are ASCII. All offsets and lengths count bytes.
@@ -26,15 +26,17 @@
 #![deny(unsafe_code)]
 #![warn(missing_docs)]
 
+mod command;
 mod error;
 #[allow(unsafe_code)]
 mod ffi;
 mod kind;
 mod tape;
 
+pub use command::{command_at, commands, span_bytes, Command, Operands};
 pub use error::{Error, Refusal};
 pub use kind::Kind;
-pub use tape::{TapeBuilder, TapeError, MOST_BYTES, MOST_OPEN};
+pub use tape::{TapeBuilder, TapeError, TapeFault, MOST_BYTES, MOST_OPEN};
 
 /// The settings of a layout. Both are always the caller's: there is no default.
 ///
@@ -67,7 +69,7 @@ impl Case {
 /// let mut tape = TapeBuilder::new();
 /// tape.open(Kind::ColumnReference, 0..4)?.token(Kind::BareWord, 0..4)?.close()?;
 /// assert_eq!(measure(b"name", &tape.finish()?, Settings { indent_width: 4, case: Case::LOWER })?, 5);
-/// # Ok::<(), Box<dyn std::error::Error>>(())
+/// # Ok::<(), qdesk::Error>(())
 /// ```
 ///
 /// # Errors
@@ -93,7 +95,7 @@ pub fn measure(text: &[u8], tape: &[u8], settings: Settings) -> Result<usize, Er
 ///
 /// let error = layout(b"name", &tape, settings, &mut out[..4]).unwrap_err();
 /// assert_eq!((error.refusal(), error.place()), (Refusal::SpaceTooShort, 5));
-/// # Ok::<(), Box<dyn std::error::Error>>(())
+/// # Ok::<(), qdesk::Error>(())
 /// ```
 ///
 /// # Errors
@@ -105,7 +107,43 @@ pub fn layout(text: &[u8], tape: &[u8], settings: Settings, out: &mut [u8]) -> R
 
 /// The layout in a vector of its length.
 ///
-/// With indents, a tape within the limits can ask for gigabytes: who takes tapes from strangers calls [`measure`] first.
+/// # Tapes from strangers
+///
+/// Both calls take time in proportion to the lengths of text and tape where tokens do not overlap, as a parser's never do. Where they do,
+/// the lengths of the tokens and of the nodes copied as typed add up: with 23,800 tokens over the same 262,144 blanks measuring alone takes
+/// some 4 seconds, over as many letters it asks for 6 GB; and indents can ask for gigabytes. Who takes tapes from strangers looks at two
+/// numbers first:
+///
+/// ```
+/// use qdesk::{layout, measure, span_bytes, Case, Settings, MOST_OPEN};
+///
+/// /// The layout, if its tape is a tree that a parser could have made and it is short enough.
+/// fn guarded(text: &[u8], tape: &[u8], settings: Settings, most: usize) -> Option<Vec<u8>> {
+///     // Where siblings do not overlap, the spans of each of at most 64 levels, and those of the tokens, are at most the text.
+///     if span_bytes(tape) > (MOST_OPEN as u64 + 1) * text.len() as u64 {
+///         return None;
+///     }
+///     let length = measure(text, tape, settings).ok().filter(|length| *length <= most)?;
+///     let mut out = vec![0; length];
+///     layout(text, tape, settings, &mut out).ok()?;
+///     Some(out)
+/// }
+/// # use qdesk::{Kind, TapeBuilder};
+/// # let settings = Settings { indent_width: 4, case: Case::UPPER };
+/// # let tape = |tokens: usize| {
+/// #     let mut tape = TapeBuilder::new();
+/// #     tape.open(Kind::ColumnReference, 0..262_144)?;
+/// #     for _ in 0..tokens {
+/// #         tape.token(Kind::BareWord, 0..262_144)?;
+/// #     }
+/// #     tape.close()?;
+/// #     tape.finish()
+/// # };
+/// # assert_eq!(guarded(&[b'a'; 262_144], &tape(1)?, settings, 1_000_000).unwrap().len(), 262_145);
+/// # assert_eq!(guarded(&[b'a'; 262_144], &tape(1)?, settings, 262_144), None);
+/// # assert_eq!(guarded(&[b' '; 262_144], &tape(23_800)?, settings, 1_000_000), None);
+/// # Ok::<(), qdesk::Error>(())
+/// ```
 ///
 /// # Errors
 ///
@@ -135,10 +173,10 @@ pub fn layout_to_vec(text: &[u8], tape: &[u8], settings: Settings) -> Result<Vec
 /// tape.open(Kind::ColumnReference, 0..2)?.token(Kind::BareWord, 0..2)?.close()?;
 /// let error = layout_to_string("é", &tape.finish()?, settings).unwrap_err();
 /// assert_eq!(error.refusal(), Refusal::WordNotAscii);
-/// # Ok::<(), Box<dyn std::error::Error>>(())
+/// # Ok::<(), qdesk::Error>(())
 /// ```
 ///
-/// What is said of [`layout_to_vec`] about gigabytes holds here, too.
+/// What is said of [`layout_to_vec`] about tapes from strangers holds here, too.
 ///
 /// # Errors
 ///

@@ -3,7 +3,7 @@
 mod common;
 
 use common::{nested_files, open, token, CLOSE, PLAIN};
-use qdesk::{measure, Kind, TapeBuilder, TapeError, MOST_BYTES, MOST_OPEN};
+use qdesk::{measure, Command, Error, Kind, Operands, TapeBuilder, TapeError, TapeFault, MOST_BYTES, MOST_OPEN};
 use std::ops::Range;
 
 /// A span that runs backwards, and no literal that could be a slip.
@@ -23,63 +23,67 @@ fn closed() -> TapeBuilder {
     tape
 }
 
-/// Checks the error and its words.
-fn assert_refused<T: std::fmt::Debug>(result: Result<T, TapeError>, error: TapeError, words: &str) {
-    assert_eq!(result.unwrap_err(), error);
+/// Checks the fault and the error's words.
+fn assert_refused<T: std::fmt::Debug>(result: Result<T, TapeError>, fault: TapeFault, words: &str) {
+    let error = result.unwrap_err();
+    assert_eq!(error.fault(), fault);
     assert_eq!(error.to_string(), words);
 }
 
 #[test]
 fn token_or_close_before_the_root() {
-    let words = "no node is open: the first command opens the root";
-    assert_refused(TapeBuilder::new().token(Kind::BareWord, 0..1), TapeError::NoNodeOpen, words);
-    assert_refused(TapeBuilder::new().close(), TapeError::NoNodeOpen, words);
+    let words = "no node is open, and the first command opens the root: token BareWord from 0 to 1 at tape offset 0";
+    assert_refused(TapeBuilder::new().token(Kind::BareWord, 0..1), TapeFault::NoNodeOpen, words);
+    let words = "no node is open, and the first command opens the root: close at tape offset 0";
+    assert_refused(TapeBuilder::new().close(), TapeFault::NoNodeOpen, words);
 }
 
 #[test]
 fn token_or_close_after_the_root() {
-    let words = "the root is closed: no command may follow";
-    assert_refused(closed().token(Kind::BareWord, 0..1), TapeError::AfterRoot, words);
-    assert_refused(closed().close(), TapeError::AfterRoot, words);
+    let words = "the root is closed, and no command may follow: token BareWord from 0 to 1 at tape offset 12";
+    assert_refused(closed().token(Kind::BareWord, 0..1), TapeFault::AfterRoot, words);
+    let words = "the root is closed, and no command may follow: close at tape offset 12";
+    assert_refused(closed().close(), TapeFault::AfterRoot, words);
 }
 
 #[test]
 fn second_root() {
-    let words = "the root is closed: a tape has no second one";
-    assert_refused(closed().open(Kind::File, 0..0), TapeError::SecondRoot, words);
+    let words = "the root is closed, and a tape has no second one: node File from 0 to 0 at tape offset 12";
+    assert_refused(closed().open(Kind::File, 0..0), TapeFault::SecondRoot, words);
 }
 
 #[test]
 fn tape_without_a_root() {
-    assert_refused(TapeBuilder::new().finish(), TapeError::NoRoot, "the tape has no root node");
+    assert_refused(TapeBuilder::new().finish(), TapeFault::NoRoot, "the tape has no root node at tape offset 0");
 }
 
 #[test]
 fn nodes_left_open() {
-    assert_refused(opened().finish(), TapeError::StillOpen(1), "1 node is still open");
+    assert_refused(opened().finish(), TapeFault::StillOpen(1), "1 node is still open at tape offset 11");
     let mut tape = opened();
     tape.open(Kind::SelectStatement, 0..0).unwrap();
-    assert_refused(tape.finish(), TapeError::StillOpen(2), "2 nodes are still open");
+    assert_refused(tape.finish(), TapeFault::StillOpen(2), "2 nodes are still open at tape offset 22");
 }
 
 #[test]
 fn kind_past_the_last() {
-    let words = "kind 258 is past the last, 257";
-    assert_refused(TapeBuilder::new().open(258u16, 0..0), TapeError::UnknownKind(258), words);
-    assert_refused(opened().token(258u16, 0..0), TapeError::UnknownKind(258), words);
+    let words = "the kind's number is past the last, 257: node of kind 258 from 0 to 0 at tape offset 0";
+    assert_refused(TapeBuilder::new().open(258u16, 0..0), TapeFault::UnknownKind(258), words);
+    let words = "the kind's number is past the last, 257: token of kind 258 from 0 to 0 at tape offset 11";
+    assert_refused(opened().token(258u16, 0..0), TapeFault::UnknownKind(258), words);
 }
 
 #[test]
 fn kind_not_carried_as_a_node() {
-    let words = "a node of kind SetStatement is not carried";
-    assert_refused(opened().open(Kind::SetStatement, 0..0), TapeError::KindNotCarried(Kind::SetStatement), words);
+    let words = "a node of this kind is not carried: node SetStatement from 0 to 0 at tape offset 11";
+    assert_refused(opened().open(Kind::SetStatement, 0..0), TapeFault::KindNotCarried(Kind::SetStatement), words);
     assert!(opened().token(Kind::SetStatement, 0..0).is_ok(), "a token may be of any kind");
 }
 
 #[test]
 fn token_that_runs_backwards() {
-    let words = "the token starts at 5, after its end at 3";
-    assert_refused(opened().token(Kind::BareWord, BACKWARDS), TapeError::Backwards { start: 5, end: 3 }, words);
+    let words = "the token starts after its end: token BareWord from 5 to 3 at tape offset 11";
+    assert_refused(opened().token(Kind::BareWord, BACKWARDS), TapeFault::Backwards, words);
     assert!(opened().open(Kind::File, BACKWARDS).is_ok(), "a node may run backwards");
 }
 
@@ -89,8 +93,8 @@ fn a_65th_open_node() {
     for _ in 0..MOST_OPEN {
         tape.open(Kind::File, 0..0).unwrap();
     }
-    let words = "64 nodes are open, and no more may be";
-    assert_refused(tape.open(Kind::File, 0..0), TapeError::TooDeep, words);
+    let words = "64 nodes are open, and no more may be: node File from 0 to 0 at tape offset 704";
+    assert_refused(tape.open(Kind::File, 0..0), TapeFault::TooDeep, words);
     for _ in 0..MOST_OPEN {
         tape.close().unwrap();
     }
@@ -107,10 +111,12 @@ fn tape_of_262144_bytes_and_no_more() {
         tape.token(Kind::BareWord, 0..0).unwrap();
     }
     let words = "the tape would be longer than 262144 bytes";
-    assert_refused(tape.open(Kind::File, 0..0), TapeError::TooLong, words);
-    assert_refused(tape.token(Kind::BareWord, 0..0), TapeError::TooLong, words);
+    let open = format!("{words}: node File from 0 to 0 at tape offset 262141");
+    assert_refused(tape.open(Kind::File, 0..0), TapeFault::TooLong, &open);
+    let token = format!("{words}: token BareWord from 0 to 0 at tape offset 262141");
+    assert_refused(tape.token(Kind::BareWord, 0..0), TapeFault::TooLong, &token);
     tape.close().unwrap().close().unwrap().close().unwrap();
-    assert_refused(tape.close(), TapeError::TooLong, words);
+    assert_refused(tape.close(), TapeFault::TooLong, &format!("{words}: close at tape offset 262144"));
     let tape = tape.finish().unwrap();
     assert_eq!(tape.len(), MOST_BYTES);
     assert!(measure(b"", &tape, PLAIN).is_ok());
@@ -125,6 +131,24 @@ fn a_refused_call_changes_nothing() {
     tape.close().unwrap_err();
     tape.open(Kind::File, 0..0).unwrap_err();
     assert_eq!(tape.finish().unwrap(), nested_files(1));
+}
+
+#[test]
+fn an_error_has_its_place_and_command() {
+    let error = opened().token(Kind::BareWord, BACKWARDS).unwrap_err();
+    let command = Command::Token(Operands { kind: Kind::BareWord.into(), start: 5, end: 3 });
+    assert_eq!((error.place(), error.command()), (11, Some(command)));
+    let error = opened().finish().unwrap_err();
+    assert_eq!((error.place(), error.command()), (11, None));
+}
+
+/// A tape that is too long has no place in the library's answer either.
+#[test]
+fn a_tape_that_is_too_long_is_the_librarys_5_at_0() {
+    let tape = [common::open(Kind::File, 0, 0), common::token(Kind::BareWord, 0, 0).repeat(23_831)].concat();
+    let mut builder = opened();
+    let error = (0..23_831).find_map(|_| builder.token(Kind::BareWord, 0..0).err()).expect("too long");
+    assert_eq!(Err(Error::from(error)), measure(b"", &tape, PLAIN));
 }
 
 /// A builder's call and the command that it spells.
@@ -166,33 +190,19 @@ const CALLS: [Call; 9] = [
     Call::Close,
 ];
 
-/// The library's number for what the builder refuses.
-fn number(error: TapeError) -> u64 {
-    match error {
-        TapeError::TooLong => 5,
-        TapeError::UnknownKind(_) => 8,
-        TapeError::KindNotCarried(_) => 9,
-        TapeError::Backwards { .. } => 10,
-        TapeError::TooDeep => 11,
-        _ => 12,
-    }
-}
-
-/// The tape of the calls, or the number of the first that the builder refuses and the tape's length before it.
-fn built(calls: &[Call]) -> Result<Vec<u8>, (u64, u64)> {
+/// The tape of the calls, or the error of the first that the builder refuses.
+fn built(calls: &[Call]) -> Result<Vec<u8>, Error> {
     let mut tape = TapeBuilder::new();
-    let mut length = 0;
     for call in calls {
-        call.made(&mut tape).map_err(|error| (number(error), length))?;
-        length += call.spelt().len() as u64;
+        call.made(&mut tape)?;
     }
-    tape.finish().map_err(|error| (number(error), length))
+    Ok(tape.finish()?)
 }
 
 /// Checks that builder and library accept or refuse the calls alike, and that the builder spells the commands.
 fn assert_alike(calls: &[Call]) {
     let spelt: Vec<u8> = calls.iter().flat_map(|call| call.spelt()).collect();
-    let library = measure(b"", &spelt, PLAIN).map_err(|error| (error.number(), error.place()));
+    let library = measure(b"", &spelt, PLAIN);
     let built = built(calls);
     assert_eq!(built.as_ref().map(|_| ()), library.as_ref().map(|_| ()), "tape {spelt:?}");
     if let Ok(tape) = built {
