@@ -25,6 +25,9 @@ mod present {
     /// The source's own tree.
     pub type Tree = SyntaxTree;
 
+    /// A child in it.
+    pub type TreeChild = SyntaxChild;
+
     /// A node as the source's own tree, spans as in the tape.
     pub fn tree(node: &Node) -> Tree {
         let children = node.children.iter().map(child).collect();
@@ -72,9 +75,20 @@ pub use present::*;
 #[cfg(not(has_source))]
 mod absent {
     use super::HINT;
-    use crate::tape::Node;
+    use crate::tape::{Node, Token};
 
-    pub struct Tree;
+    /// The shape of the source's tree.
+    pub struct Tree {
+        pub kind: u16,
+        pub children: Vec<TreeChild>,
+        pub start: u32,
+        pub end: u32,
+    }
+
+    pub enum TreeChild {
+        Token(Token),
+        Tree(Tree),
+    }
 
     pub fn tree(_node: &Node) -> Tree {
         panic!("{HINT}")

@@ -2,6 +2,7 @@
 
 use qdesk::{layout_to_string, Case, Kind, Settings, TapeBuilder, TapeError};
 use std::error::Error;
+use std::io::{self, Write};
 
 pub const TEXT: &str = "select a,b from t";
 
@@ -24,6 +25,7 @@ pub fn tape() -> Result<Vec<u8>, TapeError> {
 
 fn main() -> Result<(), Box<dyn Error>> {
     let settings = Settings { indent_width: 4, case: Case::UPPER };
-    print!("before:\n\n{TEXT}\n\nafter:\n\n{}", layout_to_string(TEXT, &tape()?, settings)?);
-    Ok(())
+    let mut out = io::stdout().lock();
+    write!(out, "before:\n\n{TEXT}\n\nafter:\n\n{}", layout_to_string(TEXT, &tape()?, settings)?)?;
+    Ok(out.flush()?)
 }
