@@ -11,7 +11,7 @@
  *                      03 closes the innermost open node
  *                    with one root node, and at most 64 nodes open at once. Start and end are offsets in the text, in bytes, and inside
  *                    no character: a token's text is from start up to, not including, end. Tokens of kind BareWord are ASCII. A kind's
- *                    number is its place in clickhouse-analyzer's SyntaxKind, from 0 (crates/tape/src/syntax_kind.rt has them all)
+ *                    number is its place in clickhouse-analyzer's SyntaxKind, from 0 (qdesk_kinds.h has them all by name)
  *   width            blanks for each level of indent, 0 to 16
  *   case_byte        the case of keywords, 0 lower or 1 upper
  *   out, out_len     the output space
@@ -29,6 +29,11 @@
  *   - An accepted layout of length L is in the first L bytes of `out`. Later bytes stay as they were.
  *   - A refusal writes no byte. Measuring never writes.
  *
+ * Both calls take time in proportion to the lengths of text and tape where tokens do not overlap, as a parser's never do. Where they do, the
+ * lengths of the tokens and of the nodes copied as typed add up, to seconds at the limits, and a layout can ask for gigabytes. Who takes tapes from
+ * strangers adds up the lengths of all spans first and refuses more than QDESK_MOST_OPEN + 1 times the text's length, which no tree
+ * without overlapping siblings has; then measures, and refuses what is too long.
+ *
  * The calls use no heap and keep no state: any number of threads may make them at once. They take about 40 KB of stack, and less than 1 KB
  * more for each of at most 64 nested nodes: 128 KiB are enough (by tests, not by proof).
  */
@@ -41,6 +46,13 @@
 #ifdef __cplusplus
 extern "C" {
 #endif
+
+#define QDESK_VERSION "0.1.0"
+
+/* The limits: bytes of a text and of a tape, nodes open at once, blanks for each level. */
+#define QDESK_MOST_BYTES 262144
+#define QDESK_MOST_OPEN 64
+#define QDESK_MOST_WIDTH 16
 
 struct qdesk_answer {
     uint64_t number; /* one of enum qdesk_number */
@@ -72,6 +84,35 @@ enum qdesk_number {
     QDESK_SPAN_INSIDE_CHARACTER = 15, /* token, or node with start not above end, that starts or ends inside a character */
     QDESK_WORD_NOT_ASCII = 16   /* token of kind BareWord with a byte above 127 */
 };
+
+/* The name of an answer's number, as "QDESK_SPAN_OUTSIDE" for 10; null for a number that no call answers. */
+static inline const char *qdesk_number_name(uint64_t number)
+{
+#define QDESK_NAME(name) \
+    case name:           \
+        return #name
+    switch (number) {
+        QDESK_NAME(QDESK_ACCEPTED);
+        QDESK_NAME(QDESK_INDENT_WIDTH);
+        QDESK_NAME(QDESK_CASE_BYTE);
+        QDESK_NAME(QDESK_TEXT_TOO_LONG);
+        QDESK_NAME(QDESK_NOT_UTF8);
+        QDESK_NAME(QDESK_TAPE_TOO_LONG);
+        QDESK_NAME(QDESK_UNKNOWN_COMMAND);
+        QDESK_NAME(QDESK_CUT_COMMAND);
+        QDESK_NAME(QDESK_UNKNOWN_KIND);
+        QDESK_NAME(QDESK_KIND_NOT_CARRIED);
+        QDESK_NAME(QDESK_SPAN_OUTSIDE);
+        QDESK_NAME(QDESK_TOO_DEEP);
+        QDESK_NAME(QDESK_NOT_ONE_ROOT);
+        QDESK_NAME(QDESK_SPACE_TOO_SHORT);
+        QDESK_NAME(QDESK_SPAN_INSIDE_CHARACTER);
+        QDESK_NAME(QDESK_WORD_NOT_ASCII);
+    default:
+        return NULL;
+    }
+#undef QDESK_NAME
+}
 
 /* The length of the layout, or a refusal other than 13. */
 struct qdesk_answer qdesk_measure(const uint8_t *text, size_t text_len, const uint8_t *tape, size_t tape_len, uint64_t width,

@@ -1,5 +1,5 @@
 #!/bin/sh
-# Compiles the header alone by every compiler at hand, as the oldest C and C++ that it is for and as later ones. Compiles and runs the C tests
+# Compiles the headers alone by every compiler at hand, as the oldest C and C++ that they are for and as later ones. Compiles and runs the C tests
 # (tests/c) as C and as C++, without and with the compiler's checks of addresses and undefined behaviour, where it has them. Needs
 # scripts/static_libraries.sh first.
 set -eu
@@ -30,7 +30,7 @@ try_both() { # NAME COMPILER WORDS...
     fi
 }
 
-# Compiles the header, included twice, with no word of complaint.
+# Compiles the headers, each included twice, with no word of complaint.
 header() { # LANGUAGE STANDARD COMPILERS...
     language=$1 standard=$2
     shift 2
@@ -42,12 +42,12 @@ header() { # LANGUAGE STANDARD COMPILERS...
     done
 }
 
-printf '#include "qdesk.h"\n#include "qdesk.h"\n' >"$built/header.c"
+printf '#include "%s.h"\n' qdesk_kinds qdesk qdesk_kinds qdesk >"$built/header.c"
 headers=0
-for standard in c90 c99 c11 c17; do
+for standard in c99 c11 c17; do
     header c $standard "${CC:-cc}" gcc clang
 done
-for standard in c++98 c++11 c++17; do
+for standard in c++11 c++17; do
     header c++ $standard "${CXX:-c++}" g++ clang++
 done
 
@@ -55,4 +55,4 @@ for test in tests/c/*.c; do
     try_both "$(basename "$test" .c)" "${CC:-cc}" -std=c11
     try_both "$(basename "$test" .c)" "${CXX:-c++}" -x c++ -std=c++11
 done
-echo "C tests: the header compiles in $headers ways, $runs runs passed"
+echo "C tests: the headers compile in $headers ways, $runs runs passed"

@@ -3,6 +3,7 @@
  * compiles it as both and holds what it prints to layout.out.
  */
 #include "qdesk.h"
+#include "qdesk_kinds.h"
 
 #include <inttypes.h>
 #include <stdio.h>
@@ -10,19 +11,6 @@
 #include <string.h>
 
 enum command { OPEN = 1, TOKEN = 2, CLOSE = 3 };
-
-enum kind {
-    KIND_FILE = 1,
-    KIND_SELECT_STATEMENT = 3,
-    KIND_SELECT_CLAUSE = 34,
-    KIND_FROM_CLAUSE = 35,
-    KIND_TABLE_IDENTIFIER = 98,
-    KIND_COLUMN_REFERENCE = 137,
-    KIND_COLUMN_LIST = 176,
-    KIND_WHITESPACE = 209,
-    KIND_BARE_WORD = 211,
-    KIND_COMMA = 221
-};
 
 struct tape {
     uint8_t bytes[256];
@@ -42,7 +30,7 @@ static void put(struct tape *tape, uint32_t number, size_t count)
 }
 
 /* Adds a command that has a kind and a span. */
-static void put_span(struct tape *tape, enum command command, enum kind kind, uint32_t start, uint32_t end)
+static void put_span(struct tape *tape, enum command command, enum qdesk_kind kind, uint32_t start, uint32_t end)
 {
     put(tape, command, 1);
     put(tape, kind, 2);
@@ -56,32 +44,32 @@ static void put_close(struct tape *tape)
 }
 
 /* Adds a node that holds one word. */
-static void put_name(struct tape *tape, enum kind kind, uint32_t start, uint32_t end)
+static void put_name(struct tape *tape, enum qdesk_kind kind, uint32_t start, uint32_t end)
 {
     put_span(tape, OPEN, kind, start, end);
-    put_span(tape, TOKEN, KIND_BARE_WORD, start, end);
+    put_span(tape, TOKEN, QDESK_KIND_BARE_WORD, start, end);
     put_close(tape);
 }
 
 /* Spells the tree that a parser makes of `select a,b from t`. */
 static void put_query(struct tape *tape)
 {
-    put_span(tape, OPEN, KIND_FILE, 0, 17);
-    put_span(tape, OPEN, KIND_SELECT_STATEMENT, 0, 17);
-    put_span(tape, OPEN, KIND_SELECT_CLAUSE, 0, 10);
-    put_span(tape, TOKEN, KIND_BARE_WORD, 0, 6);
-    put_span(tape, TOKEN, KIND_WHITESPACE, 6, 7);
-    put_span(tape, OPEN, KIND_COLUMN_LIST, 7, 10);
-    put_name(tape, KIND_COLUMN_REFERENCE, 7, 8);
-    put_span(tape, TOKEN, KIND_COMMA, 8, 9);
-    put_name(tape, KIND_COLUMN_REFERENCE, 9, 10);
+    put_span(tape, OPEN, QDESK_KIND_FILE, 0, 17);
+    put_span(tape, OPEN, QDESK_KIND_SELECT_STATEMENT, 0, 17);
+    put_span(tape, OPEN, QDESK_KIND_SELECT_CLAUSE, 0, 10);
+    put_span(tape, TOKEN, QDESK_KIND_BARE_WORD, 0, 6);
+    put_span(tape, TOKEN, QDESK_KIND_WHITESPACE, 6, 7);
+    put_span(tape, OPEN, QDESK_KIND_COLUMN_LIST, 7, 10);
+    put_name(tape, QDESK_KIND_COLUMN_REFERENCE, 7, 8);
+    put_span(tape, TOKEN, QDESK_KIND_COMMA, 8, 9);
+    put_name(tape, QDESK_KIND_COLUMN_REFERENCE, 9, 10);
     put_close(tape);
     put_close(tape);
-    put_span(tape, TOKEN, KIND_WHITESPACE, 10, 11);
-    put_span(tape, OPEN, KIND_FROM_CLAUSE, 11, 17);
-    put_span(tape, TOKEN, KIND_BARE_WORD, 11, 15);
-    put_span(tape, TOKEN, KIND_WHITESPACE, 15, 16);
-    put_name(tape, KIND_TABLE_IDENTIFIER, 16, 17);
+    put_span(tape, TOKEN, QDESK_KIND_WHITESPACE, 10, 11);
+    put_span(tape, OPEN, QDESK_KIND_FROM_CLAUSE, 11, 17);
+    put_span(tape, TOKEN, QDESK_KIND_BARE_WORD, 11, 15);
+    put_span(tape, TOKEN, QDESK_KIND_WHITESPACE, 15, 16);
+    put_name(tape, QDESK_KIND_TABLE_IDENTIFIER, 16, 17);
     put_close(tape);
     put_close(tape);
     put_close(tape);
@@ -106,7 +94,7 @@ static void print_answer(const char *call, struct qdesk_answer answer)
     } else if (answer.number == QDESK_SPACE_TOO_SHORT) {
         printf("%s: refused (13), %" PRIu64 " bytes are needed\n", call, answer.value);
     } else {
-        printf("%s: refused (%" PRIu64 ") at %" PRIu64 "\n", call, answer.number, answer.value);
+        printf("%s: %s (%" PRIu64 ") at %" PRIu64 "\n", call, qdesk_number_name(answer.number), answer.number, answer.value);
     }
 }
 

@@ -4,6 +4,7 @@
  * program. Good C and good C++: scripts/c_tests.sh compiles it as both.
  */
 #include "qdesk.h"
+#include "qdesk_kinds.h"
 
 #include <inttypes.h>
 #include <stdio.h>
@@ -14,21 +15,6 @@
 #define OPEN(kind, end) HEAD(1, kind, end)
 #define TOKEN(kind, end) HEAD(2, kind, end)
 #define CLOSE 3
-
-enum kind {
-    KIND_ERROR = 0,
-    KIND_FILE = 1,
-    KIND_COLUMN_REFERENCE = 137,
-    KIND_SUBQUERY_EXPRESSION = 158,
-    KIND_WHITESPACE = 209,
-    KIND_COMMENT = 210,
-    KIND_BARE_WORD = 211,
-    KIND_STRING_TOKEN = 213,
-    KIND_QUOTED_IDENTIFIER = 214,
-    KIND_OPENING_ROUND_BRACKET = 215,
-    KIND_CLOSING_ROUND_BRACKET = 216,
-    KIND_COMMA = 221
-};
 
 /* A call, and what it answers: a refusal of tape or settings, or a layout. */
 struct call {
@@ -46,24 +32,24 @@ static const struct call calls[] = {
     {"width 17", "", 17, 0, {0}, {QDESK_INDENT_WIDTH, 0}, ""},
     {"a text alone", "a", 4, 0, {0}, {QDESK_NOT_ONE_ROOT, 0}, ""},
     {"a close", "", 4, 1, {CLOSE}, {QDESK_NOT_ONE_ROOT, 0}, ""},
-    {"File with no child", "", 4, 12, {OPEN(KIND_FILE, 0), CLOSE}, {QDESK_ACCEPTED, 0}, ""},
-    {"Error, copied as typed", "", 4, 24, {OPEN(KIND_FILE, 0), OPEN(KIND_ERROR, 0), CLOSE, CLOSE}, {QDESK_ACCEPTED, 0}, ""},
-    {"a word of no bytes", "", 4, 23, {OPEN(KIND_COLUMN_REFERENCE, 0), TOKEN(KIND_BARE_WORD, 0), CLOSE}, {QDESK_ACCEPTED, 0}, ""},
-    {"a word", "a", 4, 23, {OPEN(KIND_COLUMN_REFERENCE, 1), TOKEN(KIND_BARE_WORD, 1), CLOSE}, {QDESK_ACCEPTED, 2}, "a\n"},
+    {"File with no child", "", 4, 12, {OPEN(QDESK_KIND_FILE, 0), CLOSE}, {QDESK_ACCEPTED, 0}, ""},
+    {"Error, copied as typed", "", 4, 24, {OPEN(QDESK_KIND_FILE, 0), OPEN(QDESK_KIND_ERROR, 0), CLOSE, CLOSE}, {QDESK_ACCEPTED, 0}, ""},
+    {"a word of no bytes", "", 4, 23, {OPEN(QDESK_KIND_COLUMN_REFERENCE, 0), TOKEN(QDESK_KIND_BARE_WORD, 0), CLOSE}, {QDESK_ACCEPTED, 0}, ""},
+    {"a word", "a", 4, 23, {OPEN(QDESK_KIND_COLUMN_REFERENCE, 1), TOKEN(QDESK_KIND_BARE_WORD, 1), CLOSE}, {QDESK_ACCEPTED, 2}, "a\n"},
     {"brackets of no bytes",
      "",
      4,
      34,
-     {OPEN(KIND_SUBQUERY_EXPRESSION, 0), TOKEN(KIND_OPENING_ROUND_BRACKET, 0), TOKEN(KIND_CLOSING_ROUND_BRACKET, 0), CLOSE},
+     {OPEN(QDESK_KIND_SUBQUERY_EXPRESSION, 0), TOKEN(QDESK_KIND_OPENING_ROUND_BRACKET, 0), TOKEN(QDESK_KIND_CLOSING_ROUND_BRACKET, 0), CLOSE},
      {QDESK_ACCEPTED, 5},
      "(\n\n)\n"},
     {"tokens of no bytes",
      "",
      4,
      111,
-     {OPEN(KIND_SUBQUERY_EXPRESSION, 0), TOKEN(KIND_OPENING_ROUND_BRACKET, 0), TOKEN(KIND_BARE_WORD, 0), TOKEN(KIND_COMMA, 0),
-      TOKEN(KIND_WHITESPACE, 0), TOKEN(KIND_COMMENT, 0), TOKEN(KIND_STRING_TOKEN, 0), TOKEN(KIND_QUOTED_IDENTIFIER, 0),
-      TOKEN(KIND_COMMENT, 0), TOKEN(KIND_CLOSING_ROUND_BRACKET, 0), CLOSE},
+     {OPEN(QDESK_KIND_SUBQUERY_EXPRESSION, 0), TOKEN(QDESK_KIND_OPENING_ROUND_BRACKET, 0), TOKEN(QDESK_KIND_BARE_WORD, 0), TOKEN(QDESK_KIND_COMMA, 0),
+      TOKEN(QDESK_KIND_WHITESPACE, 0), TOKEN(QDESK_KIND_COMMENT, 0), TOKEN(QDESK_KIND_STRING_TOKEN, 0), TOKEN(QDESK_KIND_QUOTED_IDENTIFIER, 0),
+      TOKEN(QDESK_KIND_COMMENT, 0), TOKEN(QDESK_KIND_CLOSING_ROUND_BRACKET, 0), CLOSE},
      {QDESK_ACCEPTED, 11},
      "(\n      \n)\n"},
 };

@@ -2,7 +2,7 @@
 
 mod common;
 
-use qdesk::{measure, Kind, Refusal};
+use qdesk::{measure, Kind, Refusal, MOST_BYTES, MOST_OPEN};
 use std::fs;
 use std::path::PathBuf;
 
@@ -52,18 +52,47 @@ fn the_library_carries_the_kinds_that_the_crate_names() {
     }
 }
 
+/// The entries of an enum in a header, as `NAME = number`, and what stands behind each.
+fn entries(header: &str, name: &str) -> Vec<(String, String)> {
+    let (_, list) = header.split_once(&format!("enum {name} {{")).expect("the header's enum");
+    let (list, _) = list.split_once("};").expect("its end");
+    let lines = list.lines().map(str::trim).filter(|line| line.starts_with("QDESK_"));
+    let parts = lines.map(|line| line.split_at(line.find("/*").unwrap_or(line.len())));
+    parts.map(|(entry, comment)| (entry.trim_end_matches([',', ' ']).to_string(), comment.to_string())).collect()
+}
+
 #[test]
 fn the_refusals_are_those_of_the_header() {
-    let source = read("include/qdesk.h");
-    let (_, list) = source.split_once("enum qdesk_number {").expect("the header's enum");
-    let (list, _) = list.split_once("};").expect("its end");
-    let entries = list.lines().map(str::trim).filter(|line| line.starts_with("QDESK_"));
-    let header: Vec<&str> =
-        entries.filter_map(|line| line.split("/*").next()).map(|e| e.trim_end_matches([',', ' '])).collect();
+    let header = read("include/qdesk.h");
     let refusals = Refusal::ALL.iter().map(|refusal| (constant(&format!("{refusal:?}")), *refusal as u64));
     let here: Vec<String> = std::iter::once(("ACCEPTED".to_string(), 0))
         .chain(refusals)
         .map(|(name, number)| format!("QDESK_{name} = {number}"))
         .collect();
-    assert_eq!(here, header);
+    let there: Vec<String> = entries(&header, "qdesk_number").into_iter().map(|(entry, _)| entry).collect();
+    assert_eq!(here, there);
+    let names: Vec<&str> =
+        header.lines().filter_map(|line| line.trim().strip_prefix("QDESK_NAME(QDESK_")?.strip_suffix(");")).collect();
+    assert_eq!(names, here.iter().map(|entry| &entry["QDESK_".len()..entry.find(' ').unwrap()]).collect::<Vec<_>>());
+}
+
+#[test]
+fn the_kinds_are_those_of_the_header() {
+    let here: Vec<(String, String)> = Kind::ALL
+        .iter()
+        .map(|kind| {
+            let mark = if kind.is_carried() { "" } else { "/* no node */" };
+            (format!("QDESK_KIND_{} = {}", constant(&format!("{kind:?}")), *kind as u16), mark.to_string())
+        })
+        .collect();
+    assert_eq!(here, entries(&read("include/qdesk_kinds.h"), "qdesk_kind"));
+}
+
+#[test]
+fn version_and_limits_are_those_of_the_header() {
+    let header = read("include/qdesk.h");
+    let defined = |line: String| assert!(header.lines().any(|there| there == line), "{line}");
+    defined(format!("#define QDESK_VERSION \"{}\"", env!("CARGO_PKG_VERSION")));
+    defined(format!("#define QDESK_MOST_BYTES {MOST_BYTES}"));
+    defined(format!("#define QDESK_MOST_OPEN {MOST_OPEN}"));
 }

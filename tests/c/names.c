@@ -1,0 +1,79 @@
+/*
+ * The kinds and answers by name: the library refuses the nodes that qdesk_kinds.h says it does, the numbers that it knows have names, and
+ * the limits are its own. Good C and good C++: scripts/c_tests.sh compiles it as both.
+ */
+#include "qdesk.h"
+#include "qdesk_kinds.h"
+
+#include <stdio.h>
+#include <string.h>
+
+static int faults = 0;
+
+static void check(int holds, const char *what, unsigned long number)
+{
+    if (!holds) {
+        printf("names: %s: %lu\n", what, number);
+        faults++;
+    }
+}
+
+/* What measuring answers for a node of this kind, alone over an empty text. */
+static uint64_t measured(unsigned kind)
+{
+    uint8_t tape[12] = {1, 0, 0, 0, 0, 0, 0, 0, 0, 0, 0, 3};
+    tape[1] = (uint8_t)(kind & 255);
+    tape[2] = (uint8_t)(kind >> 8);
+    return qdesk_measure(NULL, 0, tape, sizeof tape, 4, 1).number;
+}
+
+static void check_kinds(void)
+{
+    unsigned kind;
+    for (kind = 0; kind < QDESK_KINDS; kind++) {
+        uint64_t number = qdesk_kind_is_carried(kind) ? QDESK_ACCEPTED : QDESK_KIND_NOT_CARRIED;
+        check(measured(kind) == number, "a kind is carried or not as the header says", kind);
+    }
+    check(measured(QDESK_KINDS) == QDESK_UNKNOWN_KIND, "no kind is past the last", QDESK_KINDS);
+    check(!qdesk_kind_is_carried(QDESK_KINDS), "no kind past the last is carried", QDESK_KINDS);
+    check(QDESK_KIND_BARE_WORD == 211, "BareWord", QDESK_KIND_BARE_WORD);
+}
+
+static void check_names(void)
+{
+    unsigned long number;
+    for (number = 0; number <= QDESK_WORD_NOT_ASCII + 1; number++) {
+        const char *name = qdesk_number_name(number);
+        int known = number != 14 && number <= QDESK_WORD_NOT_ASCII;
+        check((name != NULL) == known, "a number has a name", number);
+    }
+    check(strcmp(qdesk_number_name(QDESK_SPAN_OUTSIDE), "QDESK_SPAN_OUTSIDE") == 0, "the name of 10", 10);
+}
+
+static void check_limits(void)
+{
+    static uint8_t blanks[QDESK_MOST_BYTES + 1];
+    uint8_t tape[12 * (QDESK_MOST_OPEN + 1)] = {0};
+    size_t open;
+    check(qdesk_measure(NULL, 0, NULL, 0, QDESK_MOST_WIDTH, 1).number == QDESK_NOT_ONE_ROOT, "the most width", QDESK_MOST_WIDTH);
+    check(qdesk_measure(NULL, 0, NULL, 0, QDESK_MOST_WIDTH + 1, 1).number == QDESK_INDENT_WIDTH, "one more", QDESK_MOST_WIDTH);
+    check(qdesk_measure(blanks, QDESK_MOST_BYTES, NULL, 0, 4, 1).number == QDESK_NOT_ONE_ROOT, "the longest text", QDESK_MOST_BYTES);
+    check(qdesk_measure(blanks, QDESK_MOST_BYTES + 1, NULL, 0, 4, 1).number == QDESK_TEXT_TOO_LONG, "one more", QDESK_MOST_BYTES);
+    check(qdesk_measure(NULL, 0, blanks, QDESK_MOST_BYTES, 4, 1).number == QDESK_UNKNOWN_COMMAND, "the longest tape", QDESK_MOST_BYTES);
+    check(qdesk_measure(NULL, 0, blanks, QDESK_MOST_BYTES + 1, 4, 1).number == QDESK_TAPE_TOO_LONG, "one more", QDESK_MOST_BYTES);
+    for (open = 0; open < QDESK_MOST_OPEN + 1; open++) {
+        tape[11 * open] = 1;
+        tape[11 * open + 1] = QDESK_KIND_FILE;
+    }
+    check(qdesk_measure(NULL, 0, tape, 11 * (QDESK_MOST_OPEN + 1), 4, 1).number == QDESK_TOO_DEEP, "one node more", QDESK_MOST_OPEN);
+    memset(tape + 11 * QDESK_MOST_OPEN, 3, QDESK_MOST_OPEN);
+    check(qdesk_measure(NULL, 0, tape, 12 * QDESK_MOST_OPEN, 4, 1).number == QDESK_ACCEPTED, "the most nodes", QDESK_MOST_OPEN);
+}
+
+int main(void)
+{
+    check_kinds();
+    check_names();
+    check_limits();
+    return faults != 0;
+}
