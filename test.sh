@@ -1,15 +1,20 @@
 #!/bin/sh
-# The tests. Needs rt, cargo, rustc, cc, c++ and the original source (rust/README.md); nothing is fetched.
+# The tests. Needs rt of the version in rattle-version, cargo, rustc, cc, c++ and the original source (rust/README.md); nothing is fetched.
 #
 #     sh test.sh          the verdict: `rt ci` proves everything from nothing and tries the must-fail edits, and the rest runs on what it
 #                         built. Where all of it passes, the last line is rt's own 'N passed, 0 failed'
 #     sh test.sh quick    for every day: proves what changed, tries no must-fail edit, and runs the rest
 set -eu
 cd "$(dirname "$0")"
+usage="usage: sh test.sh [quick]"
 case ${1:-} in
 '' | quick) ;;
+--help)
+    echo "$usage"
+    exit 0
+    ;;
 *)
-    echo "usage: sh test.sh [quick]"
+    echo "$usage" >&2
     exit 2
     ;;
 esac
@@ -27,6 +32,9 @@ prove_from_nothing() {
     verdict=$(tail -n 1 "$kept/printed")
     [ -f "$kept/passed" ] || { echo "$verdict"; echo "FAILED: rt ci"; exit 1; }
 }
+
+run sh scripts/tools_at_hand.sh
+run sh scripts/tools_tests.sh
 
 # The source is asked for first: a run that compares nothing with it is no pass, unless the caller wants it so.
 compared=yes

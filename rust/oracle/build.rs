@@ -58,7 +58,7 @@ pub mod parser {{
     #[path = {tree}] pub mod syntax_tree;
 }}
 #[allow(dead_code)] #[path = {formatter}] pub mod formatter;
-#[allow(dead_code)] mod formatter_opened {{
+#[allow(dead_code, clippy::duplicate_mod)] mod formatter_opened {{
     use crate::formatter::FormatConfig;
     #[path = {context}] mod context;
     pub mod format_node {{
