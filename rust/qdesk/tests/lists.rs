@@ -76,6 +76,16 @@ fn the_refusals_are_those_of_the_header() {
     assert_eq!(names, here.iter().map(|entry| &entry["QDESK_".len()..entry.find(' ').unwrap()]).collect::<Vec<_>>());
 }
 
+/// The rows of README's table of answers: 0, each refusal, and 14, which is the desk's program's own.
+#[test]
+fn the_readme_has_every_answer() {
+    let number = |line: &str| line.strip_prefix("| ")?.split_once(" |")?.0.parse::<u64>().ok();
+    let rows: Vec<u64> = read("README.md").lines().filter_map(number).collect();
+    let mut numbers: Vec<u64> = Refusal::ALL.iter().map(|refusal| *refusal as u64).chain([0, 14]).collect();
+    numbers.sort_unstable();
+    assert_eq!(rows, numbers);
+}
+
 #[test]
 fn the_kinds_are_those_of_the_header() {
     let here: Vec<(String, String)> = Kind::ALL
