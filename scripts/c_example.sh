@@ -11,10 +11,14 @@ if [ ! -f "$library" ]; then
 fi
 mkdir -p "$built"
 
-# Runs the program of this name and compares.
+# Runs the program of this name and compares. Output that is lost is told by the status.
 as_stored() {
     "$built/$1" > "$built/$1.out"
     diff -u examples/c/layout.out "$built/$1.out"
+    if "$built/$1" > /dev/full 2> "$built/$1.err"; then
+        echo "c_example: output is lost, and the status is 0" >&2
+        exit 1
+    fi
 }
 
 "${CC:-cc}" -std=c11 -Wall -Wextra -Wpedantic -Werror -Iinclude examples/c/layout.c "$library" -o "$built/c"

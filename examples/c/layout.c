@@ -132,5 +132,9 @@ int main(void)
     print_answer("in 26 bytes", lay_out(query, &tape, short_space, sizeof short_space));
     tape.length -= 1;
     print_answer("without the root's close", measure(query, &tape));
+    if (fflush(stdout) != 0 || ferror(stdout)) {
+        perror("layout");
+        return 1;
+    }
     return 0;
 }
