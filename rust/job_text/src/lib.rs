@@ -27,7 +27,7 @@ pub fn print(job: &[u8]) -> Result<String, HeaderFault> {
 }
 
 impl Job {
-    /// Writes the readable form, which can be far longer than the job, in the memory of a few times the job.
+    /// Writes the readable form, which can be far longer than the job, in memory of a few times the job.
     pub fn print(&self, out: &mut dyn Write) -> io::Result<()> {
         print::form(self, out)
     }
