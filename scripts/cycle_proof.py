@@ -54,7 +54,7 @@ MODULES = {
 }
 
 # The measure of a routine and of the dispatch.
-MEASURE = "2 * a .1 .1 .1 .1 .1 .0"
+MEASURE = "2 * a .1 .1 .1 .1 .1 .1 .0"
 NODE_MEASURE = MEASURE + " + 1"
 
 LOOP = "Loop source tape facts config left at "
@@ -73,16 +73,16 @@ ANSWERS = {
     "shared-slice-read-if1": "omega (arith, @loop .inv .inside)",
     "head-at-requires": f"loop-fits {HERE} (@if1 .taken)",
     "shared-slice-read-if2": "omega (arith, @loop .inv .inside)",
-    "TOKEN-requires": f"token-ready {HERE} _ (@if2 .taken) (@head-at .ensures)",
+    "TOKEN-requires": f"(token-ready {HERE} _ (@if2 .taken) (@head-at .ensures), ({{ready}}) .words)",
     "add-i-2": f"omega (arith, loop-fits {HERE} (@if1 .taken), {{ready}} .sizes .tape-fits)",
     "loop-less": "omega (arith, @loop .inv .inside)",
-    "loop-again": f"token-next {HERE} (@if2 .taken) (@head-at .ensures) {{acted}} (@{{token}} .kept .1 .1 .0)",
+    "loop-again": f"token-next {HERE} (@if2 .taken) (@head-at .ensures) {{acted}} (@{{token}} .kept .1 .1 .1 .0)",
     "BEFORE-requires": f"let r = side-ready {HERE} in omega arith",
     "sub-node": f"left-pos {CHILD}",
     "node-requires": f"(omega (arith, @pre .0, left-pos {CHILD}), node-ready {CHILD} (@head-at .ensures) {{before}} (omega arith))",
     "loop-less-2": "omega (arith, @loop .inv .inside, @node .ensures .forward)",
     "loop-again-2": f"node-next {HERE} {{at-node}} (@if1 .taken) (@if2 .left) (@head-at .ensures) (λ k z. {{same-node}}) {{before}} "
-    "(@node .ensures) {next-local} {after} (omega arith) (omega arith) (@node .kept .1 .1 .1 .1 .0{kept})",
+    "(@node .ensures) {next-local} {after} (omega arith) (omega arith) (@node .kept .1 .1 .1 .1 .1 .0{kept})",
     "add-end": "omega (arith, @loop .inv .inside, {ready} .sizes .tape-fits)",
     "same-length": "@loop .inv .same",
     "returns": f"loop-last {HERE} (@if1 .left) {{end}} (omega arith)",
@@ -106,7 +106,7 @@ NODE_ANSWERS = {
     "enum-known-r": "search needs",
     "CALL-requires": "(omega (arith, @pre .0), @pre .1 .0)",
     "list-by-requires": "(omega (arith, @pre .0), (@pre .1 .0, is-list _ _ (sym (@r .given .1) ∙ @routine-of .ensures)))",
-    "CALL-same-length": "@{called} .kept .1 .1 .1 .1 .0",
+    "CALL-same-length": "@{called} .kept .1 .1 .1 .1 .1 .0",
     "CALL-returns": "node-by {variant} (@pre .1 .1) (⊎-elim (λ w. decided-list (@pre .1 .0) (@pre .1 .1) (w .1 .left)) "
     "(λ w. decided-clean (@pre .1 .0) (@pre .1 .1) (@has-error .ensures) (w .left)) (@if1 .came)) (sym (@{told} .given .1) ∙ @routine-of .ensures) (@{called} .ensures)",
 }

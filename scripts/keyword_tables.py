@@ -1,7 +1,7 @@
 #!/usr/bin/env python3
-"""Writes what follows from the keyword list (crates/keywords/specs/Names.antt): the arms of `shift_of` and `code_at` in src/lib.rt, `shifts`
-in specs/Index.antt, and the proofs of the two functions. Nothing rests on it: the check says whether they agree. Run it after a change of
-the list, then `rt fmt`."""
+"""Writes what follows from the keyword list (KEYWORDS in crates/keywords/src/table.rt): the arms of `shift_of` and `number_of` in src/index.rt,
+`shifts` in specs/Index.antt, and the proofs of the two functions. Nothing rests on it: the check says whether they agree, and whether the list
+is that of specs/Names.antt. Run it after a change of the list, then `rt fmt`."""
 
 import re
 import textwrap
@@ -20,10 +20,6 @@ def bucket(word):
 
 def unshifted(word):
     return 2 * letter(word, 1) + 5 * letter(word, len(word) // 2) + letter(word, len(word) - 1)
-
-
-def code(word):
-    return sum((ord(b) - 64) * 32**i for i, b in enumerate(word))
 
 
 def shifts(words):
@@ -63,46 +59,57 @@ def listed(items):
     return " ∷ ".join([*map(str, items), "[]"])
 
 
+def numbers(words, shift):
+    """The key of each word of the list, and its entry as a number."""
+    at = 0
+    for place, word in enumerate(words):
+        yield (unshifted(word) + shift[bucket(word)]) % 256, 65536 * place + 32 * at + letter(word, 0)
+        at += 1 + len(word)
+
+
 def proof(function, argument, uses, unfolding, table, arms, answer):
     """The proof of a `match`: one equation for each arm, and one for the rest."""
     name = function.replace("_", "-")
     needs = ["returns"] + [f"returns-{i}" for i in range(2, len(arms) + 2)]
     lines = [
         "-- Written by scripts/keyword_tables.py; do not edit.",
-        f"-- `keywords::{function}` meets its contract: each arm against the list of the definition.",
+        f"-- `{function}` meets its contract: each arm against the list of the definition.",
         "use mathlib.Core.List.{[], _∷_, map}",
         "use mathlib.Core.Path.{refl}",
         "use Prim.Native.Nat.{ℕ}",
         "use Rattle.basics.specs.Match.{match}",
         "use Rattle.basics.proofs.Match.{arm-is, other-is}",
         *uses,
-        f"use Rattle.keywords.proofs.{function}.Statement.{{statement}}",
-        f"use Rattle.keywords.proofs.{function}.Tie as tie",
+        f"use Rattle.keywords.proofs.index.{function}.Statement.{{statement}}",
+        f"use Rattle.keywords.proofs.index.{function}.Tie as tie",
     ]
     value = f"(λ (k : ℕ). match k {table} 0)"
-    for i, ((key, code), need) in enumerate(zip(arms, needs), start=1):
-        arm = f"arm-is {value} {code} ({key} ∷ []) (c .before .args .{argument}) refl (c .match .keys{i})"
+    for i, ((key, number), need) in enumerate(zip(arms, needs), start=1):
+        arm = f"arm-is {value} {number} ({key} ∷ []) (c .before .args .{argument}) refl (c .match .keys{i})"
         lines += ["", f"{need} : tie.Need-{need}", f"unfolding {unfolding}", f"{need} c = {answer(arm)}"]
     keys = listed(key for key, _ in reversed(arms))
     rest = f"other-is (map (λ k. k ∷ []) ({keys})) (c .before .args .{argument}) (c .match .rest) {table} 0 refl"
     lines += ["", f"{needs[-1]} : tie.Need-{needs[-1]}", f"unfolding {unfolding}", f"{needs[-1]} c = {answer(rest)}"]
     lines += ["", f"pub {name}-spec : {{M : Type 1}} → statement M", f"{name}-spec =", "    tie.close", "    (tie.spec"]
     lines += [f"    {need}" for need in needs]
-    (CRATE / "proofs" / function / "Proof.antt").write_text("\n".join(lines) + ")\n")
+    path = CRATE / "proofs" / "index" / function / "Proof.antt"
+    path.parent.mkdir(parents=True, exist_ok=True)
+    path.write_text("\n".join(lines) + ")\n")
 
 
 def main():
-    words = re.findall(r'"([A-Z]+)"', (CRATE / "specs" / "Names.antt").read_text())
+    table = re.search(r'KEYWORDS: .*?b"(.*?)"', (CRATE / "src" / "table.rt").read_text(), re.S).group(1)
+    words = re.findall(r"\\x[0-9a-f]{2}([A-Z]+)", table)
     shift = shifts(words)
     shift_arms = sorted((b, s) for b, s in shift.items() if s)
-    code_arms = [((unshifted(word) + shift[bucket(word)]) % 256, code(word)) for word in words]
+    number_arms = list(numbers(words, shift))
     rewrite(
-        CRATE / "src" / "lib.rt",
+        CRATE / "src" / "index.rt",
         [
             (r"(    match bucket \{\n).*?(        _ => 0,\n)", "".join(f"        {b} => {s},\n" for b, s in shift_arms)),
             (
                 r"(    match key \{\n).*?(        _ => 0,\n)",
-                "".join(f"        {k} => {c}, // {word}\n" for (k, c), word in zip(code_arms, words)),
+                "".join(f"        {k} => {n}, // {word}\n" for (k, n), word in zip(number_arms, words)),
             ),
         ],
     )
@@ -119,16 +126,16 @@ def main():
         lambda equation: f"({equation}, omega arith)",
     )
     proof(
-        "code_at",
+        "number_of",
         "key",
         [
             "use Rattle.keywords.specs.Names.{names}",
             "use Rattle.keywords.specs.Words.{words}",
-            index + "{code, codes, key, shifts}",
+            index + "{index, key, numbers, shifts}",
         ],
-        "names words code codes key shifts",
-        "(codes words)",
-        code_arms,
+        "names words index key numbers shifts",
+        "numbers",
+        number_arms,
         lambda equation: equation,
     )
 

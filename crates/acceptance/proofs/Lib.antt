@@ -1,2 +1,3 @@
 -- From what the calls promise to the demands.
 pub mod Demands
+pub mod Requests

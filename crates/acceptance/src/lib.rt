@@ -3,23 +3,24 @@
 use desk_job::print_job;
 use formatter::layout;
 use formatter::measure;
-use formatter::qdesk_layout;
-use formatter::qdesk_measure;
-use keywords::is_keyword;
-use keywords::is_value_keyword;
+use keywords::Word;
 use keywords::is_word;
-use keywords::qdesk_is_keyword;
-use keywords::qdesk_is_value_keyword;
+use keywords::word_of;
 use layout::Answer;
+use qdesk::qdesk_layout;
+use qdesk::qdesk_measure;
+use qdesk::qdesk_word;
 use two_calls::layout_both;
 use two_calls::measure_both;
 ghost use mathlib.Core.Path.{_≡_};
 ghost use lib.ListN.{length};
-ghost use Rattle.keywords.specs.Words.{capitals, isKeyword, isValueKeyword, same};
+ghost use Rattle.keywords.specs.Words.{capitals, same, wordOf};
 ghost use Rattle.layout.specs.Layout.{original};
 ghost use Rattle.layout.specs.Outcome.{Result, laidOut, measured, outcome};
 ghost use Rattle.desk_job.specs.Job.{printed};
 ghost use Rattle.desk_job.specs.Written.{Written, written};
+ghost use Rattle.qdesk.specs.WordAnswer.{wordAnswer};
+ghost use Rattle.acceptance.specs.Requests.{SortOfWord};
 ghost use Rattle.acceptance.specs.Demands.{Demand1, Demand2, Demand3};
 
 // What one call of each sort answers.
@@ -107,18 +108,11 @@ pub fn desk(job: &[u8], more: bool, out: &mut [u8]) -> usize
     print_job(job, more, out)
 }
 
-// The keyword list: whether a word is on it, in any case.
-pub fn keyword(word: &[u8]) -> bool
-    ensures { λ r. ⌜ r ≡ isKeyword (now (word .entry)) ⌝ }
+// E2: which of the three sorts of word it is, and a listed word's place.
+pub fn request_2(word: &[u8]) -> Word
+    ensures { λ r. ⌜ SortOfWord (now (word .entry)) r ⌝ }
 {
-    is_keyword(word)
-}
-
-// TRUE, FALSE or NULL, in any case.
-pub fn value_keyword(word: &[u8]) -> bool
-    ensures { λ r. ⌜ r ≡ isValueKeyword (now (word .entry)) ⌝ }
-{
-    is_value_keyword(word)
+    word_of(word)
 }
 
 // A word in any case beside one in capitals.
@@ -128,15 +122,9 @@ pub fn word(word: &[u8], caps: &[u8]) -> bool
     is_word(word, caps)
 }
 
-// The C interface: both tests of a word.
-pub fn c_keyword(word: &[u8]) -> bool
-    ensures { λ r. ⌜ r ≡ isKeyword (now (word .entry)) ⌝ }
+// The C interface: the sort of a word.
+pub fn c_word(word: &[u8]) -> Answer
+    ensures { λ r. ⌜ r ≡ wordAnswer (wordOf (now (word .entry))) ⌝ }
 {
-    qdesk_is_keyword(word)
-}
-
-pub fn c_value_keyword(word: &[u8]) -> bool
-    ensures { λ r. ⌜ r ≡ isValueKeyword (now (word .entry)) ⌝ }
-{
-    qdesk_is_value_keyword(word)
+    qdesk_word(word)
 }

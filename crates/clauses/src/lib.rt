@@ -3,6 +3,7 @@
 // most routines share come last, in `emit_other`. The loops that call these are in the crate `formatter`.
 use context::FormatConfig;
 use context::FormatterContext;
+use keywords::table::TABLE_LENGTH;
 use layout::Local;
 use layout::PrevKind;
 use tape::Head;
@@ -29,6 +30,7 @@ ghost use Prim.Native.Nat.{_*_, _<_};
 ghost use lib.Dec.{eqb};
 ghost use lib.ListN.{length};
 ghost use Rattle.context.specs.Store.{Room};
+ghost use Rattle.keywords.specs.Table.{table};
 ghost use Rattle.basics.specs.Match.{among};
 ghost use Rattle.tape.specs.Kinds.{SelectStatement, UnionClause};
 ghost use Rattle.layout.specs.Arms.{dedent, indent, newline, seen};
@@ -41,12 +43,13 @@ ghost use Rattle.tokens.specs.TokenPromises.{Acted, Spaced, SpacedUnwritten, To
 
 pub fn file_token(
     source: &[u8],
+    keywords: &[u8; TABLE_LENGTH],
     config: FormatConfig,
     out: &mut [u8],
     ctx: FormatterContext,
     token: Head,
 ) -> FormatterContext
-    requires { ⌜ TokenReady 4 (now source) config token ctx ⌝ }
+    requires { ⌜ TokenReady 4 (now source) config token ctx × (now keywords ≡ table) ⌝ }
     ensures { λ r. ⌜ Acted 4 config (now (source .entry)) token (fileToken (seen (now (source .entry)) token)) ctx (now (out .entry)) r (now (out .exit)) ⌝ }
 {
     if token.kind == syntax_kind::COMMENT {
@@ -56,7 +59,7 @@ pub fn file_token(
     if token.kind == syntax_kind::SEMICOLON {
         return ctx.write_sign(config, out, b';');
     }
-    emit_other(source, config, out, ctx, token)
+    emit_other(source, keywords, config, out, ctx, token)
 }
 
 pub fn file_before(out: &mut [u8], ctx: FormatterContext, local: Local) -> FormatterContext
@@ -74,18 +77,19 @@ pub fn file_before(out: &mut [u8], ctx: FormatterContext, local: Local) -> Forma
 
 pub fn query_list_token(
     source: &[u8],
+    keywords: &[u8; TABLE_LENGTH],
     config: FormatConfig,
     out: &mut [u8],
     ctx: FormatterContext,
     token: Head,
 ) -> FormatterContext
-    requires { ⌜ TokenReady 4 (now source) config token ctx ⌝ }
+    requires { ⌜ TokenReady 4 (now source) config token ctx × (now keywords ≡ table) ⌝ }
     ensures { λ r. ⌜ Acted 4 config (now (source .entry)) token (queryListToken (seen (now (source .entry)) token)) ctx (now (out .entry)) r (now (out .exit)) ⌝ }
 {
     if token.kind == syntax_kind::SEMICOLON {
         return ctx.write_sign(config, out, b';');
     }
-    emit_other(source, config, out, ctx, token)
+    emit_other(source, keywords, config, out, ctx, token)
 }
 
 pub fn query_list_before(out: &mut [u8], ctx: FormatterContext, local: Local) -> FormatterContext
@@ -103,18 +107,19 @@ pub fn query_list_before(out: &mut [u8], ctx: FormatterContext, local: Local) ->
 
 pub fn select_statement_token(
     source: &[u8],
+    keywords: &[u8; TABLE_LENGTH],
     config: FormatConfig,
     out: &mut [u8],
     ctx: FormatterContext,
     token: Head,
 ) -> FormatterContext
-    requires { ⌜ TokenReady 4 (now source) config token ctx ⌝ }
+    requires { ⌜ TokenReady 4 (now source) config token ctx × (now keywords ≡ table) ⌝ }
     ensures { λ r. ⌜ Acted 4 config (now (source .entry)) token (selectStatementToken (seen (now (source .entry)) token)) ctx (now (out .entry)) r (now (out .exit)) ⌝ }
 {
     if token.kind == syntax_kind::SEMICOLON {
         return ctx;
     }
-    emit_other(source, config, out, ctx, token)
+    emit_other(source, keywords, config, out, ctx, token)
 }
 
 pub fn select_statement_before(
@@ -135,19 +140,20 @@ pub fn select_statement_before(
 
 pub fn select_clause_token(
     source: &[u8],
+    keywords: &[u8; TABLE_LENGTH],
     config: FormatConfig,
     out: &mut [u8],
     ctx: FormatterContext,
     token: Head,
 ) -> FormatterContext
-    requires { ⌜ TokenReady 4 (now source) config token ctx ⌝ }
+    requires { ⌜ TokenReady 4 (now source) config token ctx × (now keywords ≡ table) ⌝ }
     ensures { λ r. ⌜ Acted 4 config (now (source .entry)) token (selectClauseToken (seen (now (source .entry)) token)) ctx (now (out .entry)) r (now (out .exit)) ⌝ }
 {
     if token.kind == syntax_kind::BARE_WORD {
-        let a = write_word(source, config, out, ctx, token);
+        let a = write_word(source, keywords, config, out, ctx, token);
         return a.write_space();
     }
-    emit_other(source, config, out, ctx, token)
+    emit_other(source, keywords, config, out, ctx, token)
 }
 
 pub fn select_clause_before(
@@ -188,20 +194,21 @@ fn space_wanted(wanted: bool, kind: u16) -> bool
 
 pub fn simple_clause_token(
     source: &[u8],
+    keywords: &[u8; TABLE_LENGTH],
     config: FormatConfig,
     out: &mut [u8],
     ctx: FormatterContext,
     local: Local,
     token: Head,
 ) -> Arm
-    requires { ⌜ TokenReady 4 (now source) config token ctx ⌝ }
+    requires { ⌜ TokenReady 4 (now source) config token ctx × (now keywords ≡ table) ⌝ }
     ensures { λ r. ⌜ TokenDone config (now (source .entry)) simpleClauseToken local token ctx (now (out .entry)) r (now (out .exit)) ⌝ }
 {
     if is_trivia(token.kind) {
         return trivia_token(source, config, out, ctx, local, token);
     }
     let a = space_if(ctx, space_wanted(local.flag, token.kind));
-    let b = emit_token(source, config, out, a, token);
+    let b = emit_token(source, keywords, config, out, a, token);
     let tight = no_space_after(token.kind);
     Arm {
         context: b,
@@ -238,17 +245,18 @@ pub fn several_items(facts: &[u8], at: usize, list: u16, kind: u16) -> bool
 
 pub fn list_clause_token(
     source: &[u8],
+    keywords: &[u8; TABLE_LENGTH],
     config: FormatConfig,
     out: &mut [u8],
     ctx: FormatterContext,
     multi: bool,
     token: Head,
 ) -> FormatterContext
-    requires { ⌜ TokenReady 4 (now source) config token ctx ⌝ }
+    requires { ⌜ TokenReady 4 (now source) config token ctx × (now keywords ≡ table) ⌝ }
     ensures { λ r. ⌜ Acted 4 config (now (source .entry)) token (listClauseToken multi (seen (now (source .entry)) token)) ctx (now (out .entry)) r (now (out .exit)) ⌝ }
 {
     if token.kind == syntax_kind::BARE_WORD {
-        let a = write_word(source, config, out, ctx, token);
+        let a = write_word(source, keywords, config, out, ctx, token);
         return a.write_space();
     }
     if token.kind == syntax_kind::COMMA {
@@ -258,7 +266,7 @@ pub fn list_clause_token(
         }
         return a.write_space();
     }
-    emit_other(source, config, out, ctx, token)
+    emit_other(source, keywords, config, out, ctx, token)
 }
 
 fn list_clause_opens(list: u16, multi: bool, local: Local, kind: u16, several: bool) -> bool
@@ -341,13 +349,14 @@ pub fn list_clause_end(ctx: FormatterContext, multi: bool, local: Local) -> Form
 
 pub fn join_clause_token(
     source: &[u8],
+    keywords: &[u8; TABLE_LENGTH],
     config: FormatConfig,
     out: &mut [u8],
     ctx: FormatterContext,
     local: Local,
     token: Head,
 ) -> Arm
-    requires { ⌜ TokenReady 4 (now source) config token ctx ⌝ }
+    requires { ⌜ TokenReady 4 (now source) config token ctx × (now keywords ≡ table) ⌝ }
     ensures { λ r. ⌜ TokenDone config (now (source .entry)) joinClauseToken local token ctx (now (out .entry)) r (now (out .exit)) ⌝ }
 {
     if is_trivia(token.kind) {
@@ -355,7 +364,7 @@ pub fn join_clause_token(
     }
     if token.kind == syntax_kind::BARE_WORD {
         let a = space_if(ctx, local.flag);
-        let b = write_word(source, config, out, a, token);
+        let b = write_word(source, keywords, config, out, a, token);
         return Arm {
             context: b,
             local: Local {
@@ -365,7 +374,7 @@ pub fn join_clause_token(
         };
     }
     let a = space_if(ctx, space_wanted(local.flag, token.kind));
-    let b = emit_token(source, config, out, a, token);
+    let b = emit_token(source, keywords, config, out, a, token);
     let tight = no_space_after(token.kind);
     Arm {
         context: b,
@@ -423,24 +432,25 @@ pub fn with_clause_after(ctx: FormatterContext) -> FormatterContext
 
 pub fn union_clause_token(
     source: &[u8],
+    keywords: &[u8; TABLE_LENGTH],
     config: FormatConfig,
     out: &mut [u8],
     ctx: FormatterContext,
     local: Local,
     token: Head,
 ) -> FormatterContext
-    requires { ⌜ TokenReady 4 (now source) config token ctx ⌝ }
+    requires { ⌜ TokenReady 4 (now source) config token ctx × (now keywords ≡ table) ⌝ }
     ensures { λ r. ⌜ Acted 4 config (now (source .entry)) token ((unionToken local (seen (now (source .entry)) token)) .1) ctx (now (out .entry)) r (now (out .exit)) ⌝ }
 {
     if token.kind == syntax_kind::BARE_WORD {
         if local.flag {
             let a = ctx.write_space();
-            return write_word(source, config, out, a, token);
+            return write_word(source, keywords, config, out, a, token);
         }
-        let a = write_word(source, config, out, ctx, token);
+        let a = write_word(source, keywords, config, out, ctx, token);
         return a.write_space();
     }
-    emit_uncommented(source, config, out, ctx, token)
+    emit_uncommented(source, keywords, config, out, ctx, token)
 }
 
 fn is_select(kind: u16) -> bool

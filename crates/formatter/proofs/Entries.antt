@@ -39,6 +39,7 @@ use Rattle.layout.proofs.EachCall.{each-call}
 use Rattle.layout.proofs.PieceStarts.{StartsAt, TokenStarts, spans-start}
 use Rattle.layout.proofs.Running.{after, run-appends, kept, finish-none, finish-length, finish-stored}
 use Rattle.formatter.specs.declared.Walk.{Walk}
+use Rattle.keywords.specs.Table.{table}
 use Rattle.formatter.specs.RoutinePromises.{NodeReady, NodeDone}
 use Rattle.formatter.specs.Entry.{Ready, allCells, Trims, WalkedInto, Fills, Measures, LaysOut}
 
@@ -53,12 +54,13 @@ take-splice (suc k) (b ∷ bs) (x ∷ xs) h l = ap {B = List ℕ} (λ r. b ∷ r
 
 -- ── the walk from the start
 
-pub root-ready : {text tape facts : List ℕ} {config : FormatConfig} {h : Head} {c : FormatterContext} → Ready text tape facts config → h ≡ headAt tape 0 → c ≡ new
-    → NodeReady text tape facts config 63 0 c × (h .kind ≡ headAt tape 0 .kind)
-root-ready {text} {tape} {facts} {config} p q e =
+pub root-ready : {text keywords tape facts : List ℕ} {config : FormatConfig} {h : Head} {c : FormatterContext} → Ready text keywords tape facts config → h ≡ headAt tape 0 → c ≡ new
+    → NodeReady text keywords tape facts config 63 0 c × (h .kind ≡ headAt tape 0 .kind)
+root-ready {text} {keywords} {tape} {facts} {config} p q e =
     let a = p .accepted in (
       rw e (record {
         sizes = p .sizes;
+        words = p .words;
         inside = a .root .inside;
         room = record { level = omega arith; length = omega arith };
         span = subst (λ (h : Head). h .start ≤ h .end → h .end ≤ length text) (a .root .head) (a .root .span);
@@ -78,7 +80,7 @@ record Walked (bs xs : List ℕ) (w : Walk) (ys : List ℕ) : Type 0 where
   bytes : ys ≡ splice 0 bs xs
   short : w .context .position .trimmed ≤ 2 ^ 60
 
-walked : {text tape facts : List ℕ} {config : FormatConfig} {c : FormatterContext} {xs ys : List ℕ} {w : Walk} → Ready text tape facts config → c ≡ new
+walked : {text keywords tape facts : List ℕ} {config : FormatConfig} {c : FormatterContext} {xs ys : List ℕ} {w : Walk} → Ready text keywords tape facts config → c ≡ new
     → NodeDone text tape config 0 c xs w ys → (t : Tree) (p : ℕ) → readTree (length text) tape ≡ got t p → Walked (bytesOf (allCells config text t)) xs w ys
 unfolding piecesOf original appended advanced
 walked {text} {tape} {facts} {config} {c} {xs} {ys} {w} r e d t p q =
@@ -103,7 +105,7 @@ walked {text} {tape} {facts} {config} {c} {xs} {ys} {w} r e d t p q =
       short = omega (arith, trimmed-le (bytesOf X), d .grew .length, d .inside, r .sizes .tape-fits, b);
     }
 
-module _ {text tape facts : List ℕ} {config : FormatConfig} {c : FormatterContext} {w : Walk} (r : Ready text tape facts config) (e : c ≡ new) where
+module _ {text keywords tape facts : List ℕ} {config : FormatConfig} {c : FormatterContext} {w : Walk} (r : Ready text keywords tape facts config) (e : c ≡ new) where
   pub walked-into : {xs ys : List ℕ} → NodeDone text tape config 0 c xs w ys → WalkedInto text tape config xs (w .context .position .trimmed) ys
   walked-into d =
       record {
@@ -203,10 +205,12 @@ module _ (width case : ℕ) (text tape : List ℕ) where
     call : AcceptedCall width case text tape
     call = accepted-call width case text tape (sym e)
 
-    pub ready : {facts : List ℕ} → NotedOf (readCall width case text tape) facts → (length tape ≤ 262144 → length tape ≤ 11 * length facts) → Ready text tape facts (configOf width case)
-    ready {facts} n room =
+    pub ready : {facts keywords : List ℕ} → NotedOf (readCall width case text tape) facts → (length tape ≤ 262144 → length tape ≤ 11 * length facts) → keywords ≡ table
+        → Ready text keywords tape facts (configOf width case)
+    ready {facts} n room t =
         record {
           sizes = record { text = call .text-fits; tape-fits = call .tape-fits; facts-fit = room (call .tape-fits); width = call .width-fits };
+          words = t;
           accepted = call .accepted;
           starts = spans-start call;
           noted = subst (λ (r : Read Tree). NotedOf r facts) (call .read) n;

@@ -77,8 +77,8 @@ pub record Loop (source tape facts : List ℕ) (config : FormatConfig) (left at 
   pub noted : EachNode (NotedNode facts) kids
   pub rest : (all : Children) → SpelledAt (length source) tape (at + 11) all → Rest source config at R Q c xs ys i ctx l kids all
 
-pub loop-first : {source tape facts : List ℕ} {config : FormatConfig} {left at : ℕ} {c : FormatterContext} (R : Children → Arms) (Q : Arms) (xs : List ℕ)
-    → NodeReady source tape facts config left at c → ((all : Children) → SpelledAt (length source) tape (at + 11) all → R all ≡ Q)
+pub loop-first : {source keywords tape facts : List ℕ} {config : FormatConfig} {left at : ℕ} {c : FormatterContext} (R : Children → Arms) (Q : Arms) (xs : List ℕ)
+    → NodeReady source keywords tape facts config left at c → ((all : Children) → SpelledAt (length source) tape (at + 11) all → R all ≡ Q)
     → Loop source tape facts config left at R Q c xs xs (at + 11) c (Q .begin)
 loop-first {source} {tape} {facts} {config} {left} {at} {c} R Q xs p e =
     record {
@@ -101,21 +101,21 @@ loop-first {source} {tape} {facts} {config} {left} {at} {c} R Q xs p e =
     }
 
 -- the node's byte lies in the facts
-pub fact-fits : {source tape facts : List ℕ} {config : FormatConfig} {left at : ℕ} {c : FormatterContext} → NodeReady source tape facts config left at c → at < 11 * length facts
+pub fact-fits : {source keywords tape facts : List ℕ} {config : FormatConfig} {left at : ℕ} {c : FormatterContext} → NodeReady source keywords tape facts config left at c → at < 11 * length facts
 fact-fits p = omega (arith, p .inside, p .sizes .facts-fit)
 
 -- what the check has noted of the node
-pub node-noted : {source tape facts : List ℕ} {config : FormatConfig} {left at : ℕ} {c : FormatterContext} → NodeReady source tape facts config left at c → (kids : Children)
+pub node-noted : {source keywords tape facts : List ℕ} {config : FormatConfig} {left at : ℕ} {c : FormatterContext} → NodeReady source keywords tape facts config left at c → (kids : Children)
     → SpelledAt (length source) tape (at + 11) kids → NodeFacts (factsAt facts at) (headAt tape at .kind) kids
 unfolding headAt
 node-noted {tape = tape} {facts = facts} {at = at} p kids z =
     subst (NodeFacts (factsAt facts at) (headAt tape at .kind)) (spelled-one _ _ _ _ (p .kids) kids (p .spelled) z) (p .noted .0)
 
-pub opened-at : {source tape facts : List ℕ} {config : FormatConfig} {left at : ℕ} {c : FormatterContext} → NodeReady source tape facts config left at c → NodeAt tape at
+pub opened-at : {source keywords tape facts : List ℕ} {config : FormatConfig} {left at : ℕ} {c : FormatterContext} → NodeReady source keywords tape facts config left at c → NodeAt tape at
 opened-at p = record { len = _; kids = p .kids; inside = p .inside; spelled = p .spelled }
 
-module _ {source tape facts : List ℕ} {config : FormatConfig} {left at : ℕ} {R : Children → Arms} {Q : Arms} {c : FormatterContext} {xs ys : List ℕ} {i : ℕ} {ctx : FormatterContext} {l : Local}
-    (p : NodeReady source tape facts config left at c) (v : Loop source tape facts config left at R Q c xs ys i ctx l) where
+module _ {source keywords tape facts : List ℕ} {config : FormatConfig} {left at : ℕ} {R : Children → Arms} {Q : Arms} {c : FormatterContext} {xs ys : List ℕ} {i : ℕ} {ctx : FormatterContext} {l : Local}
+    (p : NodeReady source keywords tape facts config left at c) (v : Loop source tape facts config left at R Q c xs ys i ctx l) where
   -- a command that is no close opens a node if it is no token
   opens : ((getD tape i 0 ≡ 3) → ⊥) → ((getD tape i 0 ≡ 2) → ⊥) → getD tape i 0 ≡ 1
   opens e f = let b = spelled-byte _ _ _ (v .kids) (v .spelled) in omega arith
@@ -180,12 +180,13 @@ module _ {source tape facts : List ℕ} {config : FormatConfig} {left at : ℕ} 
       (subst (EachNode (NotedNode facts)) (q .2) (v .noted)) .0 .several ∙ ap severalListItems (spelled-one _ _ _ _ (q .0) kids (q .4) z)
 
   pub node-ready : {h : Head} {n : ℕ} {a : FormatterContext} {x : List Spacing} {zs : List ℕ} → ((getD tape i 0 ≡ 3) → ⊥) → ((getD tape i 0 ≡ 2) → ⊥)
-      → h ≡ headAt tape i → Spaced n x ctx ys a zs → n ≤ 4 → NodeReady source tape facts config (left - 1) i a × (h .kind ≡ headAt tape i .kind)
+      → h ≡ headAt tape i → Spaced n x ctx ys a zs → n ≤ 4 → NodeReady source keywords tape facts config (left - 1) i a × (h .kind ≡ headAt tape i .kind)
   unfolding height
   node-ready e f r d h =
       let q = spelled-node _ _ _ (v .kids) (v .spelled) (opens e f) in (
         record {
           sizes = p .sizes;
+          words = p .words;
           inside = q .3 .inside;
           room = omega (arith, d .spent .level, d .spent .length);
           span = q .3 .span;
@@ -250,7 +251,7 @@ module _ {source tape facts : List ℕ} {config : FormatConfig} {left at : ℕ} 
 
 -- ── the dispatch
 
-module _ {source tape facts : List ℕ} {config : FormatConfig} {left at : ℕ} {c : FormatterContext} (p : NodeReady source tape facts config left at c) where
+module _ {source keywords tape facts : List ℕ} {config : FormatConfig} {left at : ℕ} {c : FormatterContext} (p : NodeReady source keywords tape facts config left at c) where
   pub copy-ready : {h : Head} → h ≡ headAt tape at → (length source ≤ 262144) × (h .start ≤ h .end → h .end ≤ length source) × Room 1 c
   copy-ready q = (p .sizes .text, rw q (p .span), omega arith)
 
@@ -259,7 +260,7 @@ abbrev pub Decided : List ℕ → List ℕ → ℕ → ℕ → Bool → Type 0
 Decided source tape i kind b = (kids : Children) → SpelledAt (length source) tape (i + 11) kids → b ≡ copied kind kids
 
 -- by what the check has noted, and the kind that the caller read
-module _ {source tape facts : List ℕ} {config : FormatConfig} {left at kind : ℕ} {c : FormatterContext} (p : NodeReady source tape facts config left at c) (q : kind ≡ headAt tape at .kind) where
+module _ {source keywords tape facts : List ℕ} {config : FormatConfig} {left at kind : ℕ} {c : FormatterContext} (p : NodeReady source keywords tape facts config left at c) (q : kind ≡ headAt tape at .kind) where
   noted-error : {r : Bool} → r ≡ notesError (factsAt facts at) → (kids : Children) → SpelledAt (length source) tape (at + 11) kids → r ≡ (eqb kind Error || hasErrorChild kids)
   noted-error e kids z = e ∙ node-noted p kids z .error ∙ ap (λ (x : ℕ). eqb x Error || hasErrorChild kids) (sym q)
 
@@ -281,8 +282,8 @@ by-kind config source h kids w {kind} q e =
     ap (λ (x : Bool). run config source (cond x (formatErrorVerbatim h) (walk formatNode source (formatNode kind kids) (formatNode kind kids .begin) kids)) w) e
     ∙ ap (λ (x : ℕ). run config source (cond (copied x kids) (formatErrorVerbatim h) (walk formatNode source (formatNode x kids) (formatNode x kids .begin) kids)) w) q
 
-pub node-copied : {source tape facts : List ℕ} {config : FormatConfig} {left at kind j : ℕ} {c a : FormatterContext} {h : Head} {xs ys : List ℕ}
-    → NodeReady source tape facts config left at c → kind ≡ headAt tape at .kind → h ≡ headAt tape at → Decided source tape at kind true
+pub node-copied : {source keywords tape facts : List ℕ} {config : FormatConfig} {left at kind j : ℕ} {c a : FormatterContext} {h : Head} {xs ys : List ℕ}
+    → NodeReady source keywords tape facts config left at c → kind ≡ headAt tape at .kind → h ≡ headAt tape at → Decided source tape at kind true
     → Skipped tape at j → Ran 1 config source (formatErrorVerbatim h) c xs a ys → NodeDone source tape config at c xs (record { at = j; context = a }) ys
 node-copied {source} {tape} {config} {at = at} {c = c} {xs = xs} p q e o s d =
     record {

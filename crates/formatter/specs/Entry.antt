@@ -7,6 +7,7 @@ use Rattle.utf8.specs.Trimming.{trimmedLength}
 use Rattle.context.specs.Cells.{Text, Cell, bytesOf}
 use Rattle.context.specs.Splice.{splice}
 use Rattle.context.specs.declared.FormatConfig.{FormatConfig}
+use Rattle.keywords.specs.Table.{table}
 use Rattle.tape.specs.Tree.{Tree}
 use Rattle.tape.specs.Tape.{got, readTree}
 use Rattle.tape.specs.SpelledAt.{AcceptedTape}
@@ -17,9 +18,11 @@ use Rattle.layout.specs.SpanStarts.{SpansStart}
 use Rattle.layout.specs.Outcome.{Result, laid, laidOut, measured}
 use Rattle.formatter.specs.RoutinePromises.{Sizes}
 
--- the tape is accepted, its spans begin at bounds of characters, and the check has noted what is true of each node of its tree
-pub record Ready (text tape facts : List ℕ) (config : FormatConfig) : Type 0 where
+-- the tape is accepted, its spans begin at bounds of characters, the check has noted what is true of each node of its tree, and the lent
+-- table is the keyword list
+pub record Ready (text keywords tape facts : List ℕ) (config : FormatConfig) : Type 0 where
   pub sizes : Sizes text tape facts config
+  pub words : keywords ≡ table
   pub accepted : AcceptedTape (length text) tape
   pub starts : SpansStart text (accepted .tree)
   pub noted : Noted facts (accepted .tree)

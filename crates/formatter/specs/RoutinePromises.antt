@@ -8,6 +8,7 @@ use Rattle.context.specs.Cells.{Text}
 use Rattle.context.specs.Store.{Store}
 use Rattle.context.specs.declared.FormatConfig.{FormatConfig}
 use Rattle.context.specs.declared.FormatterContext.{FormatterContext}
+use Rattle.keywords.specs.Table.{table}
 use Rattle.tape.specs.Kinds.{GroupByList, OrderByList}
 use Rattle.tape.specs.Tree.{Children, size, height}
 use Rattle.tape.specs.Tape.{headAt}
@@ -36,9 +37,11 @@ pub record Grew (n i : ℕ) (c : FormatterContext) (j : ℕ) (r : FormatterConte
   pub level : r .state .«indent_level» + i + n ≤ c .state .«indent_level» + j
   pub length : r .position .length + 2 ^ 32 * (i + n) ≤ c .position .length + 2 ^ 32 * j
 
--- a node opens at i, the tape spells its children after it, at most so many levels deep, and the check has noted what is true of each
-pub record NodeReady (source tape facts : List ℕ) (config : FormatConfig) (left i : ℕ) (c : FormatterContext) : Type 0 where
+-- a node opens at i, the tape spells its children after it, at most so many levels deep, the check has noted what is true of each, and the lent
+-- table is the keyword list
+pub record NodeReady (source keywords tape facts : List ℕ) (config : FormatConfig) (left i : ℕ) (c : FormatterContext) : Type 0 where
   pub sizes : Sizes source tape facts config
+  pub words : keywords ≡ table
   pub inside : i + 11 ≤ length tape
   pub room : RoomAt 8 i c
   pub span : headAt tape i .start ≤ headAt tape i .end → headAt tape i .end ≤ length source

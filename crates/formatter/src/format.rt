@@ -77,6 +77,7 @@ use expressions::passthrough_token;
 use expressions::subquery_token;
 use expressions::unary_expression_token;
 use expressions::when_clause_token;
+use keywords::table::TABLE_LENGTH;
 use layout::Local;
 use layout::PrevKind;
 use layout::Routine;
@@ -96,6 +97,7 @@ ghost use Rattle.formatter.specs.RoutinePromises.{IsList, NodeDone, Node
 // format_file
 fn file(
     source: &[u8],
+    keywords: &[u8; TABLE_LENGTH],
     tape: &[u8],
     config: FormatConfig,
     facts: &[u8],
@@ -104,7 +106,7 @@ fn file(
     at: usize,
     c: FormatterContext,
 ) -> Walk
-    requires { ⌜ NodeReady (now source) (now tape) (now facts) config left at c ⌝ }
+    requires { ⌜ NodeReady (now source) (now keywords) (now tape) (now facts) config left at c ⌝ }
     ensures { λ r. ⌜ RoutineDone (now (source .entry)) (now (tape .entry)) config at (always formatFile) c (now (out .entry)) r (now (out .exit)) ⌝ }
 {
     let mut i = at + 11;
@@ -116,11 +118,22 @@ fn file(
     while tape[i] != 3 {
         let h = head_at(tape, i);
         if tape[i] == 2 {
-            ctx = file_token(source, config, out, ctx, h);
+            ctx = file_token(source, keywords, config, out, ctx, h);
             i += 11;
         } else {
             let a = file_before(out, ctx, local);
-            let w = node(source, tape, config, facts, out, left - 1, i, h.kind, a);
+            let w = node(
+                source,
+                keywords,
+                tape,
+                config,
+                facts,
+                out,
+                left - 1,
+                i,
+                h.kind,
+                a,
+            );
             ctx = w.context;
             local = Local {
                 flag: true,
@@ -138,6 +151,7 @@ fn file(
 // format_query_list
 fn queries(
     source: &[u8],
+    keywords: &[u8; TABLE_LENGTH],
     tape: &[u8],
     config: FormatConfig,
     facts: &[u8],
@@ -146,7 +160,7 @@ fn queries(
     at: usize,
     c: FormatterContext,
 ) -> Walk
-    requires { ⌜ NodeReady (now source) (now tape) (now facts) config left at c ⌝ }
+    requires { ⌜ NodeReady (now source) (now keywords) (now tape) (now facts) config left at c ⌝ }
     ensures { λ r. ⌜ RoutineDone (now (source .entry)) (now (tape .entry)) config at (always formatQueryList) c (now (out .entry)) r (now (out .exit)) ⌝ }
 {
     let mut i = at + 11;
@@ -158,11 +172,22 @@ fn queries(
     while tape[i] != 3 {
         let h = head_at(tape, i);
         if tape[i] == 2 {
-            ctx = query_list_token(source, config, out, ctx, h);
+            ctx = query_list_token(source, keywords, config, out, ctx, h);
             i += 11;
         } else {
             let a = query_list_before(out, ctx, local);
-            let w = node(source, tape, config, facts, out, left - 1, i, h.kind, a);
+            let w = node(
+                source,
+                keywords,
+                tape,
+                config,
+                facts,
+                out,
+                left - 1,
+                i,
+                h.kind,
+                a,
+            );
             ctx = w.context;
             local = Local {
                 flag: false,
@@ -180,6 +205,7 @@ fn queries(
 // format_select_statement
 fn sel_stmt(
     source: &[u8],
+    keywords: &[u8; TABLE_LENGTH],
     tape: &[u8],
     config: FormatConfig,
     facts: &[u8],
@@ -188,7 +214,7 @@ fn sel_stmt(
     at: usize,
     c: FormatterContext,
 ) -> Walk
-    requires { ⌜ NodeReady (now source) (now tape) (now facts) config left at c ⌝ }
+    requires { ⌜ NodeReady (now source) (now keywords) (now tape) (now facts) config left at c ⌝ }
     ensures { λ r. ⌜ RoutineDone (now (source .entry)) (now (tape .entry)) config at (always formatSelectStatement) c (now (out .entry)) r (now (out .exit)) ⌝ }
 {
     let mut i = at + 11;
@@ -200,11 +226,22 @@ fn sel_stmt(
     while tape[i] != 3 {
         let h = head_at(tape, i);
         if tape[i] == 2 {
-            ctx = select_statement_token(source, config, out, ctx, h);
+            ctx = select_statement_token(source, keywords, config, out, ctx, h);
             i += 11;
         } else {
             let a = select_statement_before(out, ctx, local);
-            let w = node(source, tape, config, facts, out, left - 1, i, h.kind, a);
+            let w = node(
+                source,
+                keywords,
+                tape,
+                config,
+                facts,
+                out,
+                left - 1,
+                i,
+                h.kind,
+                a,
+            );
             ctx = w.context;
             local = Local {
                 flag: false,
@@ -222,6 +259,7 @@ fn sel_stmt(
 // format_select_clause
 fn select(
     source: &[u8],
+    keywords: &[u8; TABLE_LENGTH],
     tape: &[u8],
     config: FormatConfig,
     facts: &[u8],
@@ -230,7 +268,7 @@ fn select(
     at: usize,
     c: FormatterContext,
 ) -> Walk
-    requires { ⌜ NodeReady (now source) (now tape) (now facts) config left at c ⌝ }
+    requires { ⌜ NodeReady (now source) (now keywords) (now tape) (now facts) config left at c ⌝ }
     ensures { λ r. ⌜ RoutineDone (now (source .entry)) (now (tape .entry)) config at (always formatSelectClause) c (now (out .entry)) r (now (out .exit)) ⌝ }
 {
     let mut i = at + 11;
@@ -242,11 +280,22 @@ fn select(
     while tape[i] != 3 {
         let h = head_at(tape, i);
         if tape[i] == 2 {
-            ctx = select_clause_token(source, config, out, ctx, h);
+            ctx = select_clause_token(source, keywords, config, out, ctx, h);
             i += 11;
         } else {
             let a = select_clause_before(out, ctx, local, h.kind);
-            let w = node(source, tape, config, facts, out, left - 1, i, h.kind, a);
+            let w = node(
+                source,
+                keywords,
+                tape,
+                config,
+                facts,
+                out,
+                left - 1,
+                i,
+                h.kind,
+                a,
+            );
             let b = w.context;
             ctx = select_clause_after(b, local, h.kind);
             i = w.at;
@@ -261,6 +310,7 @@ fn select(
 // format_simple_clause
 fn simple(
     source: &[u8],
+    keywords: &[u8; TABLE_LENGTH],
     tape: &[u8],
     config: FormatConfig,
     facts: &[u8],
@@ -269,7 +319,7 @@ fn simple(
     at: usize,
     c: FormatterContext,
 ) -> Walk
-    requires { ⌜ NodeReady (now source) (now tape) (now facts) config left at c ⌝ }
+    requires { ⌜ NodeReady (now source) (now keywords) (now tape) (now facts) config left at c ⌝ }
     ensures { λ r. ⌜ RoutineDone (now (source .entry)) (now (tape .entry)) config at (always formatSimpleClause) c (now (out .entry)) r (now (out .exit)) ⌝ }
 {
     let mut i = at + 11;
@@ -281,13 +331,24 @@ fn simple(
     while tape[i] != 3 {
         let h = head_at(tape, i);
         if tape[i] == 2 {
-            let a = simple_clause_token(source, config, out, ctx, local, h);
+            let a = simple_clause_token(source, keywords, config, out, ctx, local, h);
             ctx = a.context;
             local = a.local;
             i += 11;
         } else {
             let a = space_if(ctx, local.flag);
-            let w = node(source, tape, config, facts, out, left - 1, i, h.kind, a);
+            let w = node(
+                source,
+                keywords,
+                tape,
+                config,
+                facts,
+                out,
+                left - 1,
+                i,
+                h.kind,
+                a,
+            );
             ctx = w.context;
             local = Local {
                 flag: true,
@@ -305,6 +366,7 @@ fn simple(
 // format_group_by_clause, format_order_by_clause: `list` is the kind of their list
 fn list_by(
     source: &[u8],
+    keywords: &[u8; TABLE_LENGTH],
     tape: &[u8],
     config: FormatConfig,
     facts: &[u8],
@@ -314,7 +376,7 @@ fn list_by(
     c: FormatterContext,
     list: u16,
 ) -> Walk
-    requires { ⌜ NodeReady (now source) (now tape) (now facts) config left at c × IsList list ⌝ }
+    requires { ⌜ NodeReady (now source) (now keywords) (now tape) (now facts) config left at c × IsList list ⌝ }
     ensures { λ r. ⌜ RoutineDone (now (source .entry)) (now (tape .entry)) config at (formatListClause list) c (now (out .entry)) r (now (out .exit)) ⌝ }
 {
     let multi = multi_item(facts, at, list);
@@ -327,12 +389,23 @@ fn list_by(
     while tape[i] != 3 {
         let h = head_at(tape, i);
         if tape[i] == 2 {
-            ctx = list_clause_token(source, config, out, ctx, multi, h);
+            ctx = list_clause_token(source, keywords, config, out, ctx, multi, h);
             i += 11;
         } else {
             let several = several_items(facts, i, list, h.kind);
             let a = list_clause_before(out, ctx, list, multi, local, h.kind, several);
-            let w = node(source, tape, config, facts, out, left - 1, i, h.kind, a);
+            let w = node(
+                source,
+                keywords,
+                tape,
+                config,
+                facts,
+                out,
+                left - 1,
+                i,
+                h.kind,
+                a,
+            );
             let b = w.context;
             ctx = list_clause_after(b, list, h.kind, several);
             local = list_clause_local(list, multi, local, h.kind);
@@ -349,6 +422,7 @@ fn list_by(
 // format_limit_by_clause, format_join_clause
 fn join(
     source: &[u8],
+    keywords: &[u8; TABLE_LENGTH],
     tape: &[u8],
     config: FormatConfig,
     facts: &[u8],
@@ -357,7 +431,7 @@ fn join(
     at: usize,
     c: FormatterContext,
 ) -> Walk
-    requires { ⌜ NodeReady (now source) (now tape) (now facts) config left at c ⌝ }
+    requires { ⌜ NodeReady (now source) (now keywords) (now tape) (now facts) config left at c ⌝ }
     ensures { λ r. ⌜ RoutineDone (now (source .entry)) (now (tape .entry)) config at (always formatJoinClause) c (now (out .entry)) r (now (out .exit)) ⌝ }
 {
     let mut i = at + 11;
@@ -369,13 +443,24 @@ fn join(
     while tape[i] != 3 {
         let h = head_at(tape, i);
         if tape[i] == 2 {
-            let a = join_clause_token(source, config, out, ctx, local, h);
+            let a = join_clause_token(source, keywords, config, out, ctx, local, h);
             ctx = a.context;
             local = a.local;
             i += 11;
         } else {
             let a = space_if(ctx, local.flag);
-            let w = node(source, tape, config, facts, out, left - 1, i, h.kind, a);
+            let w = node(
+                source,
+                keywords,
+                tape,
+                config,
+                facts,
+                out,
+                left - 1,
+                i,
+                h.kind,
+                a,
+            );
             ctx = w.context;
             local = Local {
                 flag: true,
@@ -393,6 +478,7 @@ fn join(
 // format_settings_clause
 fn settings(
     source: &[u8],
+    keywords: &[u8; TABLE_LENGTH],
     tape: &[u8],
     config: FormatConfig,
     facts: &[u8],
@@ -401,7 +487,7 @@ fn settings(
     at: usize,
     c: FormatterContext,
 ) -> Walk
-    requires { ⌜ NodeReady (now source) (now tape) (now facts) config left at c ⌝ }
+    requires { ⌜ NodeReady (now source) (now keywords) (now tape) (now facts) config left at c ⌝ }
     ensures { λ r. ⌜ RoutineDone (now (source .entry)) (now (tape .entry)) config at (always formatSettingsClause) c (now (out .entry)) r (now (out .exit)) ⌝ }
 {
     let mut i = at + 11;
@@ -413,11 +499,22 @@ fn settings(
     while tape[i] != 3 {
         let h = head_at(tape, i);
         if tape[i] == 2 {
-            ctx = select_clause_token(source, config, out, ctx, h);
+            ctx = select_clause_token(source, keywords, config, out, ctx, h);
             i += 11;
         } else {
             let a = settings_clause_before(out, ctx, local, h.kind);
-            let w = node(source, tape, config, facts, out, left - 1, i, h.kind, a);
+            let w = node(
+                source,
+                keywords,
+                tape,
+                config,
+                facts,
+                out,
+                left - 1,
+                i,
+                h.kind,
+                a,
+            );
             let b = w.context;
             ctx = settings_clause_after(b, local, h.kind);
             i = w.at;
@@ -432,6 +529,7 @@ fn settings(
 // format_with_clause
 fn with(
     source: &[u8],
+    keywords: &[u8; TABLE_LENGTH],
     tape: &[u8],
     config: FormatConfig,
     facts: &[u8],
@@ -440,7 +538,7 @@ fn with(
     at: usize,
     c: FormatterContext,
 ) -> Walk
-    requires { ⌜ NodeReady (now source) (now tape) (now facts) config left at c ⌝ }
+    requires { ⌜ NodeReady (now source) (now keywords) (now tape) (now facts) config left at c ⌝ }
     ensures { λ r. ⌜ RoutineDone (now (source .entry)) (now (tape .entry)) config at (always formatWithClause) c (now (out .entry)) r (now (out .exit)) ⌝ }
 {
     let mut i = at + 11;
@@ -448,11 +546,22 @@ fn with(
     while tape[i] != 3 {
         let h = head_at(tape, i);
         if tape[i] == 2 {
-            ctx = select_clause_token(source, config, out, ctx, h);
+            ctx = select_clause_token(source, keywords, config, out, ctx, h);
             i += 11;
         } else {
             let a = with_clause_before(out, ctx);
-            let w = node(source, tape, config, facts, out, left - 1, i, h.kind, a);
+            let w = node(
+                source,
+                keywords,
+                tape,
+                config,
+                facts,
+                out,
+                left - 1,
+                i,
+                h.kind,
+                a,
+            );
             let b = w.context;
             ctx = with_clause_after(b);
             i = w.at;
@@ -467,6 +576,7 @@ fn with(
 // format_comma_list
 fn comma(
     source: &[u8],
+    keywords: &[u8; TABLE_LENGTH],
     tape: &[u8],
     config: FormatConfig,
     facts: &[u8],
@@ -475,7 +585,7 @@ fn comma(
     at: usize,
     c: FormatterContext,
 ) -> Walk
-    requires { ⌜ NodeReady (now source) (now tape) (now facts) config left at c ⌝ }
+    requires { ⌜ NodeReady (now source) (now keywords) (now tape) (now facts) config left at c ⌝ }
     ensures { λ r. ⌜ RoutineDone (now (source .entry)) (now (tape .entry)) config at (always formatCommaList) c (now (out .entry)) r (now (out .exit)) ⌝ }
 {
     let mut i = at + 11;
@@ -487,13 +597,24 @@ fn comma(
     while tape[i] != 3 {
         let h = head_at(tape, i);
         if tape[i] == 2 {
-            let a = comma_list_token(source, config, out, ctx, local, h);
+            let a = comma_list_token(source, keywords, config, out, ctx, local, h);
             ctx = a.context;
             local = a.local;
             i += 11;
         } else {
             let a = space_if(ctx, !local.flag);
-            let w = node(source, tape, config, facts, out, left - 1, i, h.kind, a);
+            let w = node(
+                source,
+                keywords,
+                tape,
+                config,
+                facts,
+                out,
+                left - 1,
+                i,
+                h.kind,
+                a,
+            );
             ctx = w.context;
             local = Local {
                 flag: false,
@@ -511,6 +632,7 @@ fn comma(
 // format_inline_comma_list
 fn inl_list(
     source: &[u8],
+    keywords: &[u8; TABLE_LENGTH],
     tape: &[u8],
     config: FormatConfig,
     facts: &[u8],
@@ -519,7 +641,7 @@ fn inl_list(
     at: usize,
     c: FormatterContext,
 ) -> Walk
-    requires { ⌜ NodeReady (now source) (now tape) (now facts) config left at c ⌝ }
+    requires { ⌜ NodeReady (now source) (now keywords) (now tape) (now facts) config left at c ⌝ }
     ensures { λ r. ⌜ RoutineDone (now (source .entry)) (now (tape .entry)) config at (always formatInlineCommaList) c (now (out .entry)) r (now (out .exit)) ⌝ }
 {
     let mut i = at + 11;
@@ -527,11 +649,22 @@ fn inl_list(
     while tape[i] != 3 {
         let h = head_at(tape, i);
         if tape[i] == 2 {
-            ctx = inline_comma_list_token(source, config, out, ctx, h);
+            ctx = inline_comma_list_token(source, keywords, config, out, ctx, h);
             i += 11;
         } else {
             let a = ctx;
-            let w = node(source, tape, config, facts, out, left - 1, i, h.kind, a);
+            let w = node(
+                source,
+                keywords,
+                tape,
+                config,
+                facts,
+                out,
+                left - 1,
+                i,
+                h.kind,
+                a,
+            );
             ctx = w.context;
             i = w.at;
         }
@@ -545,6 +678,7 @@ fn inl_list(
 // format_binary_expression
 fn binary(
     source: &[u8],
+    keywords: &[u8; TABLE_LENGTH],
     tape: &[u8],
     config: FormatConfig,
     facts: &[u8],
@@ -553,7 +687,7 @@ fn binary(
     at: usize,
     c: FormatterContext,
 ) -> Walk
-    requires { ⌜ NodeReady (now source) (now tape) (now facts) config left at c ⌝ }
+    requires { ⌜ NodeReady (now source) (now keywords) (now tape) (now facts) config left at c ⌝ }
     ensures { λ r. ⌜ RoutineDone (now (source .entry)) (now (tape .entry)) config at (always formatBinaryExpression) c (now (out .entry)) r (now (out .exit)) ⌝ }
 {
     let mut i = at + 11;
@@ -561,11 +695,22 @@ fn binary(
     while tape[i] != 3 {
         let h = head_at(tape, i);
         if tape[i] == 2 {
-            ctx = binary_expression_token(source, config, out, ctx, h);
+            ctx = binary_expression_token(source, keywords, config, out, ctx, h);
             i += 11;
         } else {
             let a = ctx;
-            let w = node(source, tape, config, facts, out, left - 1, i, h.kind, a);
+            let w = node(
+                source,
+                keywords,
+                tape,
+                config,
+                facts,
+                out,
+                left - 1,
+                i,
+                h.kind,
+                a,
+            );
             ctx = w.context;
             i = w.at;
         }
@@ -579,6 +724,7 @@ fn binary(
 // format_unary_expression
 fn unary(
     source: &[u8],
+    keywords: &[u8; TABLE_LENGTH],
     tape: &[u8],
     config: FormatConfig,
     facts: &[u8],
@@ -587,7 +733,7 @@ fn unary(
     at: usize,
     c: FormatterContext,
 ) -> Walk
-    requires { ⌜ NodeReady (now source) (now tape) (now facts) config left at c ⌝ }
+    requires { ⌜ NodeReady (now source) (now keywords) (now tape) (now facts) config left at c ⌝ }
     ensures { λ r. ⌜ RoutineDone (now (source .entry)) (now (tape .entry)) config at (always formatUnaryExpression) c (now (out .entry)) r (now (out .exit)) ⌝ }
 {
     let mut i = at + 11;
@@ -595,11 +741,22 @@ fn unary(
     while tape[i] != 3 {
         let h = head_at(tape, i);
         if tape[i] == 2 {
-            ctx = unary_expression_token(source, config, out, ctx, h);
+            ctx = unary_expression_token(source, keywords, config, out, ctx, h);
             i += 11;
         } else {
             let a = ctx;
-            let w = node(source, tape, config, facts, out, left - 1, i, h.kind, a);
+            let w = node(
+                source,
+                keywords,
+                tape,
+                config,
+                facts,
+                out,
+                left - 1,
+                i,
+                h.kind,
+                a,
+            );
             ctx = w.context;
             i = w.at;
         }
@@ -613,6 +770,7 @@ fn unary(
 // format_function_call
 fn call(
     source: &[u8],
+    keywords: &[u8; TABLE_LENGTH],
     tape: &[u8],
     config: FormatConfig,
     facts: &[u8],
@@ -621,7 +779,7 @@ fn call(
     at: usize,
     c: FormatterContext,
 ) -> Walk
-    requires { ⌜ NodeReady (now source) (now tape) (now facts) config left at c ⌝ }
+    requires { ⌜ NodeReady (now source) (now keywords) (now tape) (now facts) config left at c ⌝ }
     ensures { λ r. ⌜ RoutineDone (now (source .entry)) (now (tape .entry)) config at (always formatFunctionCall) c (now (out .entry)) r (now (out .exit)) ⌝ }
 {
     let mut i = at + 11;
@@ -629,11 +787,22 @@ fn call(
     while tape[i] != 3 {
         let h = head_at(tape, i);
         if tape[i] == 2 {
-            ctx = function_call_token(source, config, out, ctx, h);
+            ctx = function_call_token(source, keywords, config, out, ctx, h);
             i += 11;
         } else {
             let a = ctx;
-            let w = node(source, tape, config, facts, out, left - 1, i, h.kind, a);
+            let w = node(
+                source,
+                keywords,
+                tape,
+                config,
+                facts,
+                out,
+                left - 1,
+                i,
+                h.kind,
+                a,
+            );
             ctx = w.context;
             i = w.at;
         }
@@ -647,6 +816,7 @@ fn call(
 // format_case_expression
 fn case(
     source: &[u8],
+    keywords: &[u8; TABLE_LENGTH],
     tape: &[u8],
     config: FormatConfig,
     facts: &[u8],
@@ -655,7 +825,7 @@ fn case(
     at: usize,
     c: FormatterContext,
 ) -> Walk
-    requires { ⌜ NodeReady (now source) (now tape) (now facts) config left at c ⌝ }
+    requires { ⌜ NodeReady (now source) (now keywords) (now tape) (now facts) config left at c ⌝ }
     ensures { λ r. ⌜ RoutineDone (now (source .entry)) (now (tape .entry)) config at (always formatCaseExpression) c (now (out .entry)) r (now (out .exit)) ⌝ }
 {
     let mut i = at + 11;
@@ -667,11 +837,22 @@ fn case(
     while tape[i] != 3 {
         let h = head_at(tape, i);
         if tape[i] == 2 {
-            ctx = case_expression_token(source, config, out, ctx, h);
+            ctx = case_expression_token(source, keywords, config, out, ctx, h);
             i += 11;
         } else {
             let a = case_expression_before(out, ctx, local, h.kind);
-            let w = node(source, tape, config, facts, out, left - 1, i, h.kind, a);
+            let w = node(
+                source,
+                keywords,
+                tape,
+                config,
+                facts,
+                out,
+                left - 1,
+                i,
+                h.kind,
+                a,
+            );
             ctx = w.context;
             i = w.at;
         }
@@ -685,6 +866,7 @@ fn case(
 // format_when_clause
 fn when(
     source: &[u8],
+    keywords: &[u8; TABLE_LENGTH],
     tape: &[u8],
     config: FormatConfig,
     facts: &[u8],
@@ -693,7 +875,7 @@ fn when(
     at: usize,
     c: FormatterContext,
 ) -> Walk
-    requires { ⌜ NodeReady (now source) (now tape) (now facts) config left at c ⌝ }
+    requires { ⌜ NodeReady (now source) (now keywords) (now tape) (now facts) config left at c ⌝ }
     ensures { λ r. ⌜ RoutineDone (now (source .entry)) (now (tape .entry)) config at (always formatWhenClause) c (now (out .entry)) r (now (out .exit)) ⌝ }
 {
     let mut i = at + 11;
@@ -701,11 +883,22 @@ fn when(
     while tape[i] != 3 {
         let h = head_at(tape, i);
         if tape[i] == 2 {
-            ctx = when_clause_token(source, config, out, ctx, h);
+            ctx = when_clause_token(source, keywords, config, out, ctx, h);
             i += 11;
         } else {
             let a = ctx;
-            let w = node(source, tape, config, facts, out, left - 1, i, h.kind, a);
+            let w = node(
+                source,
+                keywords,
+                tape,
+                config,
+                facts,
+                out,
+                left - 1,
+                i,
+                h.kind,
+                a,
+            );
             ctx = w.context;
             i = w.at;
         }
@@ -719,6 +912,7 @@ fn when(
 // format_subquery
 fn subquery(
     source: &[u8],
+    keywords: &[u8; TABLE_LENGTH],
     tape: &[u8],
     config: FormatConfig,
     facts: &[u8],
@@ -727,7 +921,7 @@ fn subquery(
     at: usize,
     c: FormatterContext,
 ) -> Walk
-    requires { ⌜ NodeReady (now source) (now tape) (now facts) config left at c ⌝ }
+    requires { ⌜ NodeReady (now source) (now keywords) (now tape) (now facts) config left at c ⌝ }
     ensures { λ r. ⌜ RoutineDone (now (source .entry)) (now (tape .entry)) config at (always formatSubquery) c (now (out .entry)) r (now (out .exit)) ⌝ }
 {
     let mut i = at + 11;
@@ -735,11 +929,22 @@ fn subquery(
     while tape[i] != 3 {
         let h = head_at(tape, i);
         if tape[i] == 2 {
-            ctx = subquery_token(source, config, out, ctx, h);
+            ctx = subquery_token(source, keywords, config, out, ctx, h);
             i += 11;
         } else {
             let a = ctx;
-            let w = node(source, tape, config, facts, out, left - 1, i, h.kind, a);
+            let w = node(
+                source,
+                keywords,
+                tape,
+                config,
+                facts,
+                out,
+                left - 1,
+                i,
+                h.kind,
+                a,
+            );
             ctx = w.context;
             i = w.at;
         }
@@ -753,6 +958,7 @@ fn subquery(
 // format_paren_list
 fn paren(
     source: &[u8],
+    keywords: &[u8; TABLE_LENGTH],
     tape: &[u8],
     config: FormatConfig,
     facts: &[u8],
@@ -761,7 +967,7 @@ fn paren(
     at: usize,
     c: FormatterContext,
 ) -> Walk
-    requires { ⌜ NodeReady (now source) (now tape) (now facts) config left at c ⌝ }
+    requires { ⌜ NodeReady (now source) (now keywords) (now tape) (now facts) config left at c ⌝ }
     ensures { λ r. ⌜ RoutineDone (now (source .entry)) (now (tape .entry)) config at (always formatParenList) c (now (out .entry)) r (now (out .exit)) ⌝ }
 {
     let mut i = at + 11;
@@ -769,11 +975,22 @@ fn paren(
     while tape[i] != 3 {
         let h = head_at(tape, i);
         if tape[i] == 2 {
-            ctx = paren_list_token(source, config, out, ctx, h);
+            ctx = paren_list_token(source, keywords, config, out, ctx, h);
             i += 11;
         } else {
             let a = ctx;
-            let w = node(source, tape, config, facts, out, left - 1, i, h.kind, a);
+            let w = node(
+                source,
+                keywords,
+                tape,
+                config,
+                facts,
+                out,
+                left - 1,
+                i,
+                h.kind,
+                a,
+            );
             ctx = w.context;
             i = w.at;
         }
@@ -787,6 +1004,7 @@ fn paren(
 // format_bracket_list
 fn bracket(
     source: &[u8],
+    keywords: &[u8; TABLE_LENGTH],
     tape: &[u8],
     config: FormatConfig,
     facts: &[u8],
@@ -795,7 +1013,7 @@ fn bracket(
     at: usize,
     c: FormatterContext,
 ) -> Walk
-    requires { ⌜ NodeReady (now source) (now tape) (now facts) config left at c ⌝ }
+    requires { ⌜ NodeReady (now source) (now keywords) (now tape) (now facts) config left at c ⌝ }
     ensures { λ r. ⌜ RoutineDone (now (source .entry)) (now (tape .entry)) config at (always formatBracketList) c (now (out .entry)) r (now (out .exit)) ⌝ }
 {
     let mut i = at + 11;
@@ -803,11 +1021,22 @@ fn bracket(
     while tape[i] != 3 {
         let h = head_at(tape, i);
         if tape[i] == 2 {
-            ctx = bracket_list_token(source, config, out, ctx, h);
+            ctx = bracket_list_token(source, keywords, config, out, ctx, h);
             i += 11;
         } else {
             let a = ctx;
-            let w = node(source, tape, config, facts, out, left - 1, i, h.kind, a);
+            let w = node(
+                source,
+                keywords,
+                tape,
+                config,
+                facts,
+                out,
+                left - 1,
+                i,
+                h.kind,
+                a,
+            );
             ctx = w.context;
             i = w.at;
         }
@@ -821,6 +1050,7 @@ fn bracket(
 // format_brace_list
 fn brace(
     source: &[u8],
+    keywords: &[u8; TABLE_LENGTH],
     tape: &[u8],
     config: FormatConfig,
     facts: &[u8],
@@ -829,7 +1059,7 @@ fn brace(
     at: usize,
     c: FormatterContext,
 ) -> Walk
-    requires { ⌜ NodeReady (now source) (now tape) (now facts) config left at c ⌝ }
+    requires { ⌜ NodeReady (now source) (now keywords) (now tape) (now facts) config left at c ⌝ }
     ensures { λ r. ⌜ RoutineDone (now (source .entry)) (now (tape .entry)) config at (always formatBraceList) c (now (out .entry)) r (now (out .exit)) ⌝ }
 {
     let mut i = at + 11;
@@ -837,11 +1067,22 @@ fn brace(
     while tape[i] != 3 {
         let h = head_at(tape, i);
         if tape[i] == 2 {
-            ctx = brace_list_token(source, config, out, ctx, h);
+            ctx = brace_list_token(source, keywords, config, out, ctx, h);
             i += 11;
         } else {
             let a = ctx;
-            let w = node(source, tape, config, facts, out, left - 1, i, h.kind, a);
+            let w = node(
+                source,
+                keywords,
+                tape,
+                config,
+                facts,
+                out,
+                left - 1,
+                i,
+                h.kind,
+                a,
+            );
             ctx = w.context;
             i = w.at;
         }
@@ -855,6 +1096,7 @@ fn brace(
 // format_data_type
 fn dtype(
     source: &[u8],
+    keywords: &[u8; TABLE_LENGTH],
     tape: &[u8],
     config: FormatConfig,
     facts: &[u8],
@@ -863,7 +1105,7 @@ fn dtype(
     at: usize,
     c: FormatterContext,
 ) -> Walk
-    requires { ⌜ NodeReady (now source) (now tape) (now facts) config left at c ⌝ }
+    requires { ⌜ NodeReady (now source) (now keywords) (now tape) (now facts) config left at c ⌝ }
     ensures { λ r. ⌜ RoutineDone (now (source .entry)) (now (tape .entry)) config at (always formatDataType) c (now (out .entry)) r (now (out .exit)) ⌝ }
 {
     let mut i = at + 11;
@@ -871,11 +1113,22 @@ fn dtype(
     while tape[i] != 3 {
         let h = head_at(tape, i);
         if tape[i] == 2 {
-            ctx = data_type_token(source, config, out, ctx, h);
+            ctx = data_type_token(source, keywords, config, out, ctx, h);
             i += 11;
         } else {
             let a = ctx;
-            let w = node(source, tape, config, facts, out, left - 1, i, h.kind, a);
+            let w = node(
+                source,
+                keywords,
+                tape,
+                config,
+                facts,
+                out,
+                left - 1,
+                i,
+                h.kind,
+                a,
+            );
             ctx = w.context;
             i = w.at;
         }
@@ -889,6 +1142,7 @@ fn dtype(
 // format_inline_tight_parens
 fn tight_paren(
     source: &[u8],
+    keywords: &[u8; TABLE_LENGTH],
     tape: &[u8],
     config: FormatConfig,
     facts: &[u8],
@@ -897,7 +1151,7 @@ fn tight_paren(
     at: usize,
     c: FormatterContext,
 ) -> Walk
-    requires { ⌜ NodeReady (now source) (now tape) (now facts) config left at c ⌝ }
+    requires { ⌜ NodeReady (now source) (now keywords) (now tape) (now facts) config left at c ⌝ }
     ensures { λ r. ⌜ RoutineDone (now (source .entry)) (now (tape .entry)) config at (always formatInlineTightParens) c (now (out .entry)) r (now (out .exit)) ⌝ }
 {
     let mut i = at + 11;
@@ -909,14 +1163,25 @@ fn tight_paren(
     while tape[i] != 3 {
         let h = head_at(tape, i);
         if tape[i] == 2 {
-            let a = inline_tight_parens_token(source, config, out, ctx, local, h);
+            let a = inline_tight_parens_token(source, keywords, config, out, ctx, local, h);
             ctx = a.context;
             local = a.local;
             i += 11;
         } else {
             let prev = local.prev;
             let a = space_if(ctx, space_after(prev));
-            let w = node(source, tape, config, facts, out, left - 1, i, h.kind, a);
+            let w = node(
+                source,
+                keywords,
+                tape,
+                config,
+                facts,
+                out,
+                left - 1,
+                i,
+                h.kind,
+                a,
+            );
             ctx = w.context;
             local = Local {
                 flag: false,
@@ -934,6 +1199,7 @@ fn tight_paren(
 // format_inline
 fn inline(
     source: &[u8],
+    keywords: &[u8; TABLE_LENGTH],
     tape: &[u8],
     config: FormatConfig,
     facts: &[u8],
@@ -942,7 +1208,7 @@ fn inline(
     at: usize,
     c: FormatterContext,
 ) -> Walk
-    requires { ⌜ NodeReady (now source) (now tape) (now facts) config left at c ⌝ }
+    requires { ⌜ NodeReady (now source) (now keywords) (now tape) (now facts) config left at c ⌝ }
     ensures { λ r. ⌜ RoutineDone (now (source .entry)) (now (tape .entry)) config at (always formatInline) c (now (out .entry)) r (now (out .exit)) ⌝ }
 {
     let mut i = at + 11;
@@ -954,14 +1220,25 @@ fn inline(
     while tape[i] != 3 {
         let h = head_at(tape, i);
         if tape[i] == 2 {
-            let a = inline_token(source, config, out, ctx, local, h);
+            let a = inline_token(source, keywords, config, out, ctx, local, h);
             ctx = a.context;
             local = a.local;
             i += 11;
         } else {
             let prev = local.prev;
             let a = space_if(ctx, space_after(prev));
-            let w = node(source, tape, config, facts, out, left - 1, i, h.kind, a);
+            let w = node(
+                source,
+                keywords,
+                tape,
+                config,
+                facts,
+                out,
+                left - 1,
+                i,
+                h.kind,
+                a,
+            );
             ctx = w.context;
             local = Local {
                 flag: false,
@@ -979,6 +1256,7 @@ fn inline(
 // format_inline_no_spaces
 fn no_spaces(
     source: &[u8],
+    keywords: &[u8; TABLE_LENGTH],
     tape: &[u8],
     config: FormatConfig,
     facts: &[u8],
@@ -987,7 +1265,7 @@ fn no_spaces(
     at: usize,
     c: FormatterContext,
 ) -> Walk
-    requires { ⌜ NodeReady (now source) (now tape) (now facts) config left at c ⌝ }
+    requires { ⌜ NodeReady (now source) (now keywords) (now tape) (now facts) config left at c ⌝ }
     ensures { λ r. ⌜ RoutineDone (now (source .entry)) (now (tape .entry)) config at (always formatInlineNoSpaces) c (now (out .entry)) r (now (out .exit)) ⌝ }
 {
     let mut i = at + 11;
@@ -995,11 +1273,22 @@ fn no_spaces(
     while tape[i] != 3 {
         let h = head_at(tape, i);
         if tape[i] == 2 {
-            ctx = emit_other(source, config, out, ctx, h);
+            ctx = emit_other(source, keywords, config, out, ctx, h);
             i += 11;
         } else {
             let a = ctx;
-            let w = node(source, tape, config, facts, out, left - 1, i, h.kind, a);
+            let w = node(
+                source,
+                keywords,
+                tape,
+                config,
+                facts,
+                out,
+                left - 1,
+                i,
+                h.kind,
+                a,
+            );
             ctx = w.context;
             i = w.at;
         }
@@ -1013,6 +1302,7 @@ fn no_spaces(
 // format_passthrough
 fn pass(
     source: &[u8],
+    keywords: &[u8; TABLE_LENGTH],
     tape: &[u8],
     config: FormatConfig,
     facts: &[u8],
@@ -1021,7 +1311,7 @@ fn pass(
     at: usize,
     c: FormatterContext,
 ) -> Walk
-    requires { ⌜ NodeReady (now source) (now tape) (now facts) config left at c ⌝ }
+    requires { ⌜ NodeReady (now source) (now keywords) (now tape) (now facts) config left at c ⌝ }
     ensures { λ r. ⌜ RoutineDone (now (source .entry)) (now (tape .entry)) config at (always formatPassthrough) c (now (out .entry)) r (now (out .exit)) ⌝ }
 {
     let mut i = at + 11;
@@ -1029,11 +1319,22 @@ fn pass(
     while tape[i] != 3 {
         let h = head_at(tape, i);
         if tape[i] == 2 {
-            ctx = passthrough_token(source, config, out, ctx, h);
+            ctx = passthrough_token(source, keywords, config, out, ctx, h);
             i += 11;
         } else {
             let a = ctx;
-            let w = node(source, tape, config, facts, out, left - 1, i, h.kind, a);
+            let w = node(
+                source,
+                keywords,
+                tape,
+                config,
+                facts,
+                out,
+                left - 1,
+                i,
+                h.kind,
+                a,
+            );
             ctx = w.context;
             i = w.at;
         }
@@ -1047,6 +1348,7 @@ fn pass(
 // format_alter_command_list
 fn alter(
     source: &[u8],
+    keywords: &[u8; TABLE_LENGTH],
     tape: &[u8],
     config: FormatConfig,
     facts: &[u8],
@@ -1055,7 +1357,7 @@ fn alter(
     at: usize,
     c: FormatterContext,
 ) -> Walk
-    requires { ⌜ NodeReady (now source) (now tape) (now facts) config left at c ⌝ }
+    requires { ⌜ NodeReady (now source) (now keywords) (now tape) (now facts) config left at c ⌝ }
     ensures { λ r. ⌜ RoutineDone (now (source .entry)) (now (tape .entry)) config at (always formatAlterCommandList) c (now (out .entry)) r (now (out .exit)) ⌝ }
 {
     let mut i = at + 11;
@@ -1063,11 +1365,22 @@ fn alter(
     while tape[i] != 3 {
         let h = head_at(tape, i);
         if tape[i] == 2 {
-            ctx = alter_command_list_token(source, config, out, ctx, h);
+            ctx = alter_command_list_token(source, keywords, config, out, ctx, h);
             i += 11;
         } else {
             let a = ctx;
-            let w = node(source, tape, config, facts, out, left - 1, i, h.kind, a);
+            let w = node(
+                source,
+                keywords,
+                tape,
+                config,
+                facts,
+                out,
+                left - 1,
+                i,
+                h.kind,
+                a,
+            );
             ctx = w.context;
             i = w.at;
         }
@@ -1081,6 +1394,7 @@ fn alter(
 // format_union_clause
 fn union(
     source: &[u8],
+    keywords: &[u8; TABLE_LENGTH],
     tape: &[u8],
     config: FormatConfig,
     facts: &[u8],
@@ -1089,7 +1403,7 @@ fn union(
     at: usize,
     c: FormatterContext,
 ) -> Walk
-    requires { ⌜ NodeReady (now source) (now tape) (now facts) config left at c ⌝ }
+    requires { ⌜ NodeReady (now source) (now keywords) (now tape) (now facts) config left at c ⌝ }
     ensures { λ r. ⌜ RoutineDone (now (source .entry)) (now (tape .entry)) config at (always formatUnionClause) c (now (out .entry)) r (now (out .exit)) ⌝ }
 {
     let mut i = at + 11;
@@ -1101,11 +1415,22 @@ fn union(
     while tape[i] != 3 {
         let h = head_at(tape, i);
         if tape[i] == 2 {
-            ctx = union_clause_token(source, config, out, ctx, local, h);
+            ctx = union_clause_token(source, keywords, config, out, ctx, local, h);
             i += 11;
         } else {
             let a = union_clause_before(out, ctx, local, h.kind);
-            let w = node(source, tape, config, facts, out, left - 1, i, h.kind, a);
+            let w = node(
+                source,
+                keywords,
+                tape,
+                config,
+                facts,
+                out,
+                left - 1,
+                i,
+                h.kind,
+                a,
+            );
             ctx = w.context;
             local = union_clause_local(local, h.kind);
             i = w.at;
@@ -1121,6 +1446,7 @@ fn union(
 // to put each routine's loop in here.
 pub(crate) fn node(
     source: &[u8],
+    keywords: &[u8; TABLE_LENGTH],
     tape: &[u8],
     config: FormatConfig,
     facts: &[u8],
@@ -1130,7 +1456,7 @@ pub(crate) fn node(
     kind: u16,
     c: FormatterContext,
 ) -> Walk
-    requires { ⌜ NodeReady (now source) (now tape) (now facts) config left at c × (kind ≡ headAt (now tape) at .kind) ⌝ }
+    requires { ⌜ NodeReady (now source) (now keywords) (now tape) (now facts) config left at c × (kind ≡ headAt (now tape) at .kind) ⌝ }
     ensures { λ r. ⌜ NodeDone (now (source .entry)) (now (tape .entry)) config at c (now (out .entry)) r (now (out .exit)) ⌝ }
 {
     if has_error(facts, at) {
@@ -1146,32 +1472,103 @@ pub(crate) fn node(
     }
     let r = routine_of(kind);
     match r {
-        Routine::File => file(source, tape, config, facts, out, left, at, c),
-        Routine::QueryList => queries(source, tape, config, facts, out, left, at, c),
-        Routine::SelectStatement => sel_stmt(source, tape, config, facts, out, left, at, c),
-        Routine::SelectClause => select(source, tape, config, facts, out, left, at, c),
-        Routine::SimpleClause => simple(source, tape, config, facts, out, left, at, c),
-        Routine::ListClause(list) => list_by(source, tape, config, facts, out, left, at, c, list),
-        Routine::SettingsClause => settings(source, tape, config, facts, out, left, at, c),
-        Routine::WithClause => with(source, tape, config, facts, out, left, at, c),
-        Routine::JoinClause => join(source, tape, config, facts, out, left, at, c),
-        Routine::Inline => inline(source, tape, config, facts, out, left, at, c),
-        Routine::CommaList => comma(source, tape, config, facts, out, left, at, c),
-        Routine::InlineCommaList => inl_list(source, tape, config, facts, out, left, at, c),
-        Routine::BinaryExpression => binary(source, tape, config, facts, out, left, at, c),
-        Routine::UnaryExpression => unary(source, tape, config, facts, out, left, at, c),
-        Routine::FunctionCall => call(source, tape, config, facts, out, left, at, c),
-        Routine::CaseExpression => case(source, tape, config, facts, out, left, at, c),
-        Routine::WhenClause => when(source, tape, config, facts, out, left, at, c),
-        Routine::Subquery => subquery(source, tape, config, facts, out, left, at, c),
-        Routine::ParenList => paren(source, tape, config, facts, out, left, at, c),
-        Routine::BracketList => bracket(source, tape, config, facts, out, left, at, c),
-        Routine::InlineNoSpaces => no_spaces(source, tape, config, facts, out, left, at, c),
-        Routine::BraceList => brace(source, tape, config, facts, out, left, at, c),
-        Routine::DataType => dtype(source, tape, config, facts, out, left, at, c),
-        Routine::InlineTightParens => tight_paren(source, tape, config, facts, out, left, at, c),
-        Routine::AlterCommandList => alter(source, tape, config, facts, out, left, at, c),
-        Routine::UnionClause => union(source, tape, config, facts, out, left, at, c),
-        Routine::Passthrough => pass(source, tape, config, facts, out, left, at, c),
+        Routine::File => file(source, keywords, tape, config, facts, out, left, at, c),
+        Routine::QueryList => queries(source, keywords, tape, config, facts, out, left, at, c),
+        Routine::SelectStatement => sel_stmt(
+            source,
+            keywords,
+            tape,
+            config,
+            facts,
+            out,
+            left,
+            at,
+            c,
+        ),
+        Routine::SelectClause => select(source, keywords, tape, config, facts, out, left, at, c),
+        Routine::SimpleClause => simple(source, keywords, tape, config, facts, out, left, at, c),
+        Routine::ListClause(list) => list_by(
+            source,
+            keywords,
+            tape,
+            config,
+            facts,
+            out,
+            left,
+            at,
+            c,
+            list,
+        ),
+        Routine::SettingsClause => settings(
+            source,
+            keywords,
+            tape,
+            config,
+            facts,
+            out,
+            left,
+            at,
+            c,
+        ),
+        Routine::WithClause => with(source, keywords, tape, config, facts, out, left, at, c),
+        Routine::JoinClause => join(source, keywords, tape, config, facts, out, left, at, c),
+        Routine::Inline => inline(source, keywords, tape, config, facts, out, left, at, c),
+        Routine::CommaList => comma(source, keywords, tape, config, facts, out, left, at, c),
+        Routine::InlineCommaList => inl_list(
+            source,
+            keywords,
+            tape,
+            config,
+            facts,
+            out,
+            left,
+            at,
+            c,
+        ),
+        Routine::BinaryExpression => binary(
+            source,
+            keywords,
+            tape,
+            config,
+            facts,
+            out,
+            left,
+            at,
+            c,
+        ),
+        Routine::UnaryExpression => unary(source, keywords, tape, config, facts, out, left, at, c),
+        Routine::FunctionCall => call(source, keywords, tape, config, facts, out, left, at, c),
+        Routine::CaseExpression => case(source, keywords, tape, config, facts, out, left, at, c),
+        Routine::WhenClause => when(source, keywords, tape, config, facts, out, left, at, c),
+        Routine::Subquery => subquery(source, keywords, tape, config, facts, out, left, at, c),
+        Routine::ParenList => paren(source, keywords, tape, config, facts, out, left, at, c),
+        Routine::BracketList => bracket(source, keywords, tape, config, facts, out, left, at, c),
+        Routine::InlineNoSpaces => no_spaces(
+            source,
+            keywords,
+            tape,
+            config,
+            facts,
+            out,
+            left,
+            at,
+            c,
+        ),
+        Routine::BraceList => brace(source, keywords, tape, config, facts, out, left, at, c),
+        Routine::DataType => dtype(source, keywords, tape, config, facts, out, left, at, c),
+        Routine::InlineTightParens => tight_paren(
+            source,
+            keywords,
+            tape,
+            config,
+            facts,
+            out,
+            left,
+            at,
+            c,
+        ),
+        Routine::AlterCommandList => alter(source, keywords, tape, config, facts, out, left, at, c),
+        Routine::UnionClause => union(source, keywords, tape, config, facts, out, left, at, c),
+        Routine::Passthrough => pass(source, keywords, tape, config, facts, out, left, at, c),
     }
 }

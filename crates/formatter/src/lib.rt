@@ -5,6 +5,8 @@ use context::FormatConfig;
 use context::FormatterContext;
 use context::copy;
 use format::node;
+use keywords::table::TABLE_LENGTH;
+use keywords::table::table;
 use layout::Answer;
 use tape::Checked;
 use tape::check::check_call;
@@ -15,6 +17,7 @@ ghost use mathlib.Core.List.{_++_};
 ghost use Prim.Native.Nat.{_*_, _≤_, _<_};
 ghost use lib.ListN.{drop, length, set, take};
 ghost use Rattle.context.specs.Splice.{splice};
+ghost use Rattle.keywords.specs.Table.{table};
 ghost use Rattle.layout.specs.Layout.{original};
 ghost use Rattle.layout.specs.Outcome.{Result, configOf, laidOut, measured, outcome};
 ghost use Rattle.formatter.specs.Entry.{Fills, LaysOut, Measures, Ready, Trims, WalkedInto};
@@ -28,17 +31,19 @@ pub(crate) struct Walk {
 // The trimmed length of the layout. What is written for it goes into `space`, as far as that goes.
 fn walk_tree(
     text: &[u8],
+    keywords: &[u8; TABLE_LENGTH],
     tape: &[u8],
     config: FormatConfig,
     facts: &[u8],
     space: &mut [u8],
 ) -> usize
-    requires { ⌜ Ready (now text) (now tape) (now facts) config ⌝ }
+    requires { ⌜ Ready (now text) (now keywords) (now tape) (now facts) config ⌝ }
     ensures { λ r. ⌜ WalkedInto (now (text .entry)) (now (tape .entry)) config (now (space .entry)) r (now (space .exit)) ⌝ }
 {
     let root = head_at(tape, 0);
     let w = node(
         text,
+        keywords,
         tape,
         config,
         facts,
@@ -56,17 +61,18 @@ fn walk_tree(
 // The k bytes that trimming leaves, and the newline after them, by one more walk.
 fn write_layout(
     text: &[u8],
+    keywords: &[u8; TABLE_LENGTH],
     tape: &[u8],
     config: FormatConfig,
     facts: &[u8],
     out: &mut [u8],
     k: usize,
 )
-    requires { ⌜ Ready (now text) (now tape) (now facts) config ⌝ }
+    requires { ⌜ Ready (now text) (now keywords) (now tape) (now facts) config ⌝ }
     requires { ⌜ Trims (now text) (now tape) config k × (0 < k) × (k < length (now out)) ⌝ }
     ensures { λ _. ⌜ Fills (now (text .entry)) (now (tape .entry)) config (now (out .entry)) (now (out .exit)) ⌝ }
 {
-    walk_tree(text, tape, config, facts, &mut out[..k]);
+    walk_tree(text, keywords, tape, config, facts, &mut out[..k]);
     out[k] = 10;
 }
 
@@ -79,12 +85,18 @@ fn copy_layout(written: &[u8], out: &mut [u8], k: usize)
     out[k] = 10;
 }
 
-fn measure_accepted(text: &[u8], tape: &[u8], config: FormatConfig, facts: &[u8]) -> Answer
-    requires { ⌜ Ready (now text) (now tape) (now facts) config ⌝ }
+fn measure_accepted(
+    text: &[u8],
+    keywords: &[u8; TABLE_LENGTH],
+    tape: &[u8],
+    config: FormatConfig,
+    facts: &[u8],
+) -> Answer
+    requires { ⌜ Ready (now text) (now keywords) (now tape) (now facts) config ⌝ }
     ensures { λ r. ⌜ Measures (now (text .entry)) (now (tape .entry)) config r ⌝ }
 {
     let mut none = [0u8; 1];
-    let k = walk_tree(text, tape, config, facts, &mut none[..0]);
+    let k = walk_tree(text, keywords, tape, config, facts, &mut none[..0]);
     if k == 0 {
         return Answer {
             number: 0,
@@ -100,16 +112,17 @@ fn measure_accepted(text: &[u8], tape: &[u8], config: FormatConfig, facts: &[u8]
 // What fits into the lent space needs one walk, and a copy once 13 is decided.
 fn layout_accepted(
     text: &[u8],
+    keywords: &[u8; TABLE_LENGTH],
     tape: &[u8],
     config: FormatConfig,
     facts: &[u8],
     space: &mut [u8],
     out: &mut [u8],
 ) -> Answer
-    requires { ⌜ Ready (now text) (now tape) (now facts) config ⌝ }
+    requires { ⌜ Ready (now text) (now keywords) (now tape) (now facts) config ⌝ }
     ensures { λ r. ⌜ LaysOut (now (text .entry)) (now (tape .entry)) config (now (out .entry)) r (now (out .exit)) ⌝ }
 {
-    let k = walk_tree(text, tape, config, facts, space);
+    let k = walk_tree(text, keywords, tape, config, facts, space);
     if k == 0 {
         return Answer {
             number: 0,
@@ -129,7 +142,7 @@ fn layout_accepted(
             value: k as u64 + 1,
         };
     }
-    write_layout(text, tape, config, facts, out, k);
+    write_layout(text, keywords, tape, config, facts, out, k);
     Answer {
         number: 0,
         value: k as u64 + 1,
@@ -146,8 +159,15 @@ fn config_of(width: u64, case: u64) -> FormatConfig
 }
 
 // The needed length, or the refusal. `facts` has room for what the check notes of each node.
-fn measure_in(text: &[u8], tape: &[u8], width: u64, case: u64, facts: &mut [u8]) -> Answer
-    requires { ⌜ (length (now tape) ≤ 262144 → length (now tape) ≤ 11 * length (now facts)) ⌝ }
+fn measure_in(
+    text: &[u8],
+    keywords: &[u8; TABLE_LENGTH],
+    tape: &[u8],
+    width: u64,
+    case: u64,
+    facts: &mut [u8],
+) -> Answer
+    requires { ⌜ (length (now tape) ≤ 262144 → length (now tape) ≤ 11 * length (now facts)) × (now keywords ≡ table) ⌝ }
     ensures { λ r. ⌜ r ≡ measured (outcome original width case (now (text .entry)) (now (tape .entry))) ⌝ }
 {
     let checked = check_call(width, case, text, tape, facts);
@@ -156,13 +176,14 @@ fn measure_in(text: &[u8], tape: &[u8], width: u64, case: u64, facts: &mut [u8])
             number: number(fault),
             value: place as u64,
         },
-        Checked::Accepted => measure_accepted(text, tape, config_of(width, case), facts),
+        Checked::Accepted => measure_accepted(text, keywords, tape, config_of(width, case), facts),
     }
 }
 
 // The same, and the layout in `out`. What is walked first goes into `space`.
 fn layout_in(
     text: &[u8],
+    keywords: &[u8; TABLE_LENGTH],
     tape: &[u8],
     width: u64,
     case: u64,
@@ -170,7 +191,7 @@ fn layout_in(
     space: &mut [u8],
     out: &mut [u8],
 ) -> Answer
-    requires { ⌜ (length (now tape) ≤ 262144 → length (now tape) ≤ 11 * length (now facts)) ⌝ }
+    requires { ⌜ (length (now tape) ≤ 262144 → length (now tape) ≤ 11 * length (now facts)) × (now keywords ≡ table) ⌝ }
     ensures { λ r. ⌜ _≡_ {A = Result} (record { answer = r; space = now (out .exit) }) (laidOut (outcome original width case (now (text .entry)) (now (tape .entry))) (now (out .entry))) ⌝ }
 {
     let checked = check_call(width, case, text, tape, facts);
@@ -179,7 +200,15 @@ fn layout_in(
             number: number(fault),
             value: place as u64,
         },
-        Checked::Accepted => layout_accepted(text, tape, config_of(width, case), facts, space, out),
+        Checked::Accepted => layout_accepted(
+            text,
+            keywords,
+            tape,
+            config_of(width, case),
+            facts,
+            space,
+            out,
+        ),
     }
 }
 
@@ -189,36 +218,67 @@ fn measure_short(text: &[u8], tape: &[u8], width: u64, case: u64) -> Answer
     requires { ⌜ length (now tape) ≤ 8206 ⌝ }
     ensures { λ r. ⌜ r ≡ measured (outcome original width case (now (text .entry)) (now (tape .entry))) ⌝ }
 {
+    let keywords = table();
     let mut facts = [0u8; 746];
-    measure_in(text, tape, width, case, &mut facts)
+    measure_in(text, &keywords, tape, width, case, &mut facts)
 }
 
 fn measure_long(text: &[u8], tape: &[u8], width: u64, case: u64) -> Answer
     ensures { λ r. ⌜ r ≡ measured (outcome original width case (now (text .entry)) (now (tape .entry))) ⌝ }
 {
+    let keywords = table();
     let mut facts = [0u8; 23832];
-    measure_in(text, tape, width, case, &mut facts)
+    measure_in(text, &keywords, tape, width, case, &mut facts)
 }
 
 fn layout_short(text: &[u8], tape: &[u8], width: u64, case: u64, out: &mut [u8]) -> Answer
     requires { ⌜ length (now tape) ≤ 8206 ⌝ }
     ensures { λ r. ⌜ _≡_ {A = Result} (record { answer = r; space = now (out .exit) }) (laidOut (outcome original width case (now (text .entry)) (now (tape .entry))) (now (out .entry))) ⌝ }
 {
+    let keywords = table();
     let mut facts = [0u8; 746];
     let mut space = [0u8; 4096];
-    layout_in(text, tape, width, case, &mut facts, &mut space, out)
+    layout_in(
+        text,
+        &keywords,
+        tape,
+        width,
+        case,
+        &mut facts,
+        &mut space,
+        out,
+    )
 }
 
 fn layout_long(text: &[u8], tape: &[u8], width: u64, case: u64, out: &mut [u8]) -> Answer
     ensures { λ r. ⌜ _≡_ {A = Result} (record { answer = r; space = now (out .exit) }) (laidOut (outcome original width case (now (text .entry)) (now (tape .entry))) (now (out .entry))) ⌝ }
 {
+    let keywords = table();
     let mut facts = [0u8; 23832];
     let mut space = [0u8; 16384];
     // The layout of so long a text seldom fits, and what is written there would be written in vain.
     if 32768 < text.len() {
-        return layout_in(text, tape, width, case, &mut facts, &mut space[..0], out);
+        return layout_in(
+            text,
+            &keywords,
+            tape,
+            width,
+            case,
+            &mut facts,
+            &mut space[..0],
+            out,
+        );
     }
-    layout_in(text, tape, width, case, &mut facts, &mut space, out)
+    layout_in(
+        text,
+        &keywords,
+        tape,
+        width,
+        case,
+        &mut facts,
+        &mut space,
+        out,
+    )
 }
 
 pub fn measure(text: &[u8], tape: &[u8], width: u64, case: u64) -> Answer
@@ -237,24 +297,4 @@ pub fn layout(text: &[u8], tape: &[u8], width: u64, case: u64, out: &mut [u8]) -
         return layout_short(text, tape, width, case, out);
     }
     layout_long(text, tape, width, case, out)
-}
-
-#[no_mangle]
-pub extern "C" fn qdesk_measure(text: &[u8], tape: &[u8], width: u64, case: u64) -> Answer
-    ensures { λ r. ⌜ r ≡ measured (outcome original width case (now (text .entry)) (now (tape .entry))) ⌝ }
-{
-    measure(text, tape, width, case)
-}
-
-#[no_mangle]
-pub extern "C" fn qdesk_layout(
-    text: &[u8],
-    tape: &[u8],
-    width: u64,
-    case: u64,
-    out: &mut [u8],
-) -> Answer
-    ensures { λ r. ⌜ _≡_ {A = Result} (record { answer = r; space = now (out .exit) }) (laidOut (outcome original width case (now (text .entry)) (now (tape .entry))) (now (out .entry))) ⌝ }
-{
-    layout(text, tape, width, case, out)
 }

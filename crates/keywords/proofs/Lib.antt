@@ -1,4 +1,6 @@
 -- The laws that the proofs and the crates above cite.
 pub mod Capitals
-pub mod Codes
+pub mod Flat
+pub mod Places
 pub mod Lookup
+pub mod Sorts

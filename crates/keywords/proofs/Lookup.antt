@@ -1,105 +1,141 @@
 -- The one entry that the index leads to is the only one that can be equal to a word.
 use mathlib.Core.Path.{_≡_, refl, sym, ap, _∙_, subst}
-use mathlib.Core.Bool.{Bool, true, false, cond, _&&_, _||_, false≢true}
+use mathlib.Core.Bool.{Bool, true, false, cond, not, _&&_, _||_, false≢true}
 use mathlib.Core.Logic.{_⊎_, inl, inr}
-use mathlib.Core.List.{List, [], _∷_}
-use Prim.Native.Nat.{ℕ, _-_, _/_, _%_, _≤_, _<_}
+use mathlib.Core.List.{List, [], _∷_, map}
+use Prim.Native.Nat.{ℕ, zero, suc, _+_, _-_, _/_, _%_, _≤_, _<_}
+use native.Mathlib.Nat.{le-of-suc-le-suc, not-suc-le-zero}
 use native.Mathlib.Omega.{arith}
-use borrow.Author.Tests.{eq-eqb, ne-eqb}
+use borrow.Author.Tests.{eq-eqb, le-leb}
 use lib.Dec.{T, eqb, leb, eqb→eq, leb→le}
 use lib.ListN.{length, getD, length-map}
 use Rattle.keywords.specs.Names.{names}
 use Rattle.basics.specs.Case.{toUppercase}
 use Rattle.basics.specs.Match.{match}
-use Rattle.keywords.specs.Words.{capitals, words, same, listed, isKeyword}
-use Rattle.keywords.specs.Table.{capital, entry, entries, words-rule}
-use Rattle.keywords.specs.Index.{shifts, key, code, wordCode, codes}
+use Rattle.keywords.specs.Words.{bytes, capitals, words, same, isValueKeyword, placeOf}
+use Rattle.keywords.specs.Table as table
+use Rattle.keywords.specs.Table.{words-rule}
+use Rattle.keywords.specs.Index.{shifts, key, index, noEntry, entryOf, candidate, unpacked, numbers, mayBeListed, offset, Stands}
+use Rattle.keywords.specs.declared.Candidate.{Candidate}
+use Rattle.keywords.specs.declared.Candidate.the-variants.{One, Nothing}
+use Rattle.keywords.specs.declared.Entry as declared
+use Rattle.keywords.specs.declared.Place.{Place}
+use Rattle.keywords.specs.declared.Place.the-variants.{At, Nowhere}
 use Rattle.basics.proofs.Same.{both, same-equal}
 use Rattle.keywords.proofs.Capitals.{capitals-at}
-use Rattle.keywords.proofs.Codes.{code-injective, code-long, code-first}
+use Rattle.keywords.proofs.Places.{Entry, placed-entry, entry-placed, same-self}
 
--- the rule of an entry
-record Rule (e : List ℕ) : Type 0 where
-  long : 2 ≤ length e
-  short : length e ≤ 12
-  capitals-only : T (capital e)
+abbrev letterAt : List ℕ → ℕ → ℕ
+letterAt w i = getD w i 0 % 32
 
-rule-of : (e : List ℕ) (es : List (List ℕ)) → T (entries (e ∷ es)) → Rule e × T (entries es)
-rule-of e es t =
-    let u = both (entry e) (entries es) t in
-    let v = both (leb 2 (length e) && leb (length e) 12) (capital e) (u .0) in
-    let w = both (leb 2 (length e)) (leb (length e) 12) (v .0) in
-    (record { long = leb→le 2 (length e) (w .0); short = leb→le (length e) 12 (w .1); capitals-only = v .1 }, u .1)
+-- ── the index as numbers
 
--- the key of each entry leads to its code, so no two have one key: one computed test
-leads : List (List ℕ) → List (ℕ × ℕ) → Bool
-leads [] t = true
-leads (e ∷ es) t = eqb (match (key e) t 0) (code e) && leads es t
+module _ {A B : Type 0} (f : A → B) (k : ℕ) where
+  match-map : (t : List (ℕ × A)) (d : A) → f (match k t d) ≡ match k (map (λ (e : ℕ × A). (e .0, f (e .1))) t) (f d)
+  match-map [] d = refl
+  match-map (e ∷ es) d = go (eqb k (e .0)) (match-map es d)
+    where
+      go : (b : Bool) → f (match k es d) ≡ match k (map (λ (e : ℕ × A). (e .0, f (e .1))) es) (f d)
+          → f (cond b (e .1) (match k es d)) ≡ cond b (f (e .1)) (match k (map (λ (e : ℕ × A). (e .0, f (e .1))) es) (f d))
+      go true h = refl
+      go false h = h
 
-words-lead : T (leads words (codes words))
-unfolding names words shifts key code codes leads
-words-lead = tt
+-- each number gives its entry back: one computed test
+numbers-back : map (λ (e : ℕ × ℕ). (e .0, unpacked (e .1))) numbers ≡ index 0 0 words
+unfolding names words shifts key index numbers
+numbers-back = refl
 
--- what is known of an entry
-record Known (w : List ℕ) (t : List (ℕ × ℕ)) : Type 0 where
-  rule : Rule w
-  leads-to : match (key w) t 0 ≡ code w
+pub unpacked-entry : (k : ℕ) → unpacked (match k numbers 0) ≡ entryOf k
+unfolding entryOf
+unpacked-entry k = match-map unpacked k numbers 0 ∙ ap (λ (t : List (ℕ × declared.Entry)). match k t noEntry) numbers-back
 
-known : (w : List ℕ) (ws : List (List ℕ)) (t : List (ℕ × ℕ)) → T (entries ws) → T (leads ws t) → listed w ws ≡ true → Known w t
-unfolding listed leads
-known w [] t r l h = absurd (false≢true h)
-known w (e ∷ es) t r l h =
-    let rs = rule-of e es r in
-    let ls = both (eqb (match (key e) t 0) (code e)) (leads es t) l in
-    go (rs .0) (ls .0) (same e w) refl h (known w es t (rs .1) (ls .1))
+-- ── what the index leads to is an entry of the list
+
+-- an entry of the index is that of a place from i on
+record From (i n : ℕ) (es : List (List ℕ)) (r : declared.Entry) : Type 0 where
+  further : ℕ
+  inside : further < length es
+  place : r .place ≡ i + further
+  begins : r .at ≡ n + offset further es
+
+found-from : (k i n : ℕ) (es : List (List ℕ)) → (match k (index i n es) noEntry ≡ noEntry) ⊎ From i n es (match k (index i n es) noEntry)
+unfolding index offset
+found-from k i n [] = inl refl
+found-from k i n (e ∷ es) = go (eqb k (key e)) (found-from k (suc i) (n + suc (length e)) es)
   where
-    go : Rule e → T (eqb (match (key e) t 0) (code e)) → (b : Bool) → same e w ≡ b → (b || listed w es) ≡ true → (listed w es ≡ true → Known w t) → Known w t
-    go x y true s u more =
-        subst (λ v. Known v t) (same-equal e w s) (record { rule = x; leads-to = eqb→eq (match (key e) t 0) (code e) y })
-    go x y false s u more = more u
+    go : (b : Bool) → (match k (index (suc i) (n + suc (length e)) es) noEntry ≡ noEntry) ⊎ From (suc i) (n + suc (length e)) es (match k (index (suc i) (n + suc (length e)) es) noEntry)
+        → (cond b (record { place = i; at = n; first = letterAt e 0 }) (match k (index (suc i) (n + suc (length e)) es) noEntry) ≡ noEntry)
+        ⊎ From i n (e ∷ es) (cond b (record { place = i; at = n; first = letterAt e 0 }) (match k (index (suc i) (n + suc (length e)) es) noEntry))
+    go true x = inr (record { further = 0; inside = omega arith; place = omega arith; begins = omega arith })
+    go false (inl z) = inl z
+    go false (inr x) =
+        inr (record { further = suc (x .further); inside = omega (arith, x .inside); place = omega (arith, x .place); begins = omega (arith, x .begins) })
 
-known-word : (w : List ℕ) → listed w words ≡ true → Known w (codes words)
-known-word w h = known w words (codes words) words-rule words-lead h
+words-some : 0 < length words
+unfolding words names
+words-some = omega arith
 
--- an entry with the key k
-record Entry (k : ℕ) (ws : List (List ℕ)) : Type 0 where
-  word : List ℕ
-  rule : Rule word
-  isListed : listed word ws ≡ true
-  is : match k (codes ws) 0 ≡ code word
+first-offset : offset 0 words ≡ 0
+unfolding offset words names
+first-offset = refl
 
-same-self : (w : List ℕ) → same w w ≡ true
-unfolding same
-same-self [] = refl
-same-self (b ∷ w) = rw (eq-eqb b b refl, same-self w)
-
--- no entry has the key, or the table has the code of one that has it
-entry-at : (k : ℕ) (ws : List (List ℕ)) → T (entries ws) → (match k (codes ws) 0 ≡ 0) ⊎ Entry k ws
-unfolding codes listed
-entry-at k [] r = inl refl
-entry-at k (e ∷ es) r = go (eqb k (key e)) refl (entry-at k es (rule-of e es r .1))
+pub stands : (k : ℕ) → Stands (entryOf k)
+unfolding entryOf
+stands k = go (match k (index 0 0 words) noEntry) (found-from k 0 0 words)
   where
-    go : (b : Bool) → eqb k (key e) ≡ b → (match k (codes es) 0 ≡ 0) ⊎ Entry k es → (match k (codes (e ∷ es)) 0 ≡ 0) ⊎ Entry k (e ∷ es)
-    go true q more = inr (record { word = e; rule = rule-of e es r .0; isListed = rw (same-self e); is = rw q })
-    go false q (inl z) = inl (rw q z)
-    go false q (inr x) = inr (record { word = x .word; rule = x .rule; isListed = later (same e (x .word)) (x .isListed); is = rw q (x .is) })
-      where
-        later : (b : Bool) → listed (x .word) es ≡ true → (b || listed (x .word) es) ≡ true
-        later true u = refl
-        later false u = u
+    go : (r : declared.Entry) → (r ≡ noEntry) ⊎ From 0 0 words r → Stands r
+    go r (inl z) = rw z (record { inside = words-some; begins = sym first-offset })
+    go r (inr x) =
+        let p : r .place ≡ x .further = omega (arith, x .place) in
+        record { inside = omega (arith, p, x .inside); begins = rw p (omega (arith, x .begins)) }
 
--- a word that is too short or too long is no entry
-pub no-keyword : (w : List ℕ) → (2 ≤ length w → length w ≤ 12 → ⊥) → isKeyword w ≡ false
-no-keyword w h = go (isKeyword w) refl
-  where
-    go : (b : Bool) → isKeyword w ≡ b → b ≡ false
-    go false e = refl
-    go true e =
-        let r = known-word (capitals w) e .rule in
-        let l = length-map w toUppercase in
-        absurd (h (omega (arith, r .long)) (omega (arith, r .short)))
+-- ── each entry is led to
 
--- a word's key does not depend on the case of its letters
+-- what is known of the entry at a place: the rule of entries, and the index leads to it, so that it stands there once
+known : ℕ → List (List ℕ) → List (ℕ × declared.Entry) → Bool
+known i [] t = true
+known i (e ∷ es) t =
+    (table.entry e && (eqb (match (key e) t noEntry .place) i && eqb (match (key e) t noEntry .first) (letterAt e 0))) && known (suc i) es t
+
+-- of all entries: one computed test
+words-known : T (known 0 words (index 0 0 words))
+unfolding names words shifts key index known
+words-known = tt
+
+record Known (w : List ℕ) (i : ℕ) (t : List (ℕ × declared.Entry)) : Type 0 where
+  long : 2 ≤ length w
+  short : length w ≤ 12
+  led : match (key w) t noEntry .place ≡ i
+  begins : match (key w) t noEntry .first ≡ letterAt w 0
+
+known-at : (i : ℕ) (es : List (List ℕ)) (t : List (ℕ × declared.Entry)) (j : ℕ) → T (known i es t) → j < length es → Known (getD es j []) (i + j) t
+unfolding known
+known-at i [] t j k h = absurd (not-suc-le-zero h)
+known-at i (e ∷ es) t zero k h =
+    let u = both (table.entry e && (eqb (match (key e) t noEntry .place) i && eqb (match (key e) t noEntry .first) (letterAt e 0))) (known (suc i) es t) k .0 in
+    let v = both (table.entry e) (eqb (match (key e) t noEntry .place) i && eqb (match (key e) t noEntry .first) (letterAt e 0)) u in
+    let l = both (leb 2 (length e)) (leb (length e) 12) (both (leb 2 (length e) && leb (length e) 12) (table.capital e) (v .0) .0) in
+    let x = both (eqb (match (key e) t noEntry .place) i) (eqb (match (key e) t noEntry .first) (letterAt e 0)) (v .1) in
+    record {
+      long = leb→le 2 (length e) (l .0);
+      short = leb→le (length e) 12 (l .1);
+      led = eqb→eq (match (key e) t noEntry .place) i (x .0) ∙ omega arith;
+      begins = eqb→eq (match (key e) t noEntry .first) (letterAt e 0) (x .1);
+    }
+known-at i (e ∷ es) t (suc j) k h =
+    let u = both (table.entry e && (eqb (match (key e) t noEntry .place) i && eqb (match (key e) t noEntry .first) (letterAt e 0))) (known (suc i) es t) k .1 in
+    let r = known-at (suc i) es t j u (le-of-suc-le-suc h) in
+    let s : suc i + j ≡ i + suc j = omega arith in
+    rw (← s) r
+
+known-entry : (w : List ℕ) (i : ℕ) → Entry w words i → Known w i (index 0 0 words)
+known-entry w i x =
+    let z : 0 + i ≡ i = omega arith in
+    let r = known-at 0 words (index 0 0 words) i words-known (x .inside) in
+    subst (λ (v : List ℕ). Known v i (index 0 0 words)) (x .is) (subst (λ (n : ℕ). Known (getD words i []) n (index 0 0 words)) z r)
+
+-- ── a word's candidate does not depend on the case of its letters
+
 upper-letter : (b : ℕ) → toUppercase b % 32 ≡ b % 32
 unfolding toUppercase
 upper-letter b = go (leb 97 b) (leb b 122) refl
@@ -109,7 +145,7 @@ upper-letter b = go (leb 97 b) (leb b 122) refl
     go true false e = refl
     go true true e = let h = leb→le 97 b (rw e tt) in omega arith
 
-letter-capitals : (w : List ℕ) (i : ℕ) → i < length w → getD (capitals w) i 0 % 32 ≡ getD w i 0 % 32
+letter-capitals : (w : List ℕ) (i : ℕ) → i < length w → letterAt (capitals w) i ≡ letterAt w i
 letter-capitals w i h = rw (capitals-at w i h) (upper-letter (getD w i 0))
 
 key-capitals : (w : List ℕ) → 2 ≤ length w → key (capitals w) ≡ key w
@@ -122,51 +158,78 @@ key-capitals w h =
     let h3 = letter-capitals w (length w - 1) (omega arith) in
     cc
 
-is-true : (b : Bool) → T b → b ≡ true
-is-true true t = refl
-is-true false t = absurd t
+-- what is known of a word that has a place
+record Led (w : List ℕ) (i : ℕ) : Type 0 where
+  entry : Entry (capitals w) words i
+  leads : entryOf (key w) .place ≡ i
+  passes : mayBeListed w ≡ true
 
--- a word on the list has the code that its key leads to
-keyword-code : (w : List ℕ) → 2 ≤ length w → isKeyword w ≡ true → wordCode w ≡ match (key w) (codes words) 0
-unfolding wordCode
-keyword-code w h e =
-    let k = known-word (capitals w) e in
-    rw (is-true (capital (capitals w)) (k .rule .capitals-only), ← key-capitals w h) (sym (k .leads-to))
+placed-led : (w : List ℕ) (i : ℕ) → placeOf (capitals w) words ≡ At i → Led w i
+unfolding entryOf
+placed-led w i h =
+    let x = placed-entry (capitals w) words i h in
+    let k = known-entry (capitals w) i x in
+    let l = length-map w toUppercase in
+    let long : 2 ≤ length w = omega (arith, l, k .long) in
+    let short : length w ≤ 12 = omega (arith, l, k .short) in
+    let c = ap (λ (j : ℕ). match j (index 0 0 words) noEntry) (key-capitals w long) in
+    let f = ap (λ (e : declared.Entry). e .first) (sym c) ∙ k .begins ∙ letter-capitals w 0 (omega arith) in
+    record {
+      entry = x;
+      leads = ap (λ (e : declared.Entry). e .place) (sym c) ∙ k .led;
+      passes = rw (le-leb 2 (length w) long, le-leb (length w) 12 short) (eq-eqb _ _ f);
+    }
 
--- a word with the code that its key leads to is on the list
-code-keyword : (w : List ℕ) → 2 ≤ length w → wordCode w ≡ match (key w) (codes words) 0 → isKeyword w ≡ true
-unfolding wordCode
-code-keyword w h e = go (capital (capitals w)) refl e (entry-at (key w) words words-rule)
-  where
-    go : (b : Bool) → capital (capitals w) ≡ b → cond b (code (capitals w)) 1 ≡ match (key w) (codes words) 0
-        → (match (key w) (codes words) 0 ≡ 0) ⊎ Entry (key w) words → isKeyword w ≡ true
-    go false c q (inl z) = absurd (omega arith)
-    go false c q (inr x) = absurd (omega (arith, code-long (x .word) (x .rule .capitals-only) (x .rule .long), x .is))
-    go true c q (inl z) =
-        let l = length-map w toUppercase in
-        absurd (omega (arith, code-long (capitals w) (rw c tt) (omega arith)))
-    go true c q (inr x) =
-        let s = code-injective (capitals w) (x .word) (rw c tt) (x .rule .capitals-only) (q ∙ x .is) in
-        ap (λ (v : List ℕ). listed v words) s ∙ x .isListed
+-- what is left of a place once none can be
+none : (p : Place) → ((i : ℕ) → p ≡ At i → ⊥) → p ≡ Nowhere
+none (At i) h = absurd (h i refl)
+none Nowhere h = refl
 
--- a word is on the list where its code is the one that its key leads to
-pub keyword-is : (w : List ℕ) → 2 ≤ length w → eqb (wordCode w) (match (key w) (codes words) 0) ≡ isKeyword w
-keyword-is w h = go (isKeyword w) refl
-  where
-    go : (b : Bool) → isKeyword w ≡ b → eqb (wordCode w) (match (key w) (codes words) 0) ≡ b
-    go true e = eq-eqb _ _ (keyword-code w h e)
-    go false e = ne-eqb _ _ (λ q. false≢true (sym e ∙ code-keyword w h q))
+abbrev isOne : Candidate → Bool
+isOne (One e) = true
+isOne Nothing = false
 
--- a word whose key leads to another first letter is not on the list
-pub other-first : (w : List ℕ) → 2 ≤ length w → (match (key w) (codes words) 0 % 32 ≡ getD w 0 0 % 32 → ⊥) → isKeyword w ≡ false
-other-first w h n = go (isKeyword w) refl
-  where
-    go : (b : Bool) → isKeyword w ≡ b → b ≡ false
-    go false e = refl
-    go true e =
-        let k = known-word (capitals w) e in
-        let l = length-map w toUppercase in
-        let f = code-first (capitals w) (k .rule .capitals-only) (omega arith) in
-        let s = k .leads-to ∙ refl in
-        let m = ap (λ (j : ℕ). match j (codes words) 0 % 32) (key-capitals w h) in
-        absurd (n (sym m ∙ ap (λ (j : ℕ). j % 32) s ∙ f ∙ letter-capitals w 0 (omega arith)))
+module _ (w : List ℕ) where
+  -- a word that may not be listed has no place
+  not-listed : mayBeListed w ≡ false → placeOf (capitals w) words ≡ Nowhere
+  not-listed h = none (placeOf (capitals w) words) (λ i e. false≢true (sym h ∙ placed-led w i e .passes))
+
+  -- nor has one that is not the entry with its key
+  pub other-entry : same (capitals w) (getD words (entryOf (key w) .place) []) ≡ false → placeOf (capitals w) words ≡ Nowhere
+  other-entry h =
+      none (placeOf (capitals w) words) (λ i e.
+      let x = placed-led w i e in
+      let y = ap (λ (j : ℕ). getD words j []) (x .leads) ∙ x .entry .is in
+      false≢true (sym h ∙ ap (λ (v : List ℕ). same (capitals w) v) y ∙ same-self (capitals w)))
+
+  -- one that is has the entry's place
+  pub this-entry : same (capitals w) (getD words (entryOf (key w) .place) []) ≡ true → placeOf (capitals w) words ≡ At (entryOf (key w) .place)
+  this-entry h =
+      let x : Entry (capitals w) words (entryOf (key w) .place) = record { inside = stands (key w) .inside; is = sym (same-equal (capitals w) (getD words (entryOf (key w) .place) []) h) } in
+      let y = entry-placed (capitals w) words (entryOf (key w) .place) x in
+      y .is ∙ ap At (sym (placed-led w (y .place) (y .is) .leads))
+
+  -- the one entry that can be equal is the one with the word's key
+  pub one-is : (e : declared.Entry) → candidate w ≡ One e → e ≡ entryOf (key w)
+  one-is e h = go (mayBeListed w) h
+    where
+      go : (b : Bool) → cond b (One (entryOf (key w))) Nothing ≡ One e → e ≡ entryOf (key w)
+      go true u = sym (ap (λ (x : Candidate). from x) u)
+        where
+          from : Candidate → declared.Entry
+          from (One x) = x
+          from Nothing = noEntry
+      go false u = absurd (false≢true (ap (λ (x : Candidate). isOne x) u))
+
+  -- where there is none the word has no place
+  pub nothing-is : candidate w ≡ Nothing → placeOf (capitals w) words ≡ Nowhere
+  nothing-is h = not-listed (go (mayBeListed w) h)
+    where
+      go : (b : Bool) → cond b (One (entryOf (key w))) Nothing ≡ Nothing → b ≡ false
+      go true u = absurd (false≢true (sym (ap (λ (x : Candidate). isOne x) u)))
+      go false u = refl
+
+  -- a word of 2 to 12 bytes has the entry with its key for its candidate, if that begins with its letter
+  pub candidate-is : (e : declared.Entry) → 2 ≤ length w → length w ≤ 12 → e ≡ entryOf (key w) → (b : Bool) → eqb (e .first) (letterAt w 0) ≡ b
+      → cond b (One e) Nothing ≡ candidate w
+  candidate-is e l s q b t = rw (le-leb 2 (length w) l, le-leb (length w) 12 s, ← q, t) refl

@@ -1,11 +1,15 @@
 -- The index of the list: which entry can be equal to a word.
-use mathlib.Core.Bool.{cond}
-use mathlib.Core.List.{List, [], _∷_}
-use Prim.Native.Nat.{ℕ, _+_, _*_, _-_, _/_, _%_}
+use mathlib.Core.Bool.{Bool, cond, _&&_}
+use mathlib.Core.Path.{_≡_}
+use mathlib.Core.List.{List, [], _∷_, map}
+use Prim.Native.Nat.{ℕ, zero, suc, _+_, _*_, _-_, _/_, _%_, _<_}
+use lib.Dec.{eqb, leb}
 use lib.ListN.{length, getD}
 use Rattle.basics.specs.Match.{match}
-use Rattle.keywords.specs.Words.{capitals}
-use Rattle.keywords.specs.Table.{capital}
+use Rattle.keywords.specs.Words.{words}
+use Rattle.keywords.specs.declared.Candidate.{Candidate}
+use Rattle.keywords.specs.declared.Candidate.the-variants.{One, Nothing}
+use Rattle.keywords.specs.declared.Entry.{Entry}
 
 -- what keeps the keys of the entries apart, for each bucket that needs it
 unfoldable pub shifts : List (ℕ × ℕ)
@@ -23,16 +27,44 @@ letterAt w i = getD w i 0 % 32
 unfoldable pub key : List ℕ → ℕ
 key w = (2 * letterAt w 1 + 5 * letterAt w (length w / 2) + letterAt w (length w - 1) + match ((letterAt w 0 + 4 * length w) % 64) shifts 0) % 256
 
--- capitals as a number: digits in base 32, the first the lowest
-unfoldable pub code : List ℕ → ℕ
-code [] = 0
-code (b ∷ w) = b - 64 + 32 * code w
+-- the entries by their keys, from a place of the list and of the table on
+unfoldable pub index : ℕ → ℕ → List (List ℕ) → List (ℕ × Entry)
+index i n [] = []
+index i n (e ∷ es) = (key e, record { place = i; at = n; first = letterAt e 0 }) ∷ index (suc i) (n + suc (length e)) es
 
--- the code of a word in any case; 1, which no entry has, if a byte is no letter
-unfoldable pub wordCode : List ℕ → ℕ
-wordCode w = cond (capital (capitals w)) (code (capitals w)) 1
+-- where no entry has the key: the first of the list, with no letter's number
+abbrev pub noEntry : Entry
+noEntry = record { place = 0; at = 0; first = 0 }
 
--- the entries' codes by their keys
-unfoldable pub codes : List (List ℕ) → List (ℕ × ℕ)
-codes [] = []
-codes (e ∷ es) = (key e, code e) ∷ codes es
+-- the entry with a key
+unfoldable pub entryOf : ℕ → Entry
+entryOf k = match k (index 0 0 words) noEntry
+
+-- the index as numbers, one for each entry, and an entry from its number
+abbrev pub packed : Entry → ℕ
+packed e = 65536 * e .place + 32 * e .at + e .first
+
+abbrev pub unpacked : ℕ → Entry
+unpacked n = record { place = n / 65536; at = n / 32 % 2048; first = n % 32 }
+
+unfoldable pub numbers : List (ℕ × ℕ)
+numbers = map (λ (e : ℕ × Entry). (e .0, packed (e .1))) (index 0 0 words)
+
+-- 2 to 12 bytes, the first of which is, in either case, the first letter of the entry with the word's key
+abbrev pub mayBeListed : List ℕ → Bool
+mayBeListed w = leb 2 (length w) && (leb (length w) 12 && eqb (entryOf (key w) .first) (letterAt w 0))
+
+-- the one entry that can be equal to a word, if any can
+abbrev pub candidate : List ℕ → Candidate
+candidate w = cond (mayBeListed w) (One (entryOf (key w))) Nothing
+
+-- where the entry at a place of the list begins in the table
+unfoldable pub offset : ℕ → List (List ℕ) → ℕ
+offset i [] = 0
+offset zero (e ∷ es) = 0
+offset (suc i) (e ∷ es) = suc (length e + offset i es)
+
+-- it is an entry of the list
+pub record Stands (e : Entry) : Type 0 where
+  pub inside : e .place < length words
+  pub begins : e .at ≡ offset (e .place) words

@@ -5,8 +5,9 @@ use context::put;
 use context::put_in_case;
 use context::put_short;
 use context::token_text;
-use keywords::is_keyword;
-use keywords::is_value_keyword;
+use keywords::Word;
+use keywords::table::TABLE_LENGTH;
+use keywords::word_in;
 use layout::Local;
 use layout::PrevKind;
 use tape::Head;
@@ -21,6 +22,7 @@ ghost use Rattle.context.specs.Store.{Room};
 ghost use lib.Dec.{eqb};
 ghost use Rattle.context.specs.Cells.{count, tokenText};
 ghost use Rattle.keywords.specs.Words.{isKeyword, isValueKeyword};
+ghost use Rattle.keywords.specs.Table.{table};
 ghost use Rattle.tape.specs.Kinds.{Whitespace};
 ghost use Rattle.layout.specs.Arms.{blankLine, blankLineBeforeComment, lineOrSpace, seen, writeKeyword, writeText};
 ghost use Rattle.layout.specs.Calls.{formatErrorVerbatim};
@@ -165,21 +167,25 @@ fn is_as_typed(casing: Casing) -> bool
 }
 
 // Whether it is a word on the list that is no value.
-fn is_cased(text: &[u8]) -> bool
+fn is_cased(keywords: &[u8; TABLE_LENGTH], text: &[u8]) -> bool
+    requires { ⌜ now keywords ≡ table ⌝ }
     ensures { λ r. ⌜ r ≡ (isKeyword (now (text .entry)) && not (isValueKeyword (now (text .entry)))) ⌝ }
 {
-    if is_keyword(text) {
-        return !is_value_keyword(text);
+    let word = word_in(keywords, text);
+    match word {
+        Word::Plain => false,
+        Word::Value(_) => false,
+        Word::Keyword(_) => true,
     }
-    false
 }
 
-fn is_in_case(text: &[u8], casing: Casing) -> bool
+fn is_in_case(keywords: &[u8; TABLE_LENGTH], text: &[u8], casing: Casing) -> bool
+    requires { ⌜ now keywords ≡ table ⌝ }
     ensures { λ r. ⌜ r ≡ inCase casing (now (text .entry)) ⌝ }
 {
     match casing {
         Casing::AsTyped => false,
-        Casing::Listed => is_cased(text),
+        Casing::Listed => is_cased(keywords, text),
         Casing::Always => true,
     }
 }
@@ -193,14 +199,15 @@ fn put_any(
     text: &[u8],
     casing: Casing,
     uppercase: bool,
+    keywords: &[u8; TABLE_LENGTH],
 ) -> usize
-    requires { ⌜ at + blanks < 2 ^ 64 ⌝ }
+    requires { ⌜ (at + blanks < 2 ^ 64) × (now keywords ≡ table) ⌝ }
     ensures { λ r. ⌜ PutText at blanks (now (text .entry)) (inCase casing (now (text .entry))) uppercase (now (out .entry)) r (now (out .exit)) ⌝ }
 {
     if out.len() <= at {
         return trimmed_length(&text[..]);
     }
-    if is_in_case(&text[..], casing) {
+    if is_in_case(keywords, &text[..], casing) {
         return put_in_case(out, at, blanks, uppercase, &text[..]);
     }
     put(out, at, blanks, &text[..])
@@ -214,8 +221,9 @@ fn put_text(
     text: &[u8],
     casing: Casing,
     uppercase: bool,
+    keywords: &[u8; TABLE_LENGTH],
 ) -> usize
-    requires { ⌜ at + blanks + length (now text) < 2 ^ 64 ⌝ }
+    requires { ⌜ (at + blanks + length (now text) < 2 ^ 64) × (now keywords ≡ table) ⌝ }
     ensures { λ r. ⌜ PutText at blanks (now (text .entry)) (inCase casing (now (text .entry))) uppercase (now (out .entry)) r (now (out .exit)) ⌝ }
 {
     if out.len() <= at {
@@ -230,18 +238,19 @@ fn put_text(
             }
         }
     }
-    put_any(out, at, blanks, &text[..], casing, uppercase)
+    put_any(out, at, blanks, &text[..], casing, uppercase, keywords)
 }
 
 // write_token of the token's text.
 pub fn write_text(
     source: &[u8],
+    keywords: &[u8; TABLE_LENGTH],
     config: FormatConfig,
     out: &mut [u8],
     ctx: FormatterContext,
     token: Head,
 ) -> FormatterContext
-    requires { ⌜ TokenReady 1 (now source) config token ctx ⌝ }
+    requires { ⌜ TokenReady 1 (now source) config token ctx × (now keywords ≡ table) ⌝ }
     ensures { λ r. ⌜ Acted 1 config (now (source .entry)) token (writeText ∷ []) ctx (now (out .entry)) r (now (out .exit)) ⌝ }
 {
     let start = token.start;
@@ -249,19 +258,28 @@ pub fn write_text(
     let text = token_text(source, start, end);
     let p = ctx.position;
     let blanks = ctx.lead_blanks(config);
-    let j = put_text(out, p.length, blanks, text, Casing::AsTyped, false);
+    let j = put_text(
+        out,
+        p.length,
+        blanks,
+        text,
+        Casing::AsTyped,
+        false,
+        keywords,
+    );
     ctx.after_text(blanks, text.len(), j)
 }
 
 // write_keyword of the token's text.
 pub fn write_word(
     source: &[u8],
+    keywords: &[u8; TABLE_LENGTH],
     config: FormatConfig,
     out: &mut [u8],
     ctx: FormatterContext,
     token: Head,
 ) -> FormatterContext
-    requires { ⌜ TokenReady 1 (now source) config token ctx ⌝ }
+    requires { ⌜ TokenReady 1 (now source) config token ctx × (now keywords ≡ table) ⌝ }
     ensures { λ r. ⌜ Acted 1 config (now (source .entry)) token (writeKeyword ∷ []) ctx (now (out .entry)) r (now (out .exit)) ⌝ }
 {
     let start = token.start;
@@ -276,6 +294,7 @@ pub fn write_word(
         text,
         Casing::Always,
         config.uppercase_keywords,
+        keywords,
     );
     ctx.after_text(blanks, text.len(), j)
 }
@@ -352,12 +371,13 @@ pub fn emit_comment(
 
 pub fn emit_token(
     source: &[u8],
+    keywords: &[u8; TABLE_LENGTH],
     config: FormatConfig,
     out: &mut [u8],
     ctx: FormatterContext,
     token: Head,
 ) -> FormatterContext
-    requires { ⌜ TokenReady 1 (now source) config token ctx ⌝ }
+    requires { ⌜ TokenReady 1 (now source) config token ctx × (now keywords ≡ table) ⌝ }
     ensures { λ r. ⌜ Acted 1 config (now (source .entry)) token (emitToken (seen (now (source .entry)) token)) ctx (now (out .entry)) r (now (out .exit)) ⌝ }
 {
     if token.kind == syntax_kind::WHITESPACE {
@@ -375,6 +395,7 @@ pub fn emit_token(
         text,
         casing_of(token.kind),
         config.uppercase_keywords,
+        keywords,
     );
     ctx.after_text(blanks, text.len(), j)
 }
@@ -456,12 +477,13 @@ pub fn trivia_token(
 // that the one of any other token stays in registers.
 pub fn emit_other(
     source: &[u8],
+    keywords: &[u8; TABLE_LENGTH],
     config: FormatConfig,
     out: &mut [u8],
     ctx: FormatterContext,
     token: Head,
 ) -> FormatterContext
-    requires { ⌜ TokenReady 4 (now source) config token ctx ⌝ }
+    requires { ⌜ TokenReady 4 (now source) config token ctx × (now keywords ≡ table) ⌝ }
     ensures { λ r. ⌜ Acted 4 config (now (source .entry)) token (emitOther (seen (now (source .entry)) token)) ctx (now (out .entry)) r (now (out .exit)) ⌝ }
 {
     if is_trivia(token.kind) {
@@ -482,18 +504,19 @@ pub fn emit_other(
         );
         return a;
     }
-    emit_token(source, config, out, ctx, token)
+    emit_token(source, keywords, config, out, ctx, token)
 }
 
 // The same in a routine without a comment arm.
 pub fn emit_uncommented(
     source: &[u8],
+    keywords: &[u8; TABLE_LENGTH],
     config: FormatConfig,
     out: &mut [u8],
     ctx: FormatterContext,
     token: Head,
 ) -> FormatterContext
-    requires { ⌜ TokenReady 4 (now source) config token ctx ⌝ }
+    requires { ⌜ TokenReady 4 (now source) config token ctx × (now keywords ≡ table) ⌝ }
     ensures { λ r. ⌜ Acted 4 config (now (source .entry)) token (emitUncommented (seen (now (source .entry)) token)) ctx (now (out .entry)) r (now (out .exit)) ⌝ }
 {
     if token.kind == syntax_kind::WHITESPACE {
@@ -514,7 +537,7 @@ pub fn emit_uncommented(
         );
         return a;
     }
-    emit_token(source, config, out, ctx, token)
+    emit_token(source, keywords, config, out, ctx, token)
 }
 
 // The text of a node whose span, if it does not run backwards, lies within the text.

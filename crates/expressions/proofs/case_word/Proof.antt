@@ -65,7 +65,7 @@ write-newline-requires-2 : tie.Need-write-newline-requires-2
 write-newline-requires-2 c κs = search needs
 
 write-word-requires-3 : tie.Need-write-word-requires-3
-write-word-requires-3 c κs = record { text-fits = c .before .before .before .before .before .before .before .before .before .before .before .before .before .before .before .before .before .before .pre .text-fits; width-fits = c .before .before .before .before .before .before .before .before .before .before .before .before .before .before .before .before .before .before .pre .width-fits; ordered = c .before .before .before .before .before .before .before .before .before .before .before .before .before .before .before .before .before .before .pre .ordered; within = c .before .before .before .before .before .before .before .before .before .before .before .before .before .before .before .before .before .before .pre .within; room = record { level = omega (arith, c .before .before .before .before .before .before .before .before .before .before .before .before .before .before .before .before .before .before .pre .room .level, c .before .before .before .write-newline2 .ensures .spent .level, c .before .before .before .before .before .dedent .ensures .spent .level); length = omega (arith, c .before .before .before .before .before .before .before .before .before .before .before .before .before .before .before .before .before .before .pre .room .length, c .before .before .before .write-newline2 .ensures .spent .length, c .before .before .before .before .before .dedent .ensures .spent .length) } }
+write-word-requires-3 c κs = (record { text-fits = c .before .before .before .before .before .before .before .before .before .before .before .before .before .before .before .before .before .before .pre .0 .text-fits; width-fits = c .before .before .before .before .before .before .before .before .before .before .before .before .before .before .before .before .before .before .pre .0 .width-fits; ordered = c .before .before .before .before .before .before .before .before .before .before .before .before .before .before .before .before .before .before .pre .0 .ordered; within = c .before .before .before .before .before .before .before .before .before .before .before .before .before .before .before .before .before .before .pre .0 .within; room = record { level = omega (arith, c .before .before .before .before .before .before .before .before .before .before .before .before .before .before .before .before .before .before .pre .0 .room .level, c .before .before .before .write-newline2 .ensures .spent .level, c .before .before .before .before .before .dedent .ensures .spent .level); length = omega (arith, c .before .before .before .before .before .before .before .before .before .before .before .before .before .before .before .before .before .before .pre .0 .room .length, c .before .before .before .write-newline2 .ensures .spent .length, c .before .before .before .before .before .dedent .ensures .spent .length) } }, c .before .before .before .before .before .before .before .before .before .before .before .before .before .before .before .before .before .before .pre .1)
 
 same-length-3 : tie.Need-same-length-3
 same-length-3 c = search needs

@@ -33,7 +33,14 @@ write-newline-requires-2 : tie.Need-write-newline-requires-2
 write-newline-requires-2 c κs = search needs
 
 write-sign-requires-2 : tie.Need-write-sign-requires-2
-write-sign-requires-2 c κs = search needs
+write-sign-requires-2 c κs =
+    let p = c .before .before .before .before .before .before .before .before .before .before .before .before .pre .0 in (
+      record {
+        level = omega (arith, p .room .level, c .before .before .before .write-newline2 .ensures .spent .level, c .before .before .before .before .before .dedent .ensures .spent .level);
+        length = omega (arith, p .room .length, c .before .before .before .write-newline2 .ensures .spent .length, c .before .before .before .before .before .dedent .ensures .spent .length);
+      },
+      p .width-fits,
+    )
 
 same-length-2 : tie.Need-same-length-2
 same-length-2 c = search needs

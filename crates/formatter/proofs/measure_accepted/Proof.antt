@@ -19,12 +19,12 @@ returns : tie.Need-returns
 unfolding format
 returns c = let a = c .before .before .before .before .before .before .before .args in record { all = λ t p q. measured-none (allCells (a .config) (a .text .now) t) (c .before .before .walk-tree .result) (c .before .before .walk-tree .ensures .trims .all t p q) (c .if1 .taken) }
 
-add-t11 : tie.Need-add-t11
-add-t11 c = search needs
+add-t12 : tie.Need-add-t12
+add-t12 c = search needs
 
 returns-2 : tie.Need-returns-2
 unfolding format
 returns-2 c = let a = c .before .before .before .before .before .before .before .args in record { all = λ t p q. measured-some (allCells (a .config) (a .text .now) t) (c .before .before .walk-tree .result) (c .before .before .walk-tree .ensures .trims .all t p q) (c .if1 .left) }
 
 pub measure-accepted-spec : {M : Type 1} → statement M
-measure-accepted-spec = tie.close (tie.spec array-borrow-prefix-none slice-aggregate-walk-tree walk-tree-requires returns add-t11 returns-2)
+measure-accepted-spec = tie.close (tie.spec array-borrow-prefix-none slice-aggregate-walk-tree walk-tree-requires returns add-t12 returns-2)

@@ -22,7 +22,7 @@ config-of-requires : tie.Need-config-of-requires
 config-of-requires c κs = search needs
 
 measure-accepted-requires : tie.Need-measure-accepted-requires
-measure-accepted-requires c κs = let a = c .before .before .before .before .before .before .before .before .before .before .before .args in rw (c .before .config-of .ensures) (ready (a .width) (a .case) (a .text .now) (a .tape .now) (sym (c .before .before .enum-told .given .1) ∙ c .before .before .before .before .before .before .check-call .ensures .0) (c .before .before .before .before .before .before .check-call .ensures .1) (λ fits. omega (arith, c .before .before .before .before .before .before .before .before .before .before .before .pre fits, c .before .before .before .before .before .before .check-call .kept .1 .1 .1 .1 .0)))
+measure-accepted-requires c κs = let a = c .before .before .before .before .before .before .before .before .before .before .before .args in rw (c .before .config-of .ensures) (ready (a .width) (a .case) (a .text .now) (a .tape .now) (sym (c .before .before .enum-told .given .1) ∙ c .before .before .before .before .before .before .check-call .ensures .0) (c .before .before .before .before .before .before .check-call .ensures .1) (λ fits. omega (arith, c .before .before .before .before .before .before .before .before .before .before .before .pre .0 fits, c .before .before .before .before .before .before .check-call .kept .1 .1 .1 .1 .0)) (c .before .before .before .before .before .before .before .before .before .before .before .pre .1))
 
 same-length : tie.Need-same-length
 same-length c = search needs

@@ -22,7 +22,7 @@ returns : tie.Need-returns
 returns c = acted 4 _ (omega arith) (other-trivia _ _ (sym (c .before .before .before .before .is-trivia .ensures) ∙ c .before .before .before .if1 .taken)) (blank-acted (c .before .before .before .before .before .before .before .args .token .kind) (c .before .before .token-text .ensures) (c .before .is-blank .ensures (c .if2 .taken)))
 
 emit-trivia-requires : tie.Need-emit-trivia-requires
-emit-trivia-requires c κs = text-ready (omega arith) (c .before .before .before .before .before .before .before .before .pre) (c .before .before .before .token-text .ensures)
+emit-trivia-requires c κs = text-ready (omega arith) (c .before .before .before .before .before .before .before .before .pre .0) (c .before .before .before .token-text .ensures)
 
 same-length : tie.Need-same-length
 same-length c = search needs

@@ -16,13 +16,13 @@ put-text-requires : tie.Need-put-text-requires
 put-text-requires c κs = search needs
 
 after-text-requires : tie.Need-after-text-requires
-after-text-requires c κs = let k = text-fits (c .before .before .before .before .before .before .before .before .before .pre) (c .before .before .before .before .before .before .token-text .ensures) in (omega (arith, k, c .before .before .before .before .lead-blanks .ensures .1, c .before .before .before .before .before .before .before .before .before .pre .room .length), omega (arith, c .before .before .put-text .ensures .left, trimmed-le (c .before .before .before .before .before .before .token-text .result .now)))
+after-text-requires c κs = let k = text-fits (c .before .before .before .before .before .before .before .before .before .pre .0) (c .before .before .before .before .before .before .token-text .ensures) in (omega (arith, k, c .before .before .before .before .lead-blanks .ensures .1, c .before .before .before .before .before .before .before .before .before .pre .0 .room .length), omega (arith, c .before .before .put-text .ensures .left, trimmed-le (c .before .before .before .before .before .before .token-text .result .now)))
 
 same-length : tie.Need-same-length
 same-length c = search needs
 
 returns : tie.Need-returns
-returns c = put-typed (c .before .before .before .before .before .before .before .before .before .before .pre) (c .before .before .before .before .before .before .before .token-text .ensures) (c .before .before .before .before .before .lead-blanks .ensures) (c .after-text .ensures) (c .before .before .before .put-text .ensures)
+returns c = put-typed (c .before .before .before .before .before .before .before .before .before .before .pre .0) (c .before .before .before .before .before .before .before .token-text .ensures) (c .before .before .before .before .before .lead-blanks .ensures) (c .after-text .ensures) (c .before .before .before .put-text .ensures)
 
 pub write-text-spec : {M : Type 1} → statement M
 write-text-spec =

@@ -157,270 +157,270 @@ use Rattle.tokens.proofs.space_if.Reads as space-if-reads
 use Rattle.formatter.proofs.format.+alter+binary+brace+bracket+call+case+comma+dtype+file+inl_list+inline+join+list_by+no_spaces+node+paren+pass+queries+sel_stmt+select+settings+simple+subquery+tight_paren+unary+union+when+with.{statement}
 use Rattle.formatter.proofs.format.+alter+binary+brace+bracket+call+case+comma+dtype+file+inl_list+inline+join+list_by+no_spaces+node+paren+pass+queries+sel_stmt+select+settings+simple+subquery+tight_paren+unary+union+when+with.Tie.{close}
 
-abbrev μ-alter : Measures 4 alter-kinds.ps ℕ
-μ-alter κs a = 2 * a .1 .1 .1 .1 .1 .0
+abbrev μ-alter : Measures 5 alter-kinds.ps ℕ
+μ-alter κs a = 2 * a .1 .1 .1 .1 .1 .1 .0
 
-abbrev μ-binary : Measures 4 binary-kinds.ps ℕ
-μ-binary κs a = 2 * a .1 .1 .1 .1 .1 .0
+abbrev μ-binary : Measures 5 binary-kinds.ps ℕ
+μ-binary κs a = 2 * a .1 .1 .1 .1 .1 .1 .0
 
-abbrev μ-brace : Measures 4 brace-kinds.ps ℕ
-μ-brace κs a = 2 * a .1 .1 .1 .1 .1 .0
+abbrev μ-brace : Measures 5 brace-kinds.ps ℕ
+μ-brace κs a = 2 * a .1 .1 .1 .1 .1 .1 .0
 
-abbrev μ-bracket : Measures 4 bracket-kinds.ps ℕ
-μ-bracket κs a = 2 * a .1 .1 .1 .1 .1 .0
+abbrev μ-bracket : Measures 5 bracket-kinds.ps ℕ
+μ-bracket κs a = 2 * a .1 .1 .1 .1 .1 .1 .0
 
-abbrev μ-call : Measures 4 call-kinds.ps ℕ
-μ-call κs a = 2 * a .1 .1 .1 .1 .1 .0
+abbrev μ-call : Measures 5 call-kinds.ps ℕ
+μ-call κs a = 2 * a .1 .1 .1 .1 .1 .1 .0
 
-abbrev μ-case : Measures 4 case-kinds.ps ℕ
-μ-case κs a = 2 * a .1 .1 .1 .1 .1 .0
+abbrev μ-case : Measures 5 case-kinds.ps ℕ
+μ-case κs a = 2 * a .1 .1 .1 .1 .1 .1 .0
 
-abbrev μ-comma : Measures 4 comma-kinds.ps ℕ
-μ-comma κs a = 2 * a .1 .1 .1 .1 .1 .0
+abbrev μ-comma : Measures 5 comma-kinds.ps ℕ
+μ-comma κs a = 2 * a .1 .1 .1 .1 .1 .1 .0
 
-abbrev μ-dtype : Measures 4 dtype-kinds.ps ℕ
-μ-dtype κs a = 2 * a .1 .1 .1 .1 .1 .0
+abbrev μ-dtype : Measures 5 dtype-kinds.ps ℕ
+μ-dtype κs a = 2 * a .1 .1 .1 .1 .1 .1 .0
 
-abbrev μ-file : Measures 4 file-kinds.ps ℕ
-μ-file κs a = 2 * a .1 .1 .1 .1 .1 .0
+abbrev μ-file : Measures 5 file-kinds.ps ℕ
+μ-file κs a = 2 * a .1 .1 .1 .1 .1 .1 .0
 
-abbrev μ-inl-list : Measures 4 inl-list-kinds.ps ℕ
-μ-inl-list κs a = 2 * a .1 .1 .1 .1 .1 .0
+abbrev μ-inl-list : Measures 5 inl-list-kinds.ps ℕ
+μ-inl-list κs a = 2 * a .1 .1 .1 .1 .1 .1 .0
 
-abbrev μ-inline : Measures 4 inline-kinds.ps ℕ
-μ-inline κs a = 2 * a .1 .1 .1 .1 .1 .0
+abbrev μ-inline : Measures 5 inline-kinds.ps ℕ
+μ-inline κs a = 2 * a .1 .1 .1 .1 .1 .1 .0
 
-abbrev μ-join : Measures 4 join-kinds.ps ℕ
-μ-join κs a = 2 * a .1 .1 .1 .1 .1 .0
+abbrev μ-join : Measures 5 join-kinds.ps ℕ
+μ-join κs a = 2 * a .1 .1 .1 .1 .1 .1 .0
 
-abbrev μ-list-by : Measures 4 list-by-kinds.ps ℕ
-μ-list-by κs a = 2 * a .1 .1 .1 .1 .1 .0
+abbrev μ-list-by : Measures 5 list-by-kinds.ps ℕ
+μ-list-by κs a = 2 * a .1 .1 .1 .1 .1 .1 .0
 
-abbrev μ-no-spaces : Measures 4 no-spaces-kinds.ps ℕ
-μ-no-spaces κs a = 2 * a .1 .1 .1 .1 .1 .0
+abbrev μ-no-spaces : Measures 5 no-spaces-kinds.ps ℕ
+μ-no-spaces κs a = 2 * a .1 .1 .1 .1 .1 .1 .0
 
-abbrev μ-node : Measures 4 node-kinds.ps ℕ
-μ-node κs a = 2 * a .1 .1 .1 .1 .1 .0 + 1
+abbrev μ-node : Measures 5 node-kinds.ps ℕ
+μ-node κs a = 2 * a .1 .1 .1 .1 .1 .1 .0 + 1
 
-abbrev μ-paren : Measures 4 paren-kinds.ps ℕ
-μ-paren κs a = 2 * a .1 .1 .1 .1 .1 .0
+abbrev μ-paren : Measures 5 paren-kinds.ps ℕ
+μ-paren κs a = 2 * a .1 .1 .1 .1 .1 .1 .0
 
-abbrev μ-pass : Measures 4 pass-kinds.ps ℕ
-μ-pass κs a = 2 * a .1 .1 .1 .1 .1 .0
+abbrev μ-pass : Measures 5 pass-kinds.ps ℕ
+μ-pass κs a = 2 * a .1 .1 .1 .1 .1 .1 .0
 
-abbrev μ-queries : Measures 4 queries-kinds.ps ℕ
-μ-queries κs a = 2 * a .1 .1 .1 .1 .1 .0
+abbrev μ-queries : Measures 5 queries-kinds.ps ℕ
+μ-queries κs a = 2 * a .1 .1 .1 .1 .1 .1 .0
 
-abbrev μ-sel-stmt : Measures 4 sel-stmt-kinds.ps ℕ
-μ-sel-stmt κs a = 2 * a .1 .1 .1 .1 .1 .0
+abbrev μ-sel-stmt : Measures 5 sel-stmt-kinds.ps ℕ
+μ-sel-stmt κs a = 2 * a .1 .1 .1 .1 .1 .1 .0
 
-abbrev μ-select : Measures 4 select-kinds.ps ℕ
-μ-select κs a = 2 * a .1 .1 .1 .1 .1 .0
+abbrev μ-select : Measures 5 select-kinds.ps ℕ
+μ-select κs a = 2 * a .1 .1 .1 .1 .1 .1 .0
 
-abbrev μ-settings : Measures 4 settings-kinds.ps ℕ
-μ-settings κs a = 2 * a .1 .1 .1 .1 .1 .0
+abbrev μ-settings : Measures 5 settings-kinds.ps ℕ
+μ-settings κs a = 2 * a .1 .1 .1 .1 .1 .1 .0
 
-abbrev μ-simple : Measures 4 simple-kinds.ps ℕ
-μ-simple κs a = 2 * a .1 .1 .1 .1 .1 .0
+abbrev μ-simple : Measures 5 simple-kinds.ps ℕ
+μ-simple κs a = 2 * a .1 .1 .1 .1 .1 .1 .0
 
-abbrev μ-subquery : Measures 4 subquery-kinds.ps ℕ
-μ-subquery κs a = 2 * a .1 .1 .1 .1 .1 .0
+abbrev μ-subquery : Measures 5 subquery-kinds.ps ℕ
+μ-subquery κs a = 2 * a .1 .1 .1 .1 .1 .1 .0
 
-abbrev μ-tight-paren : Measures 4 tight-paren-kinds.ps ℕ
-μ-tight-paren κs a = 2 * a .1 .1 .1 .1 .1 .0
+abbrev μ-tight-paren : Measures 5 tight-paren-kinds.ps ℕ
+μ-tight-paren κs a = 2 * a .1 .1 .1 .1 .1 .1 .0
 
-abbrev μ-unary : Measures 4 unary-kinds.ps ℕ
-μ-unary κs a = 2 * a .1 .1 .1 .1 .1 .0
+abbrev μ-unary : Measures 5 unary-kinds.ps ℕ
+μ-unary κs a = 2 * a .1 .1 .1 .1 .1 .1 .0
 
-abbrev μ-union : Measures 4 union-kinds.ps ℕ
-μ-union κs a = 2 * a .1 .1 .1 .1 .1 .0
+abbrev μ-union : Measures 5 union-kinds.ps ℕ
+μ-union κs a = 2 * a .1 .1 .1 .1 .1 .1 .0
 
-abbrev μ-when : Measures 4 when-kinds.ps ℕ
-μ-when κs a = 2 * a .1 .1 .1 .1 .1 .0
+abbrev μ-when : Measures 5 when-kinds.ps ℕ
+μ-when κs a = 2 * a .1 .1 .1 .1 .1 .1 .0
 
-abbrev μ-with : Measures 4 with-kinds.ps ℕ
-μ-with κs a = 2 * a .1 .1 .1 .1 .1 .0
+abbrev μ-with : Measures 5 with-kinds.ps ℕ
+μ-with κs a = 2 * a .1 .1 .1 .1 .1 .1 .0
 
-abbrev alter-at : ℕ → In 4 alter-kinds.ps
-alter-at t = and 4 alter-kinds.ps (is 4 alter-kinds.ps μ-alter t) alter.Pre
+abbrev alter-at : ℕ → In 5 alter-kinds.ps
+alter-at t = and 5 alter-kinds.ps (is 5 alter-kinds.ps μ-alter t) alter.Pre
 
-abbrev alter-below : ℕ → In 4 alter-kinds.ps
-alter-below t = and 4 alter-kinds.ps (falls 4 alter-kinds.ps _<_ μ-alter t) alter.Pre
+abbrev alter-below : ℕ → In 5 alter-kinds.ps
+alter-below t = and 5 alter-kinds.ps (falls 5 alter-kinds.ps _<_ μ-alter t) alter.Pre
 
-abbrev binary-at : ℕ → In 4 binary-kinds.ps
-binary-at t = and 4 binary-kinds.ps (is 4 binary-kinds.ps μ-binary t) binary.Pre
+abbrev binary-at : ℕ → In 5 binary-kinds.ps
+binary-at t = and 5 binary-kinds.ps (is 5 binary-kinds.ps μ-binary t) binary.Pre
 
-abbrev binary-below : ℕ → In 4 binary-kinds.ps
-binary-below t = and 4 binary-kinds.ps (falls 4 binary-kinds.ps _<_ μ-binary t) binary.Pre
+abbrev binary-below : ℕ → In 5 binary-kinds.ps
+binary-below t = and 5 binary-kinds.ps (falls 5 binary-kinds.ps _<_ μ-binary t) binary.Pre
 
-abbrev brace-at : ℕ → In 4 brace-kinds.ps
-brace-at t = and 4 brace-kinds.ps (is 4 brace-kinds.ps μ-brace t) brace.Pre
+abbrev brace-at : ℕ → In 5 brace-kinds.ps
+brace-at t = and 5 brace-kinds.ps (is 5 brace-kinds.ps μ-brace t) brace.Pre
 
-abbrev brace-below : ℕ → In 4 brace-kinds.ps
-brace-below t = and 4 brace-kinds.ps (falls 4 brace-kinds.ps _<_ μ-brace t) brace.Pre
+abbrev brace-below : ℕ → In 5 brace-kinds.ps
+brace-below t = and 5 brace-kinds.ps (falls 5 brace-kinds.ps _<_ μ-brace t) brace.Pre
 
-abbrev bracket-at : ℕ → In 4 bracket-kinds.ps
-bracket-at t = and 4 bracket-kinds.ps (is 4 bracket-kinds.ps μ-bracket t) bracket.Pre
+abbrev bracket-at : ℕ → In 5 bracket-kinds.ps
+bracket-at t = and 5 bracket-kinds.ps (is 5 bracket-kinds.ps μ-bracket t) bracket.Pre
 
-abbrev bracket-below : ℕ → In 4 bracket-kinds.ps
-bracket-below t = and 4 bracket-kinds.ps (falls 4 bracket-kinds.ps _<_ μ-bracket t) bracket.Pre
+abbrev bracket-below : ℕ → In 5 bracket-kinds.ps
+bracket-below t = and 5 bracket-kinds.ps (falls 5 bracket-kinds.ps _<_ μ-bracket t) bracket.Pre
 
-abbrev call-at : ℕ → In 4 call-kinds.ps
-call-at t = and 4 call-kinds.ps (is 4 call-kinds.ps μ-call t) call.Pre
+abbrev call-at : ℕ → In 5 call-kinds.ps
+call-at t = and 5 call-kinds.ps (is 5 call-kinds.ps μ-call t) call.Pre
 
-abbrev call-below : ℕ → In 4 call-kinds.ps
-call-below t = and 4 call-kinds.ps (falls 4 call-kinds.ps _<_ μ-call t) call.Pre
+abbrev call-below : ℕ → In 5 call-kinds.ps
+call-below t = and 5 call-kinds.ps (falls 5 call-kinds.ps _<_ μ-call t) call.Pre
 
-abbrev case-at : ℕ → In 4 case-kinds.ps
-case-at t = and 4 case-kinds.ps (is 4 case-kinds.ps μ-case t) case.Pre
+abbrev case-at : ℕ → In 5 case-kinds.ps
+case-at t = and 5 case-kinds.ps (is 5 case-kinds.ps μ-case t) case.Pre
 
-abbrev case-below : ℕ → In 4 case-kinds.ps
-case-below t = and 4 case-kinds.ps (falls 4 case-kinds.ps _<_ μ-case t) case.Pre
+abbrev case-below : ℕ → In 5 case-kinds.ps
+case-below t = and 5 case-kinds.ps (falls 5 case-kinds.ps _<_ μ-case t) case.Pre
 
-abbrev comma-at : ℕ → In 4 comma-kinds.ps
-comma-at t = and 4 comma-kinds.ps (is 4 comma-kinds.ps μ-comma t) comma.Pre
+abbrev comma-at : ℕ → In 5 comma-kinds.ps
+comma-at t = and 5 comma-kinds.ps (is 5 comma-kinds.ps μ-comma t) comma.Pre
 
-abbrev comma-below : ℕ → In 4 comma-kinds.ps
-comma-below t = and 4 comma-kinds.ps (falls 4 comma-kinds.ps _<_ μ-comma t) comma.Pre
+abbrev comma-below : ℕ → In 5 comma-kinds.ps
+comma-below t = and 5 comma-kinds.ps (falls 5 comma-kinds.ps _<_ μ-comma t) comma.Pre
 
-abbrev dtype-at : ℕ → In 4 dtype-kinds.ps
-dtype-at t = and 4 dtype-kinds.ps (is 4 dtype-kinds.ps μ-dtype t) dtype.Pre
+abbrev dtype-at : ℕ → In 5 dtype-kinds.ps
+dtype-at t = and 5 dtype-kinds.ps (is 5 dtype-kinds.ps μ-dtype t) dtype.Pre
 
-abbrev dtype-below : ℕ → In 4 dtype-kinds.ps
-dtype-below t = and 4 dtype-kinds.ps (falls 4 dtype-kinds.ps _<_ μ-dtype t) dtype.Pre
+abbrev dtype-below : ℕ → In 5 dtype-kinds.ps
+dtype-below t = and 5 dtype-kinds.ps (falls 5 dtype-kinds.ps _<_ μ-dtype t) dtype.Pre
 
-abbrev file-at : ℕ → In 4 file-kinds.ps
-file-at t = and 4 file-kinds.ps (is 4 file-kinds.ps μ-file t) file.Pre
+abbrev file-at : ℕ → In 5 file-kinds.ps
+file-at t = and 5 file-kinds.ps (is 5 file-kinds.ps μ-file t) file.Pre
 
-abbrev file-below : ℕ → In 4 file-kinds.ps
-file-below t = and 4 file-kinds.ps (falls 4 file-kinds.ps _<_ μ-file t) file.Pre
+abbrev file-below : ℕ → In 5 file-kinds.ps
+file-below t = and 5 file-kinds.ps (falls 5 file-kinds.ps _<_ μ-file t) file.Pre
 
-abbrev inl-list-at : ℕ → In 4 inl-list-kinds.ps
-inl-list-at t = and 4 inl-list-kinds.ps (is 4 inl-list-kinds.ps μ-inl-list t) inl-list.Pre
+abbrev inl-list-at : ℕ → In 5 inl-list-kinds.ps
+inl-list-at t = and 5 inl-list-kinds.ps (is 5 inl-list-kinds.ps μ-inl-list t) inl-list.Pre
 
-abbrev inl-list-below : ℕ → In 4 inl-list-kinds.ps
+abbrev inl-list-below : ℕ → In 5 inl-list-kinds.ps
 inl-list-below t =
-    and 4 inl-list-kinds.ps (falls 4 inl-list-kinds.ps _<_ μ-inl-list t) inl-list.Pre
+    and 5 inl-list-kinds.ps (falls 5 inl-list-kinds.ps _<_ μ-inl-list t) inl-list.Pre
 
-abbrev inline-at : ℕ → In 4 inline-kinds.ps
-inline-at t = and 4 inline-kinds.ps (is 4 inline-kinds.ps μ-inline t) inline.Pre
+abbrev inline-at : ℕ → In 5 inline-kinds.ps
+inline-at t = and 5 inline-kinds.ps (is 5 inline-kinds.ps μ-inline t) inline.Pre
 
-abbrev inline-below : ℕ → In 4 inline-kinds.ps
-inline-below t = and 4 inline-kinds.ps (falls 4 inline-kinds.ps _<_ μ-inline t) inline.Pre
+abbrev inline-below : ℕ → In 5 inline-kinds.ps
+inline-below t = and 5 inline-kinds.ps (falls 5 inline-kinds.ps _<_ μ-inline t) inline.Pre
 
-abbrev join-at : ℕ → In 4 join-kinds.ps
-join-at t = and 4 join-kinds.ps (is 4 join-kinds.ps μ-join t) join.Pre
+abbrev join-at : ℕ → In 5 join-kinds.ps
+join-at t = and 5 join-kinds.ps (is 5 join-kinds.ps μ-join t) join.Pre
 
-abbrev join-below : ℕ → In 4 join-kinds.ps
-join-below t = and 4 join-kinds.ps (falls 4 join-kinds.ps _<_ μ-join t) join.Pre
+abbrev join-below : ℕ → In 5 join-kinds.ps
+join-below t = and 5 join-kinds.ps (falls 5 join-kinds.ps _<_ μ-join t) join.Pre
 
-abbrev list-by-at : ℕ → In 4 list-by-kinds.ps
-list-by-at t = and 4 list-by-kinds.ps (is 4 list-by-kinds.ps μ-list-by t) list-by.Pre
+abbrev list-by-at : ℕ → In 5 list-by-kinds.ps
+list-by-at t = and 5 list-by-kinds.ps (is 5 list-by-kinds.ps μ-list-by t) list-by.Pre
 
-abbrev list-by-below : ℕ → In 4 list-by-kinds.ps
-list-by-below t = and 4 list-by-kinds.ps (falls 4 list-by-kinds.ps _<_ μ-list-by t) list-by.Pre
+abbrev list-by-below : ℕ → In 5 list-by-kinds.ps
+list-by-below t = and 5 list-by-kinds.ps (falls 5 list-by-kinds.ps _<_ μ-list-by t) list-by.Pre
 
-abbrev no-spaces-at : ℕ → In 4 no-spaces-kinds.ps
-no-spaces-at t = and 4 no-spaces-kinds.ps (is 4 no-spaces-kinds.ps μ-no-spaces t) no-spaces.Pre
+abbrev no-spaces-at : ℕ → In 5 no-spaces-kinds.ps
+no-spaces-at t = and 5 no-spaces-kinds.ps (is 5 no-spaces-kinds.ps μ-no-spaces t) no-spaces.Pre
 
-abbrev no-spaces-below : ℕ → In 4 no-spaces-kinds.ps
+abbrev no-spaces-below : ℕ → In 5 no-spaces-kinds.ps
 no-spaces-below t =
-    and 4 no-spaces-kinds.ps (falls 4 no-spaces-kinds.ps _<_ μ-no-spaces t) no-spaces.Pre
+    and 5 no-spaces-kinds.ps (falls 5 no-spaces-kinds.ps _<_ μ-no-spaces t) no-spaces.Pre
 
-abbrev node-at : ℕ → In 4 node-kinds.ps
-node-at t = and 4 node-kinds.ps (is 4 node-kinds.ps μ-node t) node.Pre
+abbrev node-at : ℕ → In 5 node-kinds.ps
+node-at t = and 5 node-kinds.ps (is 5 node-kinds.ps μ-node t) node.Pre
 
-abbrev node-below : ℕ → In 4 node-kinds.ps
-node-below t = and 4 node-kinds.ps (falls 4 node-kinds.ps _<_ μ-node t) node.Pre
+abbrev node-below : ℕ → In 5 node-kinds.ps
+node-below t = and 5 node-kinds.ps (falls 5 node-kinds.ps _<_ μ-node t) node.Pre
 
-abbrev paren-at : ℕ → In 4 paren-kinds.ps
-paren-at t = and 4 paren-kinds.ps (is 4 paren-kinds.ps μ-paren t) paren.Pre
+abbrev paren-at : ℕ → In 5 paren-kinds.ps
+paren-at t = and 5 paren-kinds.ps (is 5 paren-kinds.ps μ-paren t) paren.Pre
 
-abbrev paren-below : ℕ → In 4 paren-kinds.ps
-paren-below t = and 4 paren-kinds.ps (falls 4 paren-kinds.ps _<_ μ-paren t) paren.Pre
+abbrev paren-below : ℕ → In 5 paren-kinds.ps
+paren-below t = and 5 paren-kinds.ps (falls 5 paren-kinds.ps _<_ μ-paren t) paren.Pre
 
-abbrev pass-at : ℕ → In 4 pass-kinds.ps
-pass-at t = and 4 pass-kinds.ps (is 4 pass-kinds.ps μ-pass t) pass.Pre
+abbrev pass-at : ℕ → In 5 pass-kinds.ps
+pass-at t = and 5 pass-kinds.ps (is 5 pass-kinds.ps μ-pass t) pass.Pre
 
-abbrev pass-below : ℕ → In 4 pass-kinds.ps
-pass-below t = and 4 pass-kinds.ps (falls 4 pass-kinds.ps _<_ μ-pass t) pass.Pre
+abbrev pass-below : ℕ → In 5 pass-kinds.ps
+pass-below t = and 5 pass-kinds.ps (falls 5 pass-kinds.ps _<_ μ-pass t) pass.Pre
 
-abbrev queries-at : ℕ → In 4 queries-kinds.ps
-queries-at t = and 4 queries-kinds.ps (is 4 queries-kinds.ps μ-queries t) queries.Pre
+abbrev queries-at : ℕ → In 5 queries-kinds.ps
+queries-at t = and 5 queries-kinds.ps (is 5 queries-kinds.ps μ-queries t) queries.Pre
 
-abbrev queries-below : ℕ → In 4 queries-kinds.ps
-queries-below t = and 4 queries-kinds.ps (falls 4 queries-kinds.ps _<_ μ-queries t) queries.Pre
+abbrev queries-below : ℕ → In 5 queries-kinds.ps
+queries-below t = and 5 queries-kinds.ps (falls 5 queries-kinds.ps _<_ μ-queries t) queries.Pre
 
-abbrev sel-stmt-at : ℕ → In 4 sel-stmt-kinds.ps
-sel-stmt-at t = and 4 sel-stmt-kinds.ps (is 4 sel-stmt-kinds.ps μ-sel-stmt t) sel-stmt.Pre
+abbrev sel-stmt-at : ℕ → In 5 sel-stmt-kinds.ps
+sel-stmt-at t = and 5 sel-stmt-kinds.ps (is 5 sel-stmt-kinds.ps μ-sel-stmt t) sel-stmt.Pre
 
-abbrev sel-stmt-below : ℕ → In 4 sel-stmt-kinds.ps
+abbrev sel-stmt-below : ℕ → In 5 sel-stmt-kinds.ps
 sel-stmt-below t =
-    and 4 sel-stmt-kinds.ps (falls 4 sel-stmt-kinds.ps _<_ μ-sel-stmt t) sel-stmt.Pre
+    and 5 sel-stmt-kinds.ps (falls 5 sel-stmt-kinds.ps _<_ μ-sel-stmt t) sel-stmt.Pre
 
-abbrev select-at : ℕ → In 4 select-kinds.ps
-select-at t = and 4 select-kinds.ps (is 4 select-kinds.ps μ-select t) select.Pre
+abbrev select-at : ℕ → In 5 select-kinds.ps
+select-at t = and 5 select-kinds.ps (is 5 select-kinds.ps μ-select t) select.Pre
 
-abbrev select-below : ℕ → In 4 select-kinds.ps
-select-below t = and 4 select-kinds.ps (falls 4 select-kinds.ps _<_ μ-select t) select.Pre
+abbrev select-below : ℕ → In 5 select-kinds.ps
+select-below t = and 5 select-kinds.ps (falls 5 select-kinds.ps _<_ μ-select t) select.Pre
 
-abbrev settings-at : ℕ → In 4 settings-kinds.ps
-settings-at t = and 4 settings-kinds.ps (is 4 settings-kinds.ps μ-settings t) settings.Pre
+abbrev settings-at : ℕ → In 5 settings-kinds.ps
+settings-at t = and 5 settings-kinds.ps (is 5 settings-kinds.ps μ-settings t) settings.Pre
 
-abbrev settings-below : ℕ → In 4 settings-kinds.ps
+abbrev settings-below : ℕ → In 5 settings-kinds.ps
 settings-below t =
-    and 4 settings-kinds.ps (falls 4 settings-kinds.ps _<_ μ-settings t) settings.Pre
+    and 5 settings-kinds.ps (falls 5 settings-kinds.ps _<_ μ-settings t) settings.Pre
 
-abbrev simple-at : ℕ → In 4 simple-kinds.ps
-simple-at t = and 4 simple-kinds.ps (is 4 simple-kinds.ps μ-simple t) simple.Pre
+abbrev simple-at : ℕ → In 5 simple-kinds.ps
+simple-at t = and 5 simple-kinds.ps (is 5 simple-kinds.ps μ-simple t) simple.Pre
 
-abbrev simple-below : ℕ → In 4 simple-kinds.ps
-simple-below t = and 4 simple-kinds.ps (falls 4 simple-kinds.ps _<_ μ-simple t) simple.Pre
+abbrev simple-below : ℕ → In 5 simple-kinds.ps
+simple-below t = and 5 simple-kinds.ps (falls 5 simple-kinds.ps _<_ μ-simple t) simple.Pre
 
-abbrev subquery-at : ℕ → In 4 subquery-kinds.ps
-subquery-at t = and 4 subquery-kinds.ps (is 4 subquery-kinds.ps μ-subquery t) subquery.Pre
+abbrev subquery-at : ℕ → In 5 subquery-kinds.ps
+subquery-at t = and 5 subquery-kinds.ps (is 5 subquery-kinds.ps μ-subquery t) subquery.Pre
 
-abbrev subquery-below : ℕ → In 4 subquery-kinds.ps
+abbrev subquery-below : ℕ → In 5 subquery-kinds.ps
 subquery-below t =
-    and 4 subquery-kinds.ps (falls 4 subquery-kinds.ps _<_ μ-subquery t) subquery.Pre
+    and 5 subquery-kinds.ps (falls 5 subquery-kinds.ps _<_ μ-subquery t) subquery.Pre
 
-abbrev tight-paren-at : ℕ → In 4 tight-paren-kinds.ps
+abbrev tight-paren-at : ℕ → In 5 tight-paren-kinds.ps
 tight-paren-at t =
-    and 4 tight-paren-kinds.ps (is 4 tight-paren-kinds.ps μ-tight-paren t) tight-paren.Pre
+    and 5 tight-paren-kinds.ps (is 5 tight-paren-kinds.ps μ-tight-paren t) tight-paren.Pre
 
-abbrev tight-paren-below : ℕ → In 4 tight-paren-kinds.ps
+abbrev tight-paren-below : ℕ → In 5 tight-paren-kinds.ps
 tight-paren-below t =
-    and 4 tight-paren-kinds.ps (falls 4 tight-paren-kinds.ps _<_ μ-tight-paren t) tight-paren.Pre
+    and 5 tight-paren-kinds.ps (falls 5 tight-paren-kinds.ps _<_ μ-tight-paren t) tight-paren.Pre
 
-abbrev unary-at : ℕ → In 4 unary-kinds.ps
-unary-at t = and 4 unary-kinds.ps (is 4 unary-kinds.ps μ-unary t) unary.Pre
+abbrev unary-at : ℕ → In 5 unary-kinds.ps
+unary-at t = and 5 unary-kinds.ps (is 5 unary-kinds.ps μ-unary t) unary.Pre
 
-abbrev unary-below : ℕ → In 4 unary-kinds.ps
-unary-below t = and 4 unary-kinds.ps (falls 4 unary-kinds.ps _<_ μ-unary t) unary.Pre
+abbrev unary-below : ℕ → In 5 unary-kinds.ps
+unary-below t = and 5 unary-kinds.ps (falls 5 unary-kinds.ps _<_ μ-unary t) unary.Pre
 
-abbrev union-at : ℕ → In 4 union-kinds.ps
-union-at t = and 4 union-kinds.ps (is 4 union-kinds.ps μ-union t) union.Pre
+abbrev union-at : ℕ → In 5 union-kinds.ps
+union-at t = and 5 union-kinds.ps (is 5 union-kinds.ps μ-union t) union.Pre
 
-abbrev union-below : ℕ → In 4 union-kinds.ps
-union-below t = and 4 union-kinds.ps (falls 4 union-kinds.ps _<_ μ-union t) union.Pre
+abbrev union-below : ℕ → In 5 union-kinds.ps
+union-below t = and 5 union-kinds.ps (falls 5 union-kinds.ps _<_ μ-union t) union.Pre
 
-abbrev when-at : ℕ → In 4 when-kinds.ps
-when-at t = and 4 when-kinds.ps (is 4 when-kinds.ps μ-when t) when.Pre
+abbrev when-at : ℕ → In 5 when-kinds.ps
+when-at t = and 5 when-kinds.ps (is 5 when-kinds.ps μ-when t) when.Pre
 
-abbrev when-below : ℕ → In 4 when-kinds.ps
-when-below t = and 4 when-kinds.ps (falls 4 when-kinds.ps _<_ μ-when t) when.Pre
+abbrev when-below : ℕ → In 5 when-kinds.ps
+when-below t = and 5 when-kinds.ps (falls 5 when-kinds.ps _<_ μ-when t) when.Pre
 
-abbrev with-at : ℕ → In 4 with-kinds.ps
-with-at t = and 4 with-kinds.ps (is 4 with-kinds.ps μ-with t) with.Pre
+abbrev with-at : ℕ → In 5 with-kinds.ps
+with-at t = and 5 with-kinds.ps (is 5 with-kinds.ps μ-with t) with.Pre
 
-abbrev with-below : ℕ → In 4 with-kinds.ps
-with-below t = and 4 with-kinds.ps (falls 4 with-kinds.ps _<_ μ-with t) with.Pre
+abbrev with-below : ℕ → In 5 with-kinds.ps
+with-below t = and 5 with-kinds.ps (falls 5 with-kinds.ps _<_ μ-with t) with.Pre
 
 abbrev alter-Inv-loop : alter-lts.InvT-loop
-alter-Inv-loop source tape config facts out₀ left at i₀ ctx₀ out i ctx = Loop source tape facts config left at (always formatAlterCommandList) formatAlterCommandList ctx₀ out₀ out i ctx (flagged false)
+alter-Inv-loop source keywords tape config facts out₀ left at i₀ ctx₀ out i ctx = Loop source tape facts config left at (always formatAlterCommandList) formatAlterCommandList ctx₀ out₀ out i ctx (flagged false)
 
 abbrev alter-μ-loop : alter-lts.MeasureT-loop
-alter-μ-loop source tape config facts out₀ left at i₀ ctx₀ out i ctx = length tape - i
+alter-μ-loop source keywords tape config facts out₀ left at i₀ ctx₀ out i ctx = length tape - i
 
 alter-add-i : (t : ℕ) → alter-lts.Need-add-i (
   head-at-reads.Asked,
@@ -482,7 +482,7 @@ alter-alter-command-list-token-requires :
       node-below t,
       node.Post,
     ) (alter-at t) alter.Post alter-Inv-loop alter-μ-loop
-alter-alter-command-list-token-requires t c κs = token-ready (c .before .before .before .before .before .before .before .before .before .before .before .pre .1) (c .before .before .before .before .before .before .loop .inv) _ (c .before .if2 .taken) (c .before .before .before .head-at .ensures)
+alter-alter-command-list-token-requires t c κs = (token-ready (c .before .before .before .before .before .before .before .before .before .before .before .pre .1) (c .before .before .before .before .before .before .loop .inv) _ (c .before .if2 .taken) (c .before .before .before .head-at .ensures), (c .before .before .before .before .before .before .before .before .before .before .before .pre .1) .words)
 
 alter-add-i-2 : (t : ℕ) → alter-lts.Need-add-i-2 (
   head-at-reads.Asked,
@@ -513,7 +513,7 @@ alter-loop-again : (t : ℕ) → alter-lts.Need-loop-again (
   node.Post,
 ) (alter-at t) alter.Post alter-Inv-loop alter-μ-loop
 unfolding formatAlterCommandList
-alter-loop-again t c = token-next (c .before .before .before .before .before .before .before .before .before .before .before .before .before .before .pre .1) (c .before .before .before .before .before .before .before .before .before .loop .inv) (c .before .before .before .before .if2 .taken) (c .before .before .before .before .before .before .head-at .ensures) (c .before .before .alter-command-list-token .ensures) refl (c .before .before .alter-command-list-token .kept .1 .1 .0)
+alter-loop-again t c = token-next (c .before .before .before .before .before .before .before .before .before .before .before .before .before .before .pre .1) (c .before .before .before .before .before .before .before .before .before .loop .inv) (c .before .before .before .before .if2 .taken) (c .before .before .before .before .before .before .head-at .ensures) (c .before .before .alter-command-list-token .ensures) refl (c .before .before .alter-command-list-token .kept .1 .1 .1 .0)
 
 alter-sub-node : (t : ℕ) → alter-lts.Need-sub-node (
   head-at-reads.Asked,
@@ -554,9 +554,9 @@ alter-loop-again-2 : (t : ℕ) → alter-lts.Need-loop-again-2 (
   node.Post,
 ) (alter-at t) alter.Post alter-Inv-loop alter-μ-loop
 unfolding formatAlterCommandList
-alter-loop-again-2 t c = node-next (c .before .before .before .before .before .before .before .before .before .before .before .before .before .before .before .pre .1) (c .before .before .before .before .before .before .before .before .before .before .loop .inv) (formatAlterCommandList .atNode (flagged false) (c .before .before .before .before .before .before .before .head-at .result .kind) 0) (c .before .before .before .before .before .before .before .before .if1 .taken) (c .before .before .before .before .before .if2 .left) (c .before .before .before .before .before .before .before .head-at .ensures) (λ k z. refl) (no-spacing {xs = c .before .before .before .before .before .before .before .before .before .before .loop .out}) (c .before .before .before .node .ensures) refl no-spacing (omega arith) (omega arith) (c .before .before .before .node .kept .1 .1 .1 .1 .0)
+alter-loop-again-2 t c = node-next (c .before .before .before .before .before .before .before .before .before .before .before .before .before .before .before .pre .1) (c .before .before .before .before .before .before .before .before .before .before .loop .inv) (formatAlterCommandList .atNode (flagged false) (c .before .before .before .before .before .before .before .head-at .result .kind) 0) (c .before .before .before .before .before .before .before .before .if1 .taken) (c .before .before .before .before .before .if2 .left) (c .before .before .before .before .before .before .before .head-at .ensures) (λ k z. refl) (no-spacing {xs = c .before .before .before .before .before .before .before .before .before .before .loop .out}) (c .before .before .before .node .ensures) refl no-spacing (omega arith) (omega arith) (c .before .before .before .node .kept .1 .1 .1 .1 .1 .0)
 
-alter-add-t23 : (t : ℕ) → alter-lts.Need-add-t23 (
+alter-add-t24 : (t : ℕ) → alter-lts.Need-add-t24 (
   head-at-reads.Asked,
   head-at-reads.Learnt,
   alter-command-list-token-reads.Asked,
@@ -564,7 +564,7 @@ alter-add-t23 : (t : ℕ) → alter-lts.Need-add-t23 (
   node-below t,
   node.Post,
 ) (alter-at t) alter.Post alter-Inv-loop alter-μ-loop
-alter-add-t23 t c = omega (arith, c .before .before .loop .inv .inside, c .before .before .before .before .before .before .before .pre .1 .sizes .tape-fits)
+alter-add-t24 t c = omega (arith, c .before .before .loop .inv .inside, c .before .before .before .before .before .before .before .pre .1 .sizes .tape-fits)
 
 alter-same-length : (t : ℕ) → alter-lts.Need-same-length (
   head-at-reads.Asked,
@@ -588,10 +588,10 @@ unfolding formatAlterCommandList
 alter-returns t c = loop-last (c .before .before .before .before .before .before .before .pre .1) (c .before .before .loop .inv) (c .if1 .left) no-spacing (omega arith)
 
 abbrev binary-Inv-loop : binary-lts.InvT-loop
-binary-Inv-loop source tape config facts out₀ left at i₀ ctx₀ out i ctx = Loop source tape facts config left at (always formatBinaryExpression) formatBinaryExpression ctx₀ out₀ out i ctx (flagged false)
+binary-Inv-loop source keywords tape config facts out₀ left at i₀ ctx₀ out i ctx = Loop source tape facts config left at (always formatBinaryExpression) formatBinaryExpression ctx₀ out₀ out i ctx (flagged false)
 
 abbrev binary-μ-loop : binary-lts.MeasureT-loop
-binary-μ-loop source tape config facts out₀ left at i₀ ctx₀ out i ctx = length tape - i
+binary-μ-loop source keywords tape config facts out₀ left at i₀ ctx₀ out i ctx = length tape - i
 
 binary-add-i : (t : ℕ) → binary-lts.Need-add-i (
   head-at-reads.Asked,
@@ -653,7 +653,7 @@ binary-binary-expression-token-requires :
       node-below t,
       node.Post,
     ) (binary-at t) binary.Post binary-Inv-loop binary-μ-loop
-binary-binary-expression-token-requires t c κs = token-ready (c .before .before .before .before .before .before .before .before .before .before .before .pre .1) (c .before .before .before .before .before .before .loop .inv) _ (c .before .if2 .taken) (c .before .before .before .head-at .ensures)
+binary-binary-expression-token-requires t c κs = (token-ready (c .before .before .before .before .before .before .before .before .before .before .before .pre .1) (c .before .before .before .before .before .before .loop .inv) _ (c .before .if2 .taken) (c .before .before .before .head-at .ensures), (c .before .before .before .before .before .before .before .before .before .before .before .pre .1) .words)
 
 binary-add-i-2 : (t : ℕ) → binary-lts.Need-add-i-2 (
   head-at-reads.Asked,
@@ -684,7 +684,7 @@ binary-loop-again : (t : ℕ) → binary-lts.Need-loop-again (
   node.Post,
 ) (binary-at t) binary.Post binary-Inv-loop binary-μ-loop
 unfolding formatBinaryExpression
-binary-loop-again t c = token-next (c .before .before .before .before .before .before .before .before .before .before .before .before .before .before .pre .1) (c .before .before .before .before .before .before .before .before .before .loop .inv) (c .before .before .before .before .if2 .taken) (c .before .before .before .before .before .before .head-at .ensures) (c .before .before .binary-expression-token .ensures) refl (c .before .before .binary-expression-token .kept .1 .1 .0)
+binary-loop-again t c = token-next (c .before .before .before .before .before .before .before .before .before .before .before .before .before .before .pre .1) (c .before .before .before .before .before .before .before .before .before .loop .inv) (c .before .before .before .before .if2 .taken) (c .before .before .before .before .before .before .head-at .ensures) (c .before .before .binary-expression-token .ensures) refl (c .before .before .binary-expression-token .kept .1 .1 .1 .0)
 
 binary-sub-node : (t : ℕ) → binary-lts.Need-sub-node (
   head-at-reads.Asked,
@@ -725,9 +725,9 @@ binary-loop-again-2 : (t : ℕ) → binary-lts.Need-loop-again-2 (
   node.Post,
 ) (binary-at t) binary.Post binary-Inv-loop binary-μ-loop
 unfolding formatBinaryExpression
-binary-loop-again-2 t c = node-next (c .before .before .before .before .before .before .before .before .before .before .before .before .before .before .before .pre .1) (c .before .before .before .before .before .before .before .before .before .before .loop .inv) (formatBinaryExpression .atNode (flagged false) (c .before .before .before .before .before .before .before .head-at .result .kind) 0) (c .before .before .before .before .before .before .before .before .if1 .taken) (c .before .before .before .before .before .if2 .left) (c .before .before .before .before .before .before .before .head-at .ensures) (λ k z. refl) (no-spacing {xs = c .before .before .before .before .before .before .before .before .before .before .loop .out}) (c .before .before .before .node .ensures) refl no-spacing (omega arith) (omega arith) (c .before .before .before .node .kept .1 .1 .1 .1 .0)
+binary-loop-again-2 t c = node-next (c .before .before .before .before .before .before .before .before .before .before .before .before .before .before .before .pre .1) (c .before .before .before .before .before .before .before .before .before .before .loop .inv) (formatBinaryExpression .atNode (flagged false) (c .before .before .before .before .before .before .before .head-at .result .kind) 0) (c .before .before .before .before .before .before .before .before .if1 .taken) (c .before .before .before .before .before .if2 .left) (c .before .before .before .before .before .before .before .head-at .ensures) (λ k z. refl) (no-spacing {xs = c .before .before .before .before .before .before .before .before .before .before .loop .out}) (c .before .before .before .node .ensures) refl no-spacing (omega arith) (omega arith) (c .before .before .before .node .kept .1 .1 .1 .1 .1 .0)
 
-binary-add-t23 : (t : ℕ) → binary-lts.Need-add-t23 (
+binary-add-t24 : (t : ℕ) → binary-lts.Need-add-t24 (
   head-at-reads.Asked,
   head-at-reads.Learnt,
   binary-expression-token-reads.Asked,
@@ -735,7 +735,7 @@ binary-add-t23 : (t : ℕ) → binary-lts.Need-add-t23 (
   node-below t,
   node.Post,
 ) (binary-at t) binary.Post binary-Inv-loop binary-μ-loop
-binary-add-t23 t c = omega (arith, c .before .before .loop .inv .inside, c .before .before .before .before .before .before .before .pre .1 .sizes .tape-fits)
+binary-add-t24 t c = omega (arith, c .before .before .loop .inv .inside, c .before .before .before .before .before .before .before .pre .1 .sizes .tape-fits)
 
 binary-same-length : (t : ℕ) → binary-lts.Need-same-length (
   head-at-reads.Asked,
@@ -759,10 +759,10 @@ unfolding formatBinaryExpression
 binary-returns t c = loop-last (c .before .before .before .before .before .before .before .pre .1) (c .before .before .loop .inv) (c .if1 .left) no-spacing (omega arith)
 
 abbrev brace-Inv-loop : brace-lts.InvT-loop
-brace-Inv-loop source tape config facts out₀ left at i₀ ctx₀ out i ctx = Loop source tape facts config left at (always formatBraceList) formatBraceList ctx₀ out₀ out i ctx (flagged false)
+brace-Inv-loop source keywords tape config facts out₀ left at i₀ ctx₀ out i ctx = Loop source tape facts config left at (always formatBraceList) formatBraceList ctx₀ out₀ out i ctx (flagged false)
 
 abbrev brace-μ-loop : brace-lts.MeasureT-loop
-brace-μ-loop source tape config facts out₀ left at i₀ ctx₀ out i ctx = length tape - i
+brace-μ-loop source keywords tape config facts out₀ left at i₀ ctx₀ out i ctx = length tape - i
 
 brace-add-i : (t : ℕ) → brace-lts.Need-add-i (
   head-at-reads.Asked,
@@ -823,7 +823,7 @@ brace-brace-list-token-requires : (t : ℕ) → brace-lts.Need-brace-list-token-
   node-below t,
   node.Post,
 ) (brace-at t) brace.Post brace-Inv-loop brace-μ-loop
-brace-brace-list-token-requires t c κs = token-ready (c .before .before .before .before .before .before .before .before .before .before .before .pre .1) (c .before .before .before .before .before .before .loop .inv) _ (c .before .if2 .taken) (c .before .before .before .head-at .ensures)
+brace-brace-list-token-requires t c κs = (token-ready (c .before .before .before .before .before .before .before .before .before .before .before .pre .1) (c .before .before .before .before .before .before .loop .inv) _ (c .before .if2 .taken) (c .before .before .before .head-at .ensures), (c .before .before .before .before .before .before .before .before .before .before .before .pre .1) .words)
 
 brace-add-i-2 : (t : ℕ) → brace-lts.Need-add-i-2 (
   head-at-reads.Asked,
@@ -854,7 +854,7 @@ brace-loop-again : (t : ℕ) → brace-lts.Need-loop-again (
   node.Post,
 ) (brace-at t) brace.Post brace-Inv-loop brace-μ-loop
 unfolding formatBraceList
-brace-loop-again t c = token-next (c .before .before .before .before .before .before .before .before .before .before .before .before .before .before .pre .1) (c .before .before .before .before .before .before .before .before .before .loop .inv) (c .before .before .before .before .if2 .taken) (c .before .before .before .before .before .before .head-at .ensures) (c .before .before .brace-list-token .ensures) refl (c .before .before .brace-list-token .kept .1 .1 .0)
+brace-loop-again t c = token-next (c .before .before .before .before .before .before .before .before .before .before .before .before .before .before .pre .1) (c .before .before .before .before .before .before .before .before .before .loop .inv) (c .before .before .before .before .if2 .taken) (c .before .before .before .before .before .before .head-at .ensures) (c .before .before .brace-list-token .ensures) refl (c .before .before .brace-list-token .kept .1 .1 .1 .0)
 
 brace-sub-node : (t : ℕ) → brace-lts.Need-sub-node (
   head-at-reads.Asked,
@@ -895,9 +895,9 @@ brace-loop-again-2 : (t : ℕ) → brace-lts.Need-loop-again-2 (
   node.Post,
 ) (brace-at t) brace.Post brace-Inv-loop brace-μ-loop
 unfolding formatBraceList
-brace-loop-again-2 t c = node-next (c .before .before .before .before .before .before .before .before .before .before .before .before .before .before .before .pre .1) (c .before .before .before .before .before .before .before .before .before .before .loop .inv) (formatBraceList .atNode (flagged false) (c .before .before .before .before .before .before .before .head-at .result .kind) 0) (c .before .before .before .before .before .before .before .before .if1 .taken) (c .before .before .before .before .before .if2 .left) (c .before .before .before .before .before .before .before .head-at .ensures) (λ k z. refl) (no-spacing {xs = c .before .before .before .before .before .before .before .before .before .before .loop .out}) (c .before .before .before .node .ensures) refl no-spacing (omega arith) (omega arith) (c .before .before .before .node .kept .1 .1 .1 .1 .0)
+brace-loop-again-2 t c = node-next (c .before .before .before .before .before .before .before .before .before .before .before .before .before .before .before .pre .1) (c .before .before .before .before .before .before .before .before .before .before .loop .inv) (formatBraceList .atNode (flagged false) (c .before .before .before .before .before .before .before .head-at .result .kind) 0) (c .before .before .before .before .before .before .before .before .if1 .taken) (c .before .before .before .before .before .if2 .left) (c .before .before .before .before .before .before .before .head-at .ensures) (λ k z. refl) (no-spacing {xs = c .before .before .before .before .before .before .before .before .before .before .loop .out}) (c .before .before .before .node .ensures) refl no-spacing (omega arith) (omega arith) (c .before .before .before .node .kept .1 .1 .1 .1 .1 .0)
 
-brace-add-t23 : (t : ℕ) → brace-lts.Need-add-t23 (
+brace-add-t24 : (t : ℕ) → brace-lts.Need-add-t24 (
   head-at-reads.Asked,
   head-at-reads.Learnt,
   brace-list-token-reads.Asked,
@@ -905,7 +905,7 @@ brace-add-t23 : (t : ℕ) → brace-lts.Need-add-t23 (
   node-below t,
   node.Post,
 ) (brace-at t) brace.Post brace-Inv-loop brace-μ-loop
-brace-add-t23 t c = omega (arith, c .before .before .loop .inv .inside, c .before .before .before .before .before .before .before .pre .1 .sizes .tape-fits)
+brace-add-t24 t c = omega (arith, c .before .before .loop .inv .inside, c .before .before .before .before .before .before .before .pre .1 .sizes .tape-fits)
 
 brace-same-length : (t : ℕ) → brace-lts.Need-same-length (
   head-at-reads.Asked,
@@ -929,10 +929,10 @@ unfolding formatBraceList
 brace-returns t c = loop-last (c .before .before .before .before .before .before .before .pre .1) (c .before .before .loop .inv) (c .if1 .left) no-spacing (omega arith)
 
 abbrev bracket-Inv-loop : bracket-lts.InvT-loop
-bracket-Inv-loop source tape config facts out₀ left at i₀ ctx₀ out i ctx = Loop source tape facts config left at (always formatBracketList) formatBracketList ctx₀ out₀ out i ctx (flagged false)
+bracket-Inv-loop source keywords tape config facts out₀ left at i₀ ctx₀ out i ctx = Loop source tape facts config left at (always formatBracketList) formatBracketList ctx₀ out₀ out i ctx (flagged false)
 
 abbrev bracket-μ-loop : bracket-lts.MeasureT-loop
-bracket-μ-loop source tape config facts out₀ left at i₀ ctx₀ out i ctx = length tape - i
+bracket-μ-loop source keywords tape config facts out₀ left at i₀ ctx₀ out i ctx = length tape - i
 
 bracket-add-i : (t : ℕ) → bracket-lts.Need-add-i (
   head-at-reads.Asked,
@@ -993,7 +993,7 @@ bracket-bracket-list-token-requires : (t : ℕ) → bracket-lts.Need-bracket-lis
   node-below t,
   node.Post,
 ) (bracket-at t) bracket.Post bracket-Inv-loop bracket-μ-loop
-bracket-bracket-list-token-requires t c κs = token-ready (c .before .before .before .before .before .before .before .before .before .before .before .pre .1) (c .before .before .before .before .before .before .loop .inv) _ (c .before .if2 .taken) (c .before .before .before .head-at .ensures)
+bracket-bracket-list-token-requires t c κs = (token-ready (c .before .before .before .before .before .before .before .before .before .before .before .pre .1) (c .before .before .before .before .before .before .loop .inv) _ (c .before .if2 .taken) (c .before .before .before .head-at .ensures), (c .before .before .before .before .before .before .before .before .before .before .before .pre .1) .words)
 
 bracket-add-i-2 : (t : ℕ) → bracket-lts.Need-add-i-2 (
   head-at-reads.Asked,
@@ -1024,7 +1024,7 @@ bracket-loop-again : (t : ℕ) → bracket-lts.Need-loop-again (
   node.Post,
 ) (bracket-at t) bracket.Post bracket-Inv-loop bracket-μ-loop
 unfolding formatBracketList
-bracket-loop-again t c = token-next (c .before .before .before .before .before .before .before .before .before .before .before .before .before .before .pre .1) (c .before .before .before .before .before .before .before .before .before .loop .inv) (c .before .before .before .before .if2 .taken) (c .before .before .before .before .before .before .head-at .ensures) (c .before .before .bracket-list-token .ensures) refl (c .before .before .bracket-list-token .kept .1 .1 .0)
+bracket-loop-again t c = token-next (c .before .before .before .before .before .before .before .before .before .before .before .before .before .before .pre .1) (c .before .before .before .before .before .before .before .before .before .loop .inv) (c .before .before .before .before .if2 .taken) (c .before .before .before .before .before .before .head-at .ensures) (c .before .before .bracket-list-token .ensures) refl (c .before .before .bracket-list-token .kept .1 .1 .1 .0)
 
 bracket-sub-node : (t : ℕ) → bracket-lts.Need-sub-node (
   head-at-reads.Asked,
@@ -1065,9 +1065,9 @@ bracket-loop-again-2 : (t : ℕ) → bracket-lts.Need-loop-again-2 (
   node.Post,
 ) (bracket-at t) bracket.Post bracket-Inv-loop bracket-μ-loop
 unfolding formatBracketList
-bracket-loop-again-2 t c = node-next (c .before .before .before .before .before .before .before .before .before .before .before .before .before .before .before .pre .1) (c .before .before .before .before .before .before .before .before .before .before .loop .inv) (formatBracketList .atNode (flagged false) (c .before .before .before .before .before .before .before .head-at .result .kind) 0) (c .before .before .before .before .before .before .before .before .if1 .taken) (c .before .before .before .before .before .if2 .left) (c .before .before .before .before .before .before .before .head-at .ensures) (λ k z. refl) (no-spacing {xs = c .before .before .before .before .before .before .before .before .before .before .loop .out}) (c .before .before .before .node .ensures) refl no-spacing (omega arith) (omega arith) (c .before .before .before .node .kept .1 .1 .1 .1 .0)
+bracket-loop-again-2 t c = node-next (c .before .before .before .before .before .before .before .before .before .before .before .before .before .before .before .pre .1) (c .before .before .before .before .before .before .before .before .before .before .loop .inv) (formatBracketList .atNode (flagged false) (c .before .before .before .before .before .before .before .head-at .result .kind) 0) (c .before .before .before .before .before .before .before .before .if1 .taken) (c .before .before .before .before .before .if2 .left) (c .before .before .before .before .before .before .before .head-at .ensures) (λ k z. refl) (no-spacing {xs = c .before .before .before .before .before .before .before .before .before .before .loop .out}) (c .before .before .before .node .ensures) refl no-spacing (omega arith) (omega arith) (c .before .before .before .node .kept .1 .1 .1 .1 .1 .0)
 
-bracket-add-t23 : (t : ℕ) → bracket-lts.Need-add-t23 (
+bracket-add-t24 : (t : ℕ) → bracket-lts.Need-add-t24 (
   head-at-reads.Asked,
   head-at-reads.Learnt,
   bracket-list-token-reads.Asked,
@@ -1075,7 +1075,7 @@ bracket-add-t23 : (t : ℕ) → bracket-lts.Need-add-t23 (
   node-below t,
   node.Post,
 ) (bracket-at t) bracket.Post bracket-Inv-loop bracket-μ-loop
-bracket-add-t23 t c = omega (arith, c .before .before .loop .inv .inside, c .before .before .before .before .before .before .before .pre .1 .sizes .tape-fits)
+bracket-add-t24 t c = omega (arith, c .before .before .loop .inv .inside, c .before .before .before .before .before .before .before .pre .1 .sizes .tape-fits)
 
 bracket-same-length : (t : ℕ) → bracket-lts.Need-same-length (
   head-at-reads.Asked,
@@ -1099,10 +1099,10 @@ unfolding formatBracketList
 bracket-returns t c = loop-last (c .before .before .before .before .before .before .before .pre .1) (c .before .before .loop .inv) (c .if1 .left) no-spacing (omega arith)
 
 abbrev call-Inv-loop : call-lts.InvT-loop
-call-Inv-loop source tape config facts out₀ left at i₀ ctx₀ out i ctx = Loop source tape facts config left at (always formatFunctionCall) formatFunctionCall ctx₀ out₀ out i ctx (flagged false)
+call-Inv-loop source keywords tape config facts out₀ left at i₀ ctx₀ out i ctx = Loop source tape facts config left at (always formatFunctionCall) formatFunctionCall ctx₀ out₀ out i ctx (flagged false)
 
 abbrev call-μ-loop : call-lts.MeasureT-loop
-call-μ-loop source tape config facts out₀ left at i₀ ctx₀ out i ctx = length tape - i
+call-μ-loop source keywords tape config facts out₀ left at i₀ ctx₀ out i ctx = length tape - i
 
 call-add-i : (t : ℕ) → call-lts.Need-add-i (
   head-at-reads.Asked,
@@ -1163,7 +1163,7 @@ call-function-call-token-requires : (t : ℕ) → call-lts.Need-function-call-to
   node-below t,
   node.Post,
 ) (call-at t) call.Post call-Inv-loop call-μ-loop
-call-function-call-token-requires t c κs = token-ready (c .before .before .before .before .before .before .before .before .before .before .before .pre .1) (c .before .before .before .before .before .before .loop .inv) _ (c .before .if2 .taken) (c .before .before .before .head-at .ensures)
+call-function-call-token-requires t c κs = (token-ready (c .before .before .before .before .before .before .before .before .before .before .before .pre .1) (c .before .before .before .before .before .before .loop .inv) _ (c .before .if2 .taken) (c .before .before .before .head-at .ensures), (c .before .before .before .before .before .before .before .before .before .before .before .pre .1) .words)
 
 call-add-i-2 : (t : ℕ) → call-lts.Need-add-i-2 (
   head-at-reads.Asked,
@@ -1194,7 +1194,7 @@ call-loop-again : (t : ℕ) → call-lts.Need-loop-again (
   node.Post,
 ) (call-at t) call.Post call-Inv-loop call-μ-loop
 unfolding formatFunctionCall
-call-loop-again t c = token-next (c .before .before .before .before .before .before .before .before .before .before .before .before .before .before .pre .1) (c .before .before .before .before .before .before .before .before .before .loop .inv) (c .before .before .before .before .if2 .taken) (c .before .before .before .before .before .before .head-at .ensures) (c .before .before .function-call-token .ensures) refl (c .before .before .function-call-token .kept .1 .1 .0)
+call-loop-again t c = token-next (c .before .before .before .before .before .before .before .before .before .before .before .before .before .before .pre .1) (c .before .before .before .before .before .before .before .before .before .loop .inv) (c .before .before .before .before .if2 .taken) (c .before .before .before .before .before .before .head-at .ensures) (c .before .before .function-call-token .ensures) refl (c .before .before .function-call-token .kept .1 .1 .1 .0)
 
 call-sub-node : (t : ℕ) → call-lts.Need-sub-node (
   head-at-reads.Asked,
@@ -1235,9 +1235,9 @@ call-loop-again-2 : (t : ℕ) → call-lts.Need-loop-again-2 (
   node.Post,
 ) (call-at t) call.Post call-Inv-loop call-μ-loop
 unfolding formatFunctionCall
-call-loop-again-2 t c = node-next (c .before .before .before .before .before .before .before .before .before .before .before .before .before .before .before .pre .1) (c .before .before .before .before .before .before .before .before .before .before .loop .inv) (formatFunctionCall .atNode (flagged false) (c .before .before .before .before .before .before .before .head-at .result .kind) 0) (c .before .before .before .before .before .before .before .before .if1 .taken) (c .before .before .before .before .before .if2 .left) (c .before .before .before .before .before .before .before .head-at .ensures) (λ k z. refl) (no-spacing {xs = c .before .before .before .before .before .before .before .before .before .before .loop .out}) (c .before .before .before .node .ensures) refl no-spacing (omega arith) (omega arith) (c .before .before .before .node .kept .1 .1 .1 .1 .0)
+call-loop-again-2 t c = node-next (c .before .before .before .before .before .before .before .before .before .before .before .before .before .before .before .pre .1) (c .before .before .before .before .before .before .before .before .before .before .loop .inv) (formatFunctionCall .atNode (flagged false) (c .before .before .before .before .before .before .before .head-at .result .kind) 0) (c .before .before .before .before .before .before .before .before .if1 .taken) (c .before .before .before .before .before .if2 .left) (c .before .before .before .before .before .before .before .head-at .ensures) (λ k z. refl) (no-spacing {xs = c .before .before .before .before .before .before .before .before .before .before .loop .out}) (c .before .before .before .node .ensures) refl no-spacing (omega arith) (omega arith) (c .before .before .before .node .kept .1 .1 .1 .1 .1 .0)
 
-call-add-t23 : (t : ℕ) → call-lts.Need-add-t23 (
+call-add-t24 : (t : ℕ) → call-lts.Need-add-t24 (
   head-at-reads.Asked,
   head-at-reads.Learnt,
   function-call-token-reads.Asked,
@@ -1245,7 +1245,7 @@ call-add-t23 : (t : ℕ) → call-lts.Need-add-t23 (
   node-below t,
   node.Post,
 ) (call-at t) call.Post call-Inv-loop call-μ-loop
-call-add-t23 t c = omega (arith, c .before .before .loop .inv .inside, c .before .before .before .before .before .before .before .pre .1 .sizes .tape-fits)
+call-add-t24 t c = omega (arith, c .before .before .loop .inv .inside, c .before .before .before .before .before .before .before .pre .1 .sizes .tape-fits)
 
 call-same-length : (t : ℕ) → call-lts.Need-same-length (
   head-at-reads.Asked,
@@ -1269,10 +1269,10 @@ unfolding formatFunctionCall
 call-returns t c = loop-last (c .before .before .before .before .before .before .before .pre .1) (c .before .before .loop .inv) (c .if1 .left) no-spacing (omega arith)
 
 abbrev case-Inv-loop : case-lts.InvT-loop
-case-Inv-loop source tape config facts out₀ left at i₀ ctx₀ local out i ctx = Loop source tape facts config left at (always formatCaseExpression) formatCaseExpression ctx₀ out₀ out i ctx (flagged false)
+case-Inv-loop source keywords tape config facts out₀ left at i₀ ctx₀ local out i ctx = Loop source tape facts config left at (always formatCaseExpression) formatCaseExpression ctx₀ out₀ out i ctx (flagged false)
 
 abbrev case-μ-loop : case-lts.MeasureT-loop
-case-μ-loop source tape config facts out₀ left at i₀ ctx₀ local out i ctx = length tape - i
+case-μ-loop source keywords tape config facts out₀ left at i₀ ctx₀ local out i ctx = length tape - i
 
 case-add-i : (t : ℕ) → case-lts.Need-add-i (
   head-at-reads.Asked,
@@ -1345,7 +1345,7 @@ case-case-expression-token-requires : (t : ℕ) → case-lts.Need-case-expressio
   node-below t,
   node.Post,
 ) (case-at t) case.Post case-Inv-loop case-μ-loop
-case-case-expression-token-requires t c κs = token-ready (c .before .before .before .before .before .before .before .before .before .before .before .pre .1) (c .before .before .before .before .before .before .loop .inv) _ (c .before .if2 .taken) (c .before .before .before .head-at .ensures)
+case-case-expression-token-requires t c κs = (token-ready (c .before .before .before .before .before .before .before .before .before .before .before .pre .1) (c .before .before .before .before .before .before .loop .inv) _ (c .before .if2 .taken) (c .before .before .before .head-at .ensures), (c .before .before .before .before .before .before .before .before .before .before .before .pre .1) .words)
 
 case-add-i-2 : (t : ℕ) → case-lts.Need-add-i-2 (
   head-at-reads.Asked,
@@ -1382,7 +1382,7 @@ case-loop-again : (t : ℕ) → case-lts.Need-loop-again (
   node.Post,
 ) (case-at t) case.Post case-Inv-loop case-μ-loop
 unfolding formatCaseExpression
-case-loop-again t c = token-next (c .before .before .before .before .before .before .before .before .before .before .before .before .before .before .pre .1) (c .before .before .before .before .before .before .before .before .before .loop .inv) (c .before .before .before .before .if2 .taken) (c .before .before .before .before .before .before .head-at .ensures) (c .before .before .case-expression-token .ensures) refl (c .before .before .case-expression-token .kept .1 .1 .0)
+case-loop-again t c = token-next (c .before .before .before .before .before .before .before .before .before .before .before .before .before .before .pre .1) (c .before .before .before .before .before .before .before .before .before .loop .inv) (c .before .before .before .before .if2 .taken) (c .before .before .before .before .before .before .head-at .ensures) (c .before .before .case-expression-token .ensures) refl (c .before .before .case-expression-token .kept .1 .1 .1 .0)
 
 case-case-expression-before-requires : (t : ℕ) → case-lts.Need-case-expression-before-requires (
   head-at-reads.Asked,
@@ -1443,9 +1443,9 @@ case-loop-again-2 : (t : ℕ) → case-lts.Need-loop-again-2 (
   node.Post,
 ) (case-at t) case.Post case-Inv-loop case-μ-loop
 unfolding formatCaseExpression
-case-loop-again-2 t c = node-next (c .before .before .before .before .before .before .before .before .before .before .before .before .before .before .before .before .before .before .before .pre .1) (c .before .before .before .before .before .before .before .before .before .before .before .before .before .before .loop .inv) (formatCaseExpression .atNode (flagged false) (c .before .before .before .before .before .before .before .before .before .before .before .head-at .result .kind) 0) (c .before .before .before .before .before .before .before .before .before .before .before .before .if1 .taken) (c .before .before .before .before .before .before .before .before .before .if2 .left) (c .before .before .before .before .before .before .before .before .before .before .before .head-at .ensures) (λ k z. refl) (c .before .before .before .before .before .before .before .case-expression-before .ensures) (c .before .before .before .node .ensures) (case-kept (flagged false) (c .before .before .before .before .before .before .before .before .before .before .before .head-at .result .kind)) (spaced 0 _ (omega arith) (sym (case-after (flagged false) (c .before .before .before .before .before .before .before .before .before .before .before .head-at .result .kind))) no-spacing) (omega arith) (omega arith) (c .before .before .before .node .kept .1 .1 .1 .1 .0 ∙ c .before .before .before .before .before .before .before .case-expression-before .kept .0)
+case-loop-again-2 t c = node-next (c .before .before .before .before .before .before .before .before .before .before .before .before .before .before .before .before .before .before .before .pre .1) (c .before .before .before .before .before .before .before .before .before .before .before .before .before .before .loop .inv) (formatCaseExpression .atNode (flagged false) (c .before .before .before .before .before .before .before .before .before .before .before .head-at .result .kind) 0) (c .before .before .before .before .before .before .before .before .before .before .before .before .if1 .taken) (c .before .before .before .before .before .before .before .before .before .if2 .left) (c .before .before .before .before .before .before .before .before .before .before .before .head-at .ensures) (λ k z. refl) (c .before .before .before .before .before .before .before .case-expression-before .ensures) (c .before .before .before .node .ensures) (case-kept (flagged false) (c .before .before .before .before .before .before .before .before .before .before .before .head-at .result .kind)) (spaced 0 _ (omega arith) (sym (case-after (flagged false) (c .before .before .before .before .before .before .before .before .before .before .before .head-at .result .kind))) no-spacing) (omega arith) (omega arith) (c .before .before .before .node .kept .1 .1 .1 .1 .1 .0 ∙ c .before .before .before .before .before .before .before .case-expression-before .kept .0)
 
-case-add-t27 : (t : ℕ) → case-lts.Need-add-t27 (
+case-add-t28 : (t : ℕ) → case-lts.Need-add-t28 (
   head-at-reads.Asked,
   head-at-reads.Learnt,
   case-expression-token-reads.Asked,
@@ -1455,7 +1455,7 @@ case-add-t27 : (t : ℕ) → case-lts.Need-add-t27 (
   node-below t,
   node.Post,
 ) (case-at t) case.Post case-Inv-loop case-μ-loop
-case-add-t27 t c = omega (arith, c .before .before .loop .inv .inside, c .before .before .before .before .before .before .before .pre .1 .sizes .tape-fits)
+case-add-t28 t c = omega (arith, c .before .before .loop .inv .inside, c .before .before .before .before .before .before .before .pre .1 .sizes .tape-fits)
 
 case-same-length : (t : ℕ) → case-lts.Need-same-length (
   head-at-reads.Asked,
@@ -1483,10 +1483,10 @@ unfolding formatCaseExpression
 case-returns t c = loop-last (c .before .before .before .before .before .before .before .pre .1) (c .before .before .loop .inv) (c .if1 .left) no-spacing (omega arith)
 
 abbrev comma-Inv-loop : comma-lts.InvT-loop
-comma-Inv-loop source tape config facts out₀ left at i₀ ctx₀ local₀ out i ctx local = Loop source tape facts config left at (always formatCommaList) formatCommaList ctx₀ out₀ out i ctx local
+comma-Inv-loop source keywords tape config facts out₀ left at i₀ ctx₀ local₀ out i ctx local = Loop source tape facts config left at (always formatCommaList) formatCommaList ctx₀ out₀ out i ctx local
 
 abbrev comma-μ-loop : comma-lts.MeasureT-loop
-comma-μ-loop source tape config facts out₀ left at i₀ ctx₀ local₀ out i ctx local = length tape - i
+comma-μ-loop source keywords tape config facts out₀ left at i₀ ctx₀ local₀ out i ctx local = length tape - i
 
 comma-add-i : (t : ℕ) → comma-lts.Need-add-i (
   head-at-reads.Asked,
@@ -1559,7 +1559,7 @@ comma-comma-list-token-requires : (t : ℕ) → comma-lts.Need-comma-list-token-
   node-below t,
   node.Post,
 ) (comma-at t) comma.Post comma-Inv-loop comma-μ-loop
-comma-comma-list-token-requires t c κs = token-ready (c .before .before .before .before .before .before .before .before .before .before .before .pre .1) (c .before .before .before .before .before .before .loop .inv) _ (c .before .if2 .taken) (c .before .before .before .head-at .ensures)
+comma-comma-list-token-requires t c κs = (token-ready (c .before .before .before .before .before .before .before .before .before .before .before .pre .1) (c .before .before .before .before .before .before .loop .inv) _ (c .before .if2 .taken) (c .before .before .before .head-at .ensures), (c .before .before .before .before .before .before .before .before .before .before .before .pre .1) .words)
 
 comma-add-i-2 : (t : ℕ) → comma-lts.Need-add-i-2 (
   head-at-reads.Asked,
@@ -1596,7 +1596,7 @@ comma-loop-again : (t : ℕ) → comma-lts.Need-loop-again (
   node.Post,
 ) (comma-at t) comma.Post comma-Inv-loop comma-μ-loop
 unfolding formatCommaList
-comma-loop-again t c = token-next (c .before .before .before .before .before .before .before .before .before .before .before .before .before .before .before .before .pre .1) (c .before .before .before .before .before .before .before .before .before .before .before .loop .inv) (c .before .before .before .before .before .before .if2 .taken) (c .before .before .before .before .before .before .before .before .head-at .ensures) (c .before .before .before .before .comma-list-token .ensures .acted) (c .before .before .before .before .comma-list-token .ensures .local) (c .before .before .before .before .comma-list-token .kept .1 .1 .0)
+comma-loop-again t c = token-next (c .before .before .before .before .before .before .before .before .before .before .before .before .before .before .before .before .pre .1) (c .before .before .before .before .before .before .before .before .before .before .before .loop .inv) (c .before .before .before .before .before .before .if2 .taken) (c .before .before .before .before .before .before .before .before .head-at .ensures) (c .before .before .before .before .comma-list-token .ensures .acted) (c .before .before .before .before .comma-list-token .ensures .local) (c .before .before .before .before .comma-list-token .kept .1 .1 .1 .0)
 
 comma-space-if-requires : (t : ℕ) → comma-lts.Need-space-if-requires (
   head-at-reads.Asked,
@@ -1657,9 +1657,9 @@ comma-loop-again-2 : (t : ℕ) → comma-lts.Need-loop-again-2 (
   node.Post,
 ) (comma-at t) comma.Post comma-Inv-loop comma-μ-loop
 unfolding formatCommaList
-comma-loop-again-2 t c = node-next (c .before .before .before .before .before .before .before .before .before .before .before .before .before .before .before .before .before .pre .1) (c .before .before .before .before .before .before .before .before .before .before .before .before .loop .inv) (formatCommaList .atNode (c .before .before .before .before .before .before .before .before .before .before .before .before .loop .local) (c .before .before .before .before .before .before .before .before .before .head-at .result .kind) 0) (c .before .before .before .before .before .before .before .before .before .before .if1 .taken) (c .before .before .before .before .before .before .before .if2 .left) (c .before .before .before .before .before .before .before .before .before .head-at .ensures) (λ k z. refl) (as-spaced (c .before .before .before .before .before .space-if .ensures)) (c .before .before .before .node .ensures) refl no-spacing (omega arith) (omega arith) (c .before .before .before .node .kept .1 .1 .1 .1 .0)
+comma-loop-again-2 t c = node-next (c .before .before .before .before .before .before .before .before .before .before .before .before .before .before .before .before .before .pre .1) (c .before .before .before .before .before .before .before .before .before .before .before .before .loop .inv) (formatCommaList .atNode (c .before .before .before .before .before .before .before .before .before .before .before .before .loop .local) (c .before .before .before .before .before .before .before .before .before .head-at .result .kind) 0) (c .before .before .before .before .before .before .before .before .before .before .if1 .taken) (c .before .before .before .before .before .before .before .if2 .left) (c .before .before .before .before .before .before .before .before .before .head-at .ensures) (λ k z. refl) (as-spaced (c .before .before .before .before .before .space-if .ensures)) (c .before .before .before .node .ensures) refl no-spacing (omega arith) (omega arith) (c .before .before .before .node .kept .1 .1 .1 .1 .1 .0)
 
-comma-add-t28 : (t : ℕ) → comma-lts.Need-add-t28 (
+comma-add-t29 : (t : ℕ) → comma-lts.Need-add-t29 (
   head-at-reads.Asked,
   head-at-reads.Learnt,
   comma-list-token-reads.Asked,
@@ -1669,7 +1669,7 @@ comma-add-t28 : (t : ℕ) → comma-lts.Need-add-t28 (
   node-below t,
   node.Post,
 ) (comma-at t) comma.Post comma-Inv-loop comma-μ-loop
-comma-add-t28 t c = omega (arith, c .before .before .loop .inv .inside, c .before .before .before .before .before .before .before .pre .1 .sizes .tape-fits)
+comma-add-t29 t c = omega (arith, c .before .before .loop .inv .inside, c .before .before .before .before .before .before .before .pre .1 .sizes .tape-fits)
 
 comma-same-length : (t : ℕ) → comma-lts.Need-same-length (
   head-at-reads.Asked,
@@ -1697,10 +1697,10 @@ unfolding formatCommaList
 comma-returns t c = loop-last (c .before .before .before .before .before .before .before .pre .1) (c .before .before .loop .inv) (c .if1 .left) no-spacing (omega arith)
 
 abbrev dtype-Inv-loop : dtype-lts.InvT-loop
-dtype-Inv-loop source tape config facts out₀ left at i₀ ctx₀ out i ctx = Loop source tape facts config left at (always formatDataType) formatDataType ctx₀ out₀ out i ctx (flagged false)
+dtype-Inv-loop source keywords tape config facts out₀ left at i₀ ctx₀ out i ctx = Loop source tape facts config left at (always formatDataType) formatDataType ctx₀ out₀ out i ctx (flagged false)
 
 abbrev dtype-μ-loop : dtype-lts.MeasureT-loop
-dtype-μ-loop source tape config facts out₀ left at i₀ ctx₀ out i ctx = length tape - i
+dtype-μ-loop source keywords tape config facts out₀ left at i₀ ctx₀ out i ctx = length tape - i
 
 dtype-add-i : (t : ℕ) → dtype-lts.Need-add-i (
   head-at-reads.Asked,
@@ -1761,7 +1761,7 @@ dtype-data-type-token-requires : (t : ℕ) → dtype-lts.Need-data-type-token-re
   node-below t,
   node.Post,
 ) (dtype-at t) dtype.Post dtype-Inv-loop dtype-μ-loop
-dtype-data-type-token-requires t c κs = token-ready (c .before .before .before .before .before .before .before .before .before .before .before .pre .1) (c .before .before .before .before .before .before .loop .inv) _ (c .before .if2 .taken) (c .before .before .before .head-at .ensures)
+dtype-data-type-token-requires t c κs = (token-ready (c .before .before .before .before .before .before .before .before .before .before .before .pre .1) (c .before .before .before .before .before .before .loop .inv) _ (c .before .if2 .taken) (c .before .before .before .head-at .ensures), (c .before .before .before .before .before .before .before .before .before .before .before .pre .1) .words)
 
 dtype-add-i-2 : (t : ℕ) → dtype-lts.Need-add-i-2 (
   head-at-reads.Asked,
@@ -1792,7 +1792,7 @@ dtype-loop-again : (t : ℕ) → dtype-lts.Need-loop-again (
   node.Post,
 ) (dtype-at t) dtype.Post dtype-Inv-loop dtype-μ-loop
 unfolding formatDataType
-dtype-loop-again t c = token-next (c .before .before .before .before .before .before .before .before .before .before .before .before .before .before .pre .1) (c .before .before .before .before .before .before .before .before .before .loop .inv) (c .before .before .before .before .if2 .taken) (c .before .before .before .before .before .before .head-at .ensures) (c .before .before .data-type-token .ensures) refl (c .before .before .data-type-token .kept .1 .1 .0)
+dtype-loop-again t c = token-next (c .before .before .before .before .before .before .before .before .before .before .before .before .before .before .pre .1) (c .before .before .before .before .before .before .before .before .before .loop .inv) (c .before .before .before .before .if2 .taken) (c .before .before .before .before .before .before .head-at .ensures) (c .before .before .data-type-token .ensures) refl (c .before .before .data-type-token .kept .1 .1 .1 .0)
 
 dtype-sub-node : (t : ℕ) → dtype-lts.Need-sub-node (
   head-at-reads.Asked,
@@ -1833,9 +1833,9 @@ dtype-loop-again-2 : (t : ℕ) → dtype-lts.Need-loop-again-2 (
   node.Post,
 ) (dtype-at t) dtype.Post dtype-Inv-loop dtype-μ-loop
 unfolding formatDataType
-dtype-loop-again-2 t c = node-next (c .before .before .before .before .before .before .before .before .before .before .before .before .before .before .before .pre .1) (c .before .before .before .before .before .before .before .before .before .before .loop .inv) (formatDataType .atNode (flagged false) (c .before .before .before .before .before .before .before .head-at .result .kind) 0) (c .before .before .before .before .before .before .before .before .if1 .taken) (c .before .before .before .before .before .if2 .left) (c .before .before .before .before .before .before .before .head-at .ensures) (λ k z. refl) (no-spacing {xs = c .before .before .before .before .before .before .before .before .before .before .loop .out}) (c .before .before .before .node .ensures) refl no-spacing (omega arith) (omega arith) (c .before .before .before .node .kept .1 .1 .1 .1 .0)
+dtype-loop-again-2 t c = node-next (c .before .before .before .before .before .before .before .before .before .before .before .before .before .before .before .pre .1) (c .before .before .before .before .before .before .before .before .before .before .loop .inv) (formatDataType .atNode (flagged false) (c .before .before .before .before .before .before .before .head-at .result .kind) 0) (c .before .before .before .before .before .before .before .before .if1 .taken) (c .before .before .before .before .before .if2 .left) (c .before .before .before .before .before .before .before .head-at .ensures) (λ k z. refl) (no-spacing {xs = c .before .before .before .before .before .before .before .before .before .before .loop .out}) (c .before .before .before .node .ensures) refl no-spacing (omega arith) (omega arith) (c .before .before .before .node .kept .1 .1 .1 .1 .1 .0)
 
-dtype-add-t23 : (t : ℕ) → dtype-lts.Need-add-t23 (
+dtype-add-t24 : (t : ℕ) → dtype-lts.Need-add-t24 (
   head-at-reads.Asked,
   head-at-reads.Learnt,
   data-type-token-reads.Asked,
@@ -1843,7 +1843,7 @@ dtype-add-t23 : (t : ℕ) → dtype-lts.Need-add-t23 (
   node-below t,
   node.Post,
 ) (dtype-at t) dtype.Post dtype-Inv-loop dtype-μ-loop
-dtype-add-t23 t c = omega (arith, c .before .before .loop .inv .inside, c .before .before .before .before .before .before .before .pre .1 .sizes .tape-fits)
+dtype-add-t24 t c = omega (arith, c .before .before .loop .inv .inside, c .before .before .before .before .before .before .before .pre .1 .sizes .tape-fits)
 
 dtype-same-length : (t : ℕ) → dtype-lts.Need-same-length (
   head-at-reads.Asked,
@@ -1867,10 +1867,10 @@ unfolding formatDataType
 dtype-returns t c = loop-last (c .before .before .before .before .before .before .before .pre .1) (c .before .before .loop .inv) (c .if1 .left) no-spacing (omega arith)
 
 abbrev file-Inv-loop : file-lts.InvT-loop
-file-Inv-loop source tape config facts out₀ left at i₀ ctx₀ local₀ out i ctx local = Loop source tape facts config left at (always formatFile) formatFile ctx₀ out₀ out i ctx local
+file-Inv-loop source keywords tape config facts out₀ left at i₀ ctx₀ local₀ out i ctx local = Loop source tape facts config left at (always formatFile) formatFile ctx₀ out₀ out i ctx local
 
 abbrev file-μ-loop : file-lts.MeasureT-loop
-file-μ-loop source tape config facts out₀ left at i₀ ctx₀ local₀ out i ctx local = length tape - i
+file-μ-loop source keywords tape config facts out₀ left at i₀ ctx₀ local₀ out i ctx local = length tape - i
 
 file-add-i : (t : ℕ) → file-lts.Need-add-i (
   head-at-reads.Asked,
@@ -1943,7 +1943,7 @@ file-file-token-requires : (t : ℕ) → file-lts.Need-file-token-requires (
   node-below t,
   node.Post,
 ) (file-at t) file.Post file-Inv-loop file-μ-loop
-file-file-token-requires t c κs = token-ready (c .before .before .before .before .before .before .before .before .before .before .before .pre .1) (c .before .before .before .before .before .before .loop .inv) _ (c .before .if2 .taken) (c .before .before .before .head-at .ensures)
+file-file-token-requires t c κs = (token-ready (c .before .before .before .before .before .before .before .before .before .before .before .pre .1) (c .before .before .before .before .before .before .loop .inv) _ (c .before .if2 .taken) (c .before .before .before .head-at .ensures), (c .before .before .before .before .before .before .before .before .before .before .before .pre .1) .words)
 
 file-add-i-2 : (t : ℕ) → file-lts.Need-add-i-2 (
   head-at-reads.Asked,
@@ -1980,7 +1980,7 @@ file-loop-again : (t : ℕ) → file-lts.Need-loop-again (
   node.Post,
 ) (file-at t) file.Post file-Inv-loop file-μ-loop
 unfolding formatFile
-file-loop-again t c = token-next (c .before .before .before .before .before .before .before .before .before .before .before .before .before .before .pre .1) (c .before .before .before .before .before .before .before .before .before .loop .inv) (c .before .before .before .before .if2 .taken) (c .before .before .before .before .before .before .head-at .ensures) (c .before .before .file-token .ensures) refl (c .before .before .file-token .kept .1 .1 .0)
+file-loop-again t c = token-next (c .before .before .before .before .before .before .before .before .before .before .before .before .before .before .pre .1) (c .before .before .before .before .before .before .before .before .before .loop .inv) (c .before .before .before .before .if2 .taken) (c .before .before .before .before .before .before .head-at .ensures) (c .before .before .file-token .ensures) refl (c .before .before .file-token .kept .1 .1 .1 .0)
 
 file-file-before-requires : (t : ℕ) → file-lts.Need-file-before-requires (
   head-at-reads.Asked,
@@ -2041,9 +2041,9 @@ file-loop-again-2 : (t : ℕ) → file-lts.Need-loop-again-2 (
   node.Post,
 ) (file-at t) file.Post file-Inv-loop file-μ-loop
 unfolding formatFile
-file-loop-again-2 t c = node-next (c .before .before .before .before .before .before .before .before .before .before .before .before .before .before .before .before .before .before .before .pre .1) (c .before .before .before .before .before .before .before .before .before .before .before .before .before .before .loop .inv) (formatFile .atNode (c .before .before .before .before .before .before .before .before .before .before .before .before .before .before .loop .local) (c .before .before .before .before .before .before .before .before .before .before .before .head-at .result .kind) 0) (c .before .before .before .before .before .before .before .before .before .before .before .before .if1 .taken) (c .before .before .before .before .before .before .before .before .before .if2 .left) (c .before .before .before .before .before .before .before .before .before .before .before .head-at .ensures) (λ k z. refl) (c .before .before .before .before .before .before .before .file-before .ensures) (c .before .before .before .node .ensures) refl no-spacing (omega arith) (omega arith) (c .before .before .before .node .kept .1 .1 .1 .1 .0 ∙ c .before .before .before .before .before .before .before .file-before .kept .0)
+file-loop-again-2 t c = node-next (c .before .before .before .before .before .before .before .before .before .before .before .before .before .before .before .before .before .before .before .pre .1) (c .before .before .before .before .before .before .before .before .before .before .before .before .before .before .loop .inv) (formatFile .atNode (c .before .before .before .before .before .before .before .before .before .before .before .before .before .before .loop .local) (c .before .before .before .before .before .before .before .before .before .before .before .head-at .result .kind) 0) (c .before .before .before .before .before .before .before .before .before .before .before .before .if1 .taken) (c .before .before .before .before .before .before .before .before .before .if2 .left) (c .before .before .before .before .before .before .before .before .before .before .before .head-at .ensures) (λ k z. refl) (c .before .before .before .before .before .before .before .file-before .ensures) (c .before .before .before .node .ensures) refl no-spacing (omega arith) (omega arith) (c .before .before .before .node .kept .1 .1 .1 .1 .1 .0 ∙ c .before .before .before .before .before .before .before .file-before .kept .0)
 
-file-add-t28 : (t : ℕ) → file-lts.Need-add-t28 (
+file-add-t29 : (t : ℕ) → file-lts.Need-add-t29 (
   head-at-reads.Asked,
   head-at-reads.Learnt,
   file-token-reads.Asked,
@@ -2053,7 +2053,7 @@ file-add-t28 : (t : ℕ) → file-lts.Need-add-t28 (
   node-below t,
   node.Post,
 ) (file-at t) file.Post file-Inv-loop file-μ-loop
-file-add-t28 t c = omega (arith, c .before .before .loop .inv .inside, c .before .before .before .before .before .before .before .pre .1 .sizes .tape-fits)
+file-add-t29 t c = omega (arith, c .before .before .loop .inv .inside, c .before .before .before .before .before .before .before .pre .1 .sizes .tape-fits)
 
 file-same-length : (t : ℕ) → file-lts.Need-same-length (
   head-at-reads.Asked,
@@ -2081,10 +2081,10 @@ unfolding formatFile
 file-returns t c = loop-last (c .before .before .before .before .before .before .before .pre .1) (c .before .before .loop .inv) (c .if1 .left) no-spacing (omega arith)
 
 abbrev inl-list-Inv-loop : inl-list-lts.InvT-loop
-inl-list-Inv-loop source tape config facts out₀ left at i₀ ctx₀ out i ctx = Loop source tape facts config left at (always formatInlineCommaList) formatInlineCommaList ctx₀ out₀ out i ctx (flagged false)
+inl-list-Inv-loop source keywords tape config facts out₀ left at i₀ ctx₀ out i ctx = Loop source tape facts config left at (always formatInlineCommaList) formatInlineCommaList ctx₀ out₀ out i ctx (flagged false)
 
 abbrev inl-list-μ-loop : inl-list-lts.MeasureT-loop
-inl-list-μ-loop source tape config facts out₀ left at i₀ ctx₀ out i ctx = length tape - i
+inl-list-μ-loop source keywords tape config facts out₀ left at i₀ ctx₀ out i ctx = length tape - i
 
 inl-list-add-i : (t : ℕ) → inl-list-lts.Need-add-i (
   head-at-reads.Asked,
@@ -2146,7 +2146,7 @@ inl-list-inline-comma-list-token-requires :
       node-below t,
       node.Post,
     ) (inl-list-at t) inl-list.Post inl-list-Inv-loop inl-list-μ-loop
-inl-list-inline-comma-list-token-requires t c κs = token-ready (c .before .before .before .before .before .before .before .before .before .before .before .pre .1) (c .before .before .before .before .before .before .loop .inv) _ (c .before .if2 .taken) (c .before .before .before .head-at .ensures)
+inl-list-inline-comma-list-token-requires t c κs = (token-ready (c .before .before .before .before .before .before .before .before .before .before .before .pre .1) (c .before .before .before .before .before .before .loop .inv) _ (c .before .if2 .taken) (c .before .before .before .head-at .ensures), (c .before .before .before .before .before .before .before .before .before .before .before .pre .1) .words)
 
 inl-list-add-i-2 : (t : ℕ) → inl-list-lts.Need-add-i-2 (
   head-at-reads.Asked,
@@ -2177,7 +2177,7 @@ inl-list-loop-again : (t : ℕ) → inl-list-lts.Need-loop-again (
   node.Post,
 ) (inl-list-at t) inl-list.Post inl-list-Inv-loop inl-list-μ-loop
 unfolding formatInlineCommaList
-inl-list-loop-again t c = token-next (c .before .before .before .before .before .before .before .before .before .before .before .before .before .before .pre .1) (c .before .before .before .before .before .before .before .before .before .loop .inv) (c .before .before .before .before .if2 .taken) (c .before .before .before .before .before .before .head-at .ensures) (c .before .before .inline-comma-list-token .ensures) refl (c .before .before .inline-comma-list-token .kept .1 .1 .0)
+inl-list-loop-again t c = token-next (c .before .before .before .before .before .before .before .before .before .before .before .before .before .before .pre .1) (c .before .before .before .before .before .before .before .before .before .loop .inv) (c .before .before .before .before .if2 .taken) (c .before .before .before .before .before .before .head-at .ensures) (c .before .before .inline-comma-list-token .ensures) refl (c .before .before .inline-comma-list-token .kept .1 .1 .1 .0)
 
 inl-list-sub-node : (t : ℕ) → inl-list-lts.Need-sub-node (
   head-at-reads.Asked,
@@ -2218,9 +2218,9 @@ inl-list-loop-again-2 : (t : ℕ) → inl-list-lts.Need-loop-again-2 (
   node.Post,
 ) (inl-list-at t) inl-list.Post inl-list-Inv-loop inl-list-μ-loop
 unfolding formatInlineCommaList
-inl-list-loop-again-2 t c = node-next (c .before .before .before .before .before .before .before .before .before .before .before .before .before .before .before .pre .1) (c .before .before .before .before .before .before .before .before .before .before .loop .inv) (formatInlineCommaList .atNode (flagged false) (c .before .before .before .before .before .before .before .head-at .result .kind) 0) (c .before .before .before .before .before .before .before .before .if1 .taken) (c .before .before .before .before .before .if2 .left) (c .before .before .before .before .before .before .before .head-at .ensures) (λ k z. refl) (no-spacing {xs = c .before .before .before .before .before .before .before .before .before .before .loop .out}) (c .before .before .before .node .ensures) refl no-spacing (omega arith) (omega arith) (c .before .before .before .node .kept .1 .1 .1 .1 .0)
+inl-list-loop-again-2 t c = node-next (c .before .before .before .before .before .before .before .before .before .before .before .before .before .before .before .pre .1) (c .before .before .before .before .before .before .before .before .before .before .loop .inv) (formatInlineCommaList .atNode (flagged false) (c .before .before .before .before .before .before .before .head-at .result .kind) 0) (c .before .before .before .before .before .before .before .before .if1 .taken) (c .before .before .before .before .before .if2 .left) (c .before .before .before .before .before .before .before .head-at .ensures) (λ k z. refl) (no-spacing {xs = c .before .before .before .before .before .before .before .before .before .before .loop .out}) (c .before .before .before .node .ensures) refl no-spacing (omega arith) (omega arith) (c .before .before .before .node .kept .1 .1 .1 .1 .1 .0)
 
-inl-list-add-t23 : (t : ℕ) → inl-list-lts.Need-add-t23 (
+inl-list-add-t24 : (t : ℕ) → inl-list-lts.Need-add-t24 (
   head-at-reads.Asked,
   head-at-reads.Learnt,
   inline-comma-list-token-reads.Asked,
@@ -2228,7 +2228,7 @@ inl-list-add-t23 : (t : ℕ) → inl-list-lts.Need-add-t23 (
   node-below t,
   node.Post,
 ) (inl-list-at t) inl-list.Post inl-list-Inv-loop inl-list-μ-loop
-inl-list-add-t23 t c = omega (arith, c .before .before .loop .inv .inside, c .before .before .before .before .before .before .before .pre .1 .sizes .tape-fits)
+inl-list-add-t24 t c = omega (arith, c .before .before .loop .inv .inside, c .before .before .before .before .before .before .before .pre .1 .sizes .tape-fits)
 
 inl-list-same-length : (t : ℕ) → inl-list-lts.Need-same-length (
   head-at-reads.Asked,
@@ -2252,10 +2252,10 @@ unfolding formatInlineCommaList
 inl-list-returns t c = loop-last (c .before .before .before .before .before .before .before .pre .1) (c .before .before .loop .inv) (c .if1 .left) no-spacing (omega arith)
 
 abbrev inline-Inv-loop : inline-lts.InvT-loop
-inline-Inv-loop source tape config facts out₀ left at i₀ ctx₀ local₀ out i ctx local = Loop source tape facts config left at (always formatInline) formatInline ctx₀ out₀ out i ctx local
+inline-Inv-loop source keywords tape config facts out₀ left at i₀ ctx₀ local₀ out i ctx local = Loop source tape facts config left at (always formatInline) formatInline ctx₀ out₀ out i ctx local
 
 abbrev inline-μ-loop : inline-lts.MeasureT-loop
-inline-μ-loop source tape config facts out₀ left at i₀ ctx₀ local₀ out i ctx local = length tape - i
+inline-μ-loop source keywords tape config facts out₀ left at i₀ ctx₀ local₀ out i ctx local = length tape - i
 
 inline-add-i : (t : ℕ) → inline-lts.Need-add-i (
   head-at-reads.Asked,
@@ -2340,7 +2340,7 @@ inline-inline-token-requires : (t : ℕ) → inline-lts.Need-inline-token-requir
   node-below t,
   node.Post,
 ) (inline-at t) inline.Post inline-Inv-loop inline-μ-loop
-inline-inline-token-requires t c κs = token-ready (c .before .before .before .before .before .before .before .before .before .before .before .pre .1) (c .before .before .before .before .before .before .loop .inv) _ (c .before .if2 .taken) (c .before .before .before .head-at .ensures)
+inline-inline-token-requires t c κs = (token-ready (c .before .before .before .before .before .before .before .before .before .before .before .pre .1) (c .before .before .before .before .before .before .loop .inv) _ (c .before .if2 .taken) (c .before .before .before .head-at .ensures), (c .before .before .before .before .before .before .before .before .before .before .before .pre .1) .words)
 
 inline-add-i-2 : (t : ℕ) → inline-lts.Need-add-i-2 (
   head-at-reads.Asked,
@@ -2383,7 +2383,7 @@ inline-loop-again : (t : ℕ) → inline-lts.Need-loop-again (
   node.Post,
 ) (inline-at t) inline.Post inline-Inv-loop inline-μ-loop
 unfolding formatInline inlineNode
-inline-loop-again t c = token-next (c .before .before .before .before .before .before .before .before .before .before .before .before .before .before .before .before .pre .1) (c .before .before .before .before .before .before .before .before .before .before .before .loop .inv) (c .before .before .before .before .before .before .if2 .taken) (c .before .before .before .before .before .before .before .before .head-at .ensures) (c .before .before .before .before .inline-token .ensures .acted) (c .before .before .before .before .inline-token .ensures .local) (c .before .before .before .before .inline-token .kept .1 .1 .0)
+inline-loop-again t c = token-next (c .before .before .before .before .before .before .before .before .before .before .before .before .before .before .before .before .pre .1) (c .before .before .before .before .before .before .before .before .before .before .before .loop .inv) (c .before .before .before .before .before .before .if2 .taken) (c .before .before .before .before .before .before .before .before .head-at .ensures) (c .before .before .before .before .inline-token .ensures .acted) (c .before .before .before .before .inline-token .ensures .local) (c .before .before .before .before .inline-token .kept .1 .1 .1 .0)
 
 inline-space-after-requires : (t : ℕ) → inline-lts.Need-space-after-requires (
   head-at-reads.Asked,
@@ -2468,9 +2468,9 @@ inline-loop-again-2 : (t : ℕ) → inline-lts.Need-loop-again-2 (
   node.Post,
 ) (inline-at t) inline.Post inline-Inv-loop inline-μ-loop
 unfolding formatInline inlineNode
-inline-loop-again-2 t c = node-next (c .before .before .before .before .before .before .before .before .before .before .before .before .before .before .before .before .before .pre .1) (c .before .before .before .before .before .before .before .before .before .before .before .before .loop .inv) (formatInline .atNode (c .before .before .before .before .before .before .before .before .before .before .before .before .loop .local) (c .before .before .before .before .before .before .before .before .before .head-at .result .kind) 0) (c .before .before .before .before .before .before .before .before .before .before .if1 .taken) (c .before .before .before .before .before .before .before .if2 .left) (c .before .before .before .before .before .before .before .before .before .head-at .ensures) (λ k z. refl) (spaced 0 (spaceIf (spaceAfter ((c .before .before .before .before .before .before .before .before .before .before .before .before .loop .local) .prev))) (omega arith) (ap spaceIf (sym (c .before .before .before .before .before .before .space-after .ensures))) (as-spaced (c .before .before .before .before .before .space-if .ensures))) (c .before .before .before .node .ensures) refl no-spacing (omega arith) (omega arith) (c .before .before .before .node .kept .1 .1 .1 .1 .0)
+inline-loop-again-2 t c = node-next (c .before .before .before .before .before .before .before .before .before .before .before .before .before .before .before .before .before .pre .1) (c .before .before .before .before .before .before .before .before .before .before .before .before .loop .inv) (formatInline .atNode (c .before .before .before .before .before .before .before .before .before .before .before .before .loop .local) (c .before .before .before .before .before .before .before .before .before .head-at .result .kind) 0) (c .before .before .before .before .before .before .before .before .before .before .if1 .taken) (c .before .before .before .before .before .before .before .if2 .left) (c .before .before .before .before .before .before .before .before .before .head-at .ensures) (λ k z. refl) (spaced 0 (spaceIf (spaceAfter ((c .before .before .before .before .before .before .before .before .before .before .before .before .loop .local) .prev))) (omega arith) (ap spaceIf (sym (c .before .before .before .before .before .before .space-after .ensures))) (as-spaced (c .before .before .before .before .before .space-if .ensures))) (c .before .before .before .node .ensures) refl no-spacing (omega arith) (omega arith) (c .before .before .before .node .kept .1 .1 .1 .1 .1 .0)
 
-inline-add-t29 : (t : ℕ) → inline-lts.Need-add-t29 (
+inline-add-t30 : (t : ℕ) → inline-lts.Need-add-t30 (
   head-at-reads.Asked,
   head-at-reads.Learnt,
   inline-token-reads.Asked,
@@ -2482,7 +2482,7 @@ inline-add-t29 : (t : ℕ) → inline-lts.Need-add-t29 (
   node-below t,
   node.Post,
 ) (inline-at t) inline.Post inline-Inv-loop inline-μ-loop
-inline-add-t29 t c = omega (arith, c .before .before .loop .inv .inside, c .before .before .before .before .before .before .before .pre .1 .sizes .tape-fits)
+inline-add-t30 t c = omega (arith, c .before .before .loop .inv .inside, c .before .before .before .before .before .before .before .pre .1 .sizes .tape-fits)
 
 inline-same-length : (t : ℕ) → inline-lts.Need-same-length (
   head-at-reads.Asked,
@@ -2514,10 +2514,10 @@ unfolding formatInline inlineNode
 inline-returns t c = loop-last (c .before .before .before .before .before .before .before .pre .1) (c .before .before .loop .inv) (c .if1 .left) no-spacing (omega arith)
 
 abbrev join-Inv-loop : join-lts.InvT-loop
-join-Inv-loop source tape config facts out₀ left at i₀ ctx₀ local₀ out i ctx local = Loop source tape facts config left at (always formatJoinClause) formatJoinClause ctx₀ out₀ out i ctx local
+join-Inv-loop source keywords tape config facts out₀ left at i₀ ctx₀ local₀ out i ctx local = Loop source tape facts config left at (always formatJoinClause) formatJoinClause ctx₀ out₀ out i ctx local
 
 abbrev join-μ-loop : join-lts.MeasureT-loop
-join-μ-loop source tape config facts out₀ left at i₀ ctx₀ local₀ out i ctx local = length tape - i
+join-μ-loop source keywords tape config facts out₀ left at i₀ ctx₀ local₀ out i ctx local = length tape - i
 
 join-add-i : (t : ℕ) → join-lts.Need-add-i (
   head-at-reads.Asked,
@@ -2590,7 +2590,7 @@ join-join-clause-token-requires : (t : ℕ) → join-lts.Need-join-clause-token-
   node-below t,
   node.Post,
 ) (join-at t) join.Post join-Inv-loop join-μ-loop
-join-join-clause-token-requires t c κs = token-ready (c .before .before .before .before .before .before .before .before .before .before .before .pre .1) (c .before .before .before .before .before .before .loop .inv) _ (c .before .if2 .taken) (c .before .before .before .head-at .ensures)
+join-join-clause-token-requires t c κs = (token-ready (c .before .before .before .before .before .before .before .before .before .before .before .pre .1) (c .before .before .before .before .before .before .loop .inv) _ (c .before .if2 .taken) (c .before .before .before .head-at .ensures), (c .before .before .before .before .before .before .before .before .before .before .before .pre .1) .words)
 
 join-add-i-2 : (t : ℕ) → join-lts.Need-add-i-2 (
   head-at-reads.Asked,
@@ -2627,7 +2627,7 @@ join-loop-again : (t : ℕ) → join-lts.Need-loop-again (
   node.Post,
 ) (join-at t) join.Post join-Inv-loop join-μ-loop
 unfolding formatJoinClause
-join-loop-again t c = token-next (c .before .before .before .before .before .before .before .before .before .before .before .before .before .before .before .before .pre .1) (c .before .before .before .before .before .before .before .before .before .before .before .loop .inv) (c .before .before .before .before .before .before .if2 .taken) (c .before .before .before .before .before .before .before .before .head-at .ensures) (c .before .before .before .before .join-clause-token .ensures .acted) (c .before .before .before .before .join-clause-token .ensures .local) (c .before .before .before .before .join-clause-token .kept .1 .1 .0)
+join-loop-again t c = token-next (c .before .before .before .before .before .before .before .before .before .before .before .before .before .before .before .before .pre .1) (c .before .before .before .before .before .before .before .before .before .before .before .loop .inv) (c .before .before .before .before .before .before .if2 .taken) (c .before .before .before .before .before .before .before .before .head-at .ensures) (c .before .before .before .before .join-clause-token .ensures .acted) (c .before .before .before .before .join-clause-token .ensures .local) (c .before .before .before .before .join-clause-token .kept .1 .1 .1 .0)
 
 join-space-if-requires : (t : ℕ) → join-lts.Need-space-if-requires (
   head-at-reads.Asked,
@@ -2688,9 +2688,9 @@ join-loop-again-2 : (t : ℕ) → join-lts.Need-loop-again-2 (
   node.Post,
 ) (join-at t) join.Post join-Inv-loop join-μ-loop
 unfolding formatJoinClause
-join-loop-again-2 t c = node-next (c .before .before .before .before .before .before .before .before .before .before .before .before .before .before .before .before .pre .1) (c .before .before .before .before .before .before .before .before .before .before .before .loop .inv) (formatJoinClause .atNode (c .before .before .before .before .before .before .before .before .before .before .before .loop .local) (c .before .before .before .before .before .before .before .before .head-at .result .kind) 0) (c .before .before .before .before .before .before .before .before .before .if1 .taken) (c .before .before .before .before .before .before .if2 .left) (c .before .before .before .before .before .before .before .before .head-at .ensures) (λ k z. refl) (as-spaced (c .before .before .before .before .before .space-if .ensures)) (c .before .before .before .node .ensures) refl no-spacing (omega arith) (omega arith) (c .before .before .before .node .kept .1 .1 .1 .1 .0)
+join-loop-again-2 t c = node-next (c .before .before .before .before .before .before .before .before .before .before .before .before .before .before .before .before .pre .1) (c .before .before .before .before .before .before .before .before .before .before .before .loop .inv) (formatJoinClause .atNode (c .before .before .before .before .before .before .before .before .before .before .before .loop .local) (c .before .before .before .before .before .before .before .before .head-at .result .kind) 0) (c .before .before .before .before .before .before .before .before .before .if1 .taken) (c .before .before .before .before .before .before .if2 .left) (c .before .before .before .before .before .before .before .before .head-at .ensures) (λ k z. refl) (as-spaced (c .before .before .before .before .before .space-if .ensures)) (c .before .before .before .node .ensures) refl no-spacing (omega arith) (omega arith) (c .before .before .before .node .kept .1 .1 .1 .1 .1 .0)
 
-join-add-t27 : (t : ℕ) → join-lts.Need-add-t27 (
+join-add-t28 : (t : ℕ) → join-lts.Need-add-t28 (
   head-at-reads.Asked,
   head-at-reads.Learnt,
   join-clause-token-reads.Asked,
@@ -2700,7 +2700,7 @@ join-add-t27 : (t : ℕ) → join-lts.Need-add-t27 (
   node-below t,
   node.Post,
 ) (join-at t) join.Post join-Inv-loop join-μ-loop
-join-add-t27 t c = omega (arith, c .before .before .loop .inv .inside, c .before .before .before .before .before .before .before .pre .1 .sizes .tape-fits)
+join-add-t28 t c = omega (arith, c .before .before .loop .inv .inside, c .before .before .before .before .before .before .before .pre .1 .sizes .tape-fits)
 
 join-same-length : (t : ℕ) → join-lts.Need-same-length (
   head-at-reads.Asked,
@@ -2728,10 +2728,10 @@ unfolding formatJoinClause
 join-returns t c = loop-last (c .before .before .before .before .before .before .before .pre .1) (c .before .before .loop .inv) (c .if1 .left) no-spacing (omega arith)
 
 abbrev list-by-Inv-loop : list-by-lts.InvT-loop
-list-by-Inv-loop source tape config facts out₀ left at list multi i₀ ctx₀ local₀ out i ctx local = Loop source tape facts config left at (formatListClause list) (listClauseArms list multi) ctx₀ out₀ out i ctx local
+list-by-Inv-loop source keywords tape config facts out₀ left at list multi i₀ ctx₀ local₀ out i ctx local = Loop source tape facts config left at (formatListClause list) (listClauseArms list multi) ctx₀ out₀ out i ctx local
 
 abbrev list-by-μ-loop : list-by-lts.MeasureT-loop
-list-by-μ-loop source tape config facts out₀ left at list multi i₀ ctx₀ local₀ out i ctx local = length tape - i
+list-by-μ-loop source keywords tape config facts out₀ left at list multi i₀ ctx₀ local₀ out i ctx local = length tape - i
 
 list-by-multi-item-requires : (t : ℕ) → list-by-lts.Need-multi-item-requires (
   multi-item-reads.Asked,
@@ -2886,7 +2886,7 @@ list-by-list-clause-token-requires : (t : ℕ) → list-by-lts.Need-list-clause-
   list-clause-end-reads.Asked,
   list-clause-end-reads.Learnt,
 ) (list-by-at t) list-by.Post list-by-Inv-loop list-by-μ-loop
-list-by-list-clause-token-requires t c κs = token-ready (c .before .before .before .before .before .before .before .before .before .before .before .before .pre .1 .0) (c .before .before .before .before .before .before .loop .inv) _ (c .before .if2 .taken) (c .before .before .before .head-at .ensures)
+list-by-list-clause-token-requires t c κs = (token-ready (c .before .before .before .before .before .before .before .before .before .before .before .before .pre .1 .0) (c .before .before .before .before .before .before .loop .inv) _ (c .before .if2 .taken) (c .before .before .before .head-at .ensures), (c .before .before .before .before .before .before .before .before .before .before .before .before .pre .1 .0) .words)
 
 list-by-add-i-2 : (t : ℕ) → list-by-lts.Need-add-i-2 (
   multi-item-reads.Asked,
@@ -2953,7 +2953,7 @@ list-by-loop-again : (t : ℕ) → list-by-lts.Need-loop-again (
   list-clause-end-reads.Learnt,
 ) (list-by-at t) list-by.Post list-by-Inv-loop list-by-μ-loop
 unfolding listClauseArms
-list-by-loop-again t c = token-next (c .before .before .before .before .before .before .before .before .before .before .before .before .before .before .before .pre .1 .0) (c .before .before .before .before .before .before .before .before .before .loop .inv) (c .before .before .before .before .if2 .taken) (c .before .before .before .before .before .before .head-at .ensures) (c .before .before .list-clause-token .ensures) refl (c .before .before .list-clause-token .kept .1 .1 .0)
+list-by-loop-again t c = token-next (c .before .before .before .before .before .before .before .before .before .before .before .before .before .before .before .pre .1 .0) (c .before .before .before .before .before .before .before .before .before .loop .inv) (c .before .before .before .before .if2 .taken) (c .before .before .before .before .before .before .head-at .ensures) (c .before .before .list-clause-token .ensures) refl (c .before .before .list-clause-token .kept .1 .1 .1 .0)
 
 list-by-several-items-requires : (t : ℕ) → list-by-lts.Need-several-items-requires (
   multi-item-reads.Asked,
@@ -3130,7 +3130,7 @@ list-by-loop-again-2 : (t : ℕ) → list-by-lts.Need-loop-again-2 (
   list-clause-end-reads.Learnt,
 ) (list-by-at t) list-by.Post list-by-Inv-loop list-by-μ-loop
 unfolding listClauseArms
-list-by-loop-again-2 t c = node-next (c .before .before .before .before .before .before .before .before .before .before .before .before .before .before .before .before .before .before .before .before .before .before .before .pre .1 .0) (c .before .before .before .before .before .before .before .before .before .before .before .before .before .before .before .before .before .loop .inv) (listNode (c .before .before .before .before .before .before .before .before .before .before .before .before .before .before .before .before .before .before .before .before .before .before .before .args .list) (c .before .before .before .before .before .before .before .before .before .before .before .before .before .before .before .before .before .before .multi-item .result) (c .before .before .before .before .before .before .before .before .before .before .before .before .before .before .before .before .before .loop .local) (c .before .before .before .before .before .before .before .before .before .before .before .before .before .before .head-at .result .kind) (c .before .before .before .before .before .before .before .before .before .before .before .several-items .result)) (c .before .before .before .before .before .before .before .before .before .before .before .before .before .before .before .if1 .taken) (c .before .before .before .before .before .before .before .before .before .before .before .before .if2 .left) (c .before .before .before .before .before .before .before .before .before .before .before .before .before .before .head-at .ensures) (λ k z. list-node (c .before .before .before .before .before .before .before .before .before .before .before .before .before .before .before .before .before .before .before .before .before .before .before .args .list) (c .before .before .before .before .before .before .before .before .before .before .before .before .before .before .before .before .before .before .multi-item .result) (c .before .before .before .before .before .before .before .before .before .before .before .before .before .before .before .before .before .loop .local) (c .before .before .before .before .before .before .before .before .before .before .before .before .before .before .head-at .result .kind) _ (c .before .before .before .before .before .before .before .before .before .before .before .several-items .result) (c .before .before .before .before .before .before .before .before .before .before .before .several-items .ensures ∙ ap (λ (b : Bool). eqb (c .before .before .before .before .before .before .before .before .before .before .before .before .before .before .head-at .result .kind) (c .before .before .before .before .before .before .before .before .before .before .before .before .before .before .before .before .before .before .before .before .before .before .before .args .list) && b) (child-noted (c .before .before .before .before .before .before .before .before .before .before .before .before .before .before .before .before .before .before .before .before .before .before .before .pre .1 .0) (c .before .before .before .before .before .before .before .before .before .before .before .before .before .before .before .before .before .loop .inv) (c .before .before .before .before .before .before .before .before .before .before .before .before .before .before .before .if1 .taken) (c .before .before .before .before .before .before .before .before .before .before .before .before .if2 .left) k z))) (c .before .before .before .before .before .before .before .before .before .list-clause-before .ensures) (c .before .before .before .before .before .node .ensures) (c .list-clause-local .ensures) (as-spaced (c .before .list-clause-after .ensures)) (omega arith) (omega arith) (c .before .before .before .before .before .node .kept .1 .1 .1 .1 .0 ∙ c .before .before .before .before .before .before .before .before .before .list-clause-before .kept .0)
+list-by-loop-again-2 t c = node-next (c .before .before .before .before .before .before .before .before .before .before .before .before .before .before .before .before .before .before .before .before .before .before .before .pre .1 .0) (c .before .before .before .before .before .before .before .before .before .before .before .before .before .before .before .before .before .loop .inv) (listNode (c .before .before .before .before .before .before .before .before .before .before .before .before .before .before .before .before .before .before .before .before .before .before .before .args .list) (c .before .before .before .before .before .before .before .before .before .before .before .before .before .before .before .before .before .before .multi-item .result) (c .before .before .before .before .before .before .before .before .before .before .before .before .before .before .before .before .before .loop .local) (c .before .before .before .before .before .before .before .before .before .before .before .before .before .before .head-at .result .kind) (c .before .before .before .before .before .before .before .before .before .before .before .several-items .result)) (c .before .before .before .before .before .before .before .before .before .before .before .before .before .before .before .if1 .taken) (c .before .before .before .before .before .before .before .before .before .before .before .before .if2 .left) (c .before .before .before .before .before .before .before .before .before .before .before .before .before .before .head-at .ensures) (λ k z. list-node (c .before .before .before .before .before .before .before .before .before .before .before .before .before .before .before .before .before .before .before .before .before .before .before .args .list) (c .before .before .before .before .before .before .before .before .before .before .before .before .before .before .before .before .before .before .multi-item .result) (c .before .before .before .before .before .before .before .before .before .before .before .before .before .before .before .before .before .loop .local) (c .before .before .before .before .before .before .before .before .before .before .before .before .before .before .head-at .result .kind) _ (c .before .before .before .before .before .before .before .before .before .before .before .several-items .result) (c .before .before .before .before .before .before .before .before .before .before .before .several-items .ensures ∙ ap (λ (b : Bool). eqb (c .before .before .before .before .before .before .before .before .before .before .before .before .before .before .head-at .result .kind) (c .before .before .before .before .before .before .before .before .before .before .before .before .before .before .before .before .before .before .before .before .before .before .before .args .list) && b) (child-noted (c .before .before .before .before .before .before .before .before .before .before .before .before .before .before .before .before .before .before .before .before .before .before .before .pre .1 .0) (c .before .before .before .before .before .before .before .before .before .before .before .before .before .before .before .before .before .loop .inv) (c .before .before .before .before .before .before .before .before .before .before .before .before .before .before .before .if1 .taken) (c .before .before .before .before .before .before .before .before .before .before .before .before .if2 .left) k z))) (c .before .before .before .before .before .before .before .before .before .list-clause-before .ensures) (c .before .before .before .before .before .node .ensures) (c .list-clause-local .ensures) (as-spaced (c .before .list-clause-after .ensures)) (omega arith) (omega arith) (c .before .before .before .before .before .node .kept .1 .1 .1 .1 .1 .0 ∙ c .before .before .before .before .before .before .before .before .before .list-clause-before .kept .0)
 
 list-by-list-clause-end-requires : (t : ℕ) → list-by-lts.Need-list-clause-end-requires (
   multi-item-reads.Asked,
@@ -3154,7 +3154,7 @@ list-by-list-clause-end-requires : (t : ℕ) → list-by-lts.Need-list-clause-en
 ) (list-by-at t) list-by.Post list-by-Inv-loop list-by-μ-loop
 list-by-list-clause-end-requires t c κs = search needs
 
-list-by-add-t32 : (t : ℕ) → list-by-lts.Need-add-t32 (
+list-by-add-t33 : (t : ℕ) → list-by-lts.Need-add-t33 (
   multi-item-reads.Asked,
   multi-item-reads.Learnt,
   head-at-reads.Asked,
@@ -3174,7 +3174,7 @@ list-by-add-t32 : (t : ℕ) → list-by-lts.Need-add-t32 (
   list-clause-end-reads.Asked,
   list-clause-end-reads.Learnt,
 ) (list-by-at t) list-by.Post list-by-Inv-loop list-by-μ-loop
-list-by-add-t32 t c = omega (arith, c .before .before .before .loop .inv .inside, c .before .before .before .before .before .before .before .before .before .pre .1 .0 .sizes .tape-fits)
+list-by-add-t33 t c = omega (arith, c .before .before .before .loop .inv .inside, c .before .before .before .before .before .before .before .before .before .pre .1 .0 .sizes .tape-fits)
 
 list-by-same-length : (t : ℕ) → list-by-lts.Need-same-length (
   multi-item-reads.Asked,
@@ -3222,10 +3222,10 @@ unfolding listClauseArms
 list-by-returns t c = loop-last (c .before .before .before .before .before .before .before .before .before .pre .1 .0) (c .before .before .before .loop .inv) (c .before .if1 .left) (as-spaced (c .list-clause-end .ensures)) (omega arith)
 
 abbrev no-spaces-Inv-loop : no-spaces-lts.InvT-loop
-no-spaces-Inv-loop source tape config facts out₀ left at i₀ ctx₀ out i ctx = Loop source tape facts config left at (always formatInlineNoSpaces) formatInlineNoSpaces ctx₀ out₀ out i ctx (flagged false)
+no-spaces-Inv-loop source keywords tape config facts out₀ left at i₀ ctx₀ out i ctx = Loop source tape facts config left at (always formatInlineNoSpaces) formatInlineNoSpaces ctx₀ out₀ out i ctx (flagged false)
 
 abbrev no-spaces-μ-loop : no-spaces-lts.MeasureT-loop
-no-spaces-μ-loop source tape config facts out₀ left at i₀ ctx₀ out i ctx = length tape - i
+no-spaces-μ-loop source keywords tape config facts out₀ left at i₀ ctx₀ out i ctx = length tape - i
 
 no-spaces-add-i : (t : ℕ) → no-spaces-lts.Need-add-i (
   head-at-reads.Asked,
@@ -3286,7 +3286,7 @@ no-spaces-emit-other-requires : (t : ℕ) → no-spaces-lts.Need-emit-other-requ
   node-below t,
   node.Post,
 ) (no-spaces-at t) no-spaces.Post no-spaces-Inv-loop no-spaces-μ-loop
-no-spaces-emit-other-requires t c κs = token-ready (c .before .before .before .before .before .before .before .before .before .before .before .pre .1) (c .before .before .before .before .before .before .loop .inv) _ (c .before .if2 .taken) (c .before .before .before .head-at .ensures)
+no-spaces-emit-other-requires t c κs = (token-ready (c .before .before .before .before .before .before .before .before .before .before .before .pre .1) (c .before .before .before .before .before .before .loop .inv) _ (c .before .if2 .taken) (c .before .before .before .head-at .ensures), (c .before .before .before .before .before .before .before .before .before .before .before .pre .1) .words)
 
 no-spaces-add-i-2 : (t : ℕ) → no-spaces-lts.Need-add-i-2 (
   head-at-reads.Asked,
@@ -3317,7 +3317,7 @@ no-spaces-loop-again : (t : ℕ) → no-spaces-lts.Need-loop-again (
   node.Post,
 ) (no-spaces-at t) no-spaces.Post no-spaces-Inv-loop no-spaces-μ-loop
 unfolding formatInlineNoSpaces
-no-spaces-loop-again t c = token-next (c .before .before .before .before .before .before .before .before .before .before .before .before .before .before .pre .1) (c .before .before .before .before .before .before .before .before .before .loop .inv) (c .before .before .before .before .if2 .taken) (c .before .before .before .before .before .before .head-at .ensures) (c .before .before .emit-other .ensures) refl (c .before .before .emit-other .kept .1 .1 .0)
+no-spaces-loop-again t c = token-next (c .before .before .before .before .before .before .before .before .before .before .before .before .before .before .pre .1) (c .before .before .before .before .before .before .before .before .before .loop .inv) (c .before .before .before .before .if2 .taken) (c .before .before .before .before .before .before .head-at .ensures) (c .before .before .emit-other .ensures) refl (c .before .before .emit-other .kept .1 .1 .1 .0)
 
 no-spaces-sub-node : (t : ℕ) → no-spaces-lts.Need-sub-node (
   head-at-reads.Asked,
@@ -3358,9 +3358,9 @@ no-spaces-loop-again-2 : (t : ℕ) → no-spaces-lts.Need-loop-again-2 (
   node.Post,
 ) (no-spaces-at t) no-spaces.Post no-spaces-Inv-loop no-spaces-μ-loop
 unfolding formatInlineNoSpaces
-no-spaces-loop-again-2 t c = node-next (c .before .before .before .before .before .before .before .before .before .before .before .before .before .before .before .pre .1) (c .before .before .before .before .before .before .before .before .before .before .loop .inv) (formatInlineNoSpaces .atNode (flagged false) (c .before .before .before .before .before .before .before .head-at .result .kind) 0) (c .before .before .before .before .before .before .before .before .if1 .taken) (c .before .before .before .before .before .if2 .left) (c .before .before .before .before .before .before .before .head-at .ensures) (λ k z. refl) (no-spacing {xs = c .before .before .before .before .before .before .before .before .before .before .loop .out}) (c .before .before .before .node .ensures) refl no-spacing (omega arith) (omega arith) (c .before .before .before .node .kept .1 .1 .1 .1 .0)
+no-spaces-loop-again-2 t c = node-next (c .before .before .before .before .before .before .before .before .before .before .before .before .before .before .before .pre .1) (c .before .before .before .before .before .before .before .before .before .before .loop .inv) (formatInlineNoSpaces .atNode (flagged false) (c .before .before .before .before .before .before .before .head-at .result .kind) 0) (c .before .before .before .before .before .before .before .before .if1 .taken) (c .before .before .before .before .before .if2 .left) (c .before .before .before .before .before .before .before .head-at .ensures) (λ k z. refl) (no-spacing {xs = c .before .before .before .before .before .before .before .before .before .before .loop .out}) (c .before .before .before .node .ensures) refl no-spacing (omega arith) (omega arith) (c .before .before .before .node .kept .1 .1 .1 .1 .1 .0)
 
-no-spaces-add-t23 : (t : ℕ) → no-spaces-lts.Need-add-t23 (
+no-spaces-add-t24 : (t : ℕ) → no-spaces-lts.Need-add-t24 (
   head-at-reads.Asked,
   head-at-reads.Learnt,
   emit-other-reads.Asked,
@@ -3368,7 +3368,7 @@ no-spaces-add-t23 : (t : ℕ) → no-spaces-lts.Need-add-t23 (
   node-below t,
   node.Post,
 ) (no-spaces-at t) no-spaces.Post no-spaces-Inv-loop no-spaces-μ-loop
-no-spaces-add-t23 t c = omega (arith, c .before .before .loop .inv .inside, c .before .before .before .before .before .before .before .pre .1 .sizes .tape-fits)
+no-spaces-add-t24 t c = omega (arith, c .before .before .loop .inv .inside, c .before .before .before .before .before .before .before .pre .1 .sizes .tape-fits)
 
 no-spaces-same-length : (t : ℕ) → no-spaces-lts.Need-same-length (
   head-at-reads.Asked,
@@ -7605,7 +7605,7 @@ node-same-length-2 : (t : ℕ) → node-lts.Need-same-length-2 (
   pass-below t,
   pass.Post,
 ) (node-at t) node.Post
-node-same-length-2 t c = c .before .before .file .kept .1 .1 .1 .1 .0
+node-same-length-2 t c = c .before .before .file .kept .1 .1 .1 .1 .1 .0
 
 node-returns-2 : (t : ℕ) → node-lts.Need-returns-2 (
   has-error-reads.Asked,
@@ -7742,7 +7742,7 @@ node-same-length-3 : (t : ℕ) → node-lts.Need-same-length-3 (
   pass-below t,
   pass.Post,
 ) (node-at t) node.Post
-node-same-length-3 t c = c .before .before .queries .kept .1 .1 .1 .1 .0
+node-same-length-3 t c = c .before .before .queries .kept .1 .1 .1 .1 .1 .0
 
 node-returns-3 : (t : ℕ) → node-lts.Need-returns-3 (
   has-error-reads.Asked,
@@ -7879,7 +7879,7 @@ node-same-length-4 : (t : ℕ) → node-lts.Need-same-length-4 (
   pass-below t,
   pass.Post,
 ) (node-at t) node.Post
-node-same-length-4 t c = c .before .before .sel-stmt .kept .1 .1 .1 .1 .0
+node-same-length-4 t c = c .before .before .sel-stmt .kept .1 .1 .1 .1 .1 .0
 
 node-returns-4 : (t : ℕ) → node-lts.Need-returns-4 (
   has-error-reads.Asked,
@@ -8016,7 +8016,7 @@ node-same-length-5 : (t : ℕ) → node-lts.Need-same-length-5 (
   pass-below t,
   pass.Post,
 ) (node-at t) node.Post
-node-same-length-5 t c = c .before .before .select .kept .1 .1 .1 .1 .0
+node-same-length-5 t c = c .before .before .select .kept .1 .1 .1 .1 .1 .0
 
 node-returns-5 : (t : ℕ) → node-lts.Need-returns-5 (
   has-error-reads.Asked,
@@ -8153,7 +8153,7 @@ node-same-length-6 : (t : ℕ) → node-lts.Need-same-length-6 (
   pass-below t,
   pass.Post,
 ) (node-at t) node.Post
-node-same-length-6 t c = c .before .before .simple .kept .1 .1 .1 .1 .0
+node-same-length-6 t c = c .before .before .simple .kept .1 .1 .1 .1 .1 .0
 
 node-returns-6 : (t : ℕ) → node-lts.Need-returns-6 (
   has-error-reads.Asked,
@@ -8290,7 +8290,7 @@ node-same-length-7 : (t : ℕ) → node-lts.Need-same-length-7 (
   pass-below t,
   pass.Post,
 ) (node-at t) node.Post
-node-same-length-7 t c = c .before .before .list-by .kept .1 .1 .1 .1 .0
+node-same-length-7 t c = c .before .before .list-by .kept .1 .1 .1 .1 .1 .0
 
 node-returns-7 : (t : ℕ) → node-lts.Need-returns-7 (
   has-error-reads.Asked,
@@ -8427,7 +8427,7 @@ node-same-length-8 : (t : ℕ) → node-lts.Need-same-length-8 (
   pass-below t,
   pass.Post,
 ) (node-at t) node.Post
-node-same-length-8 t c = c .before .before .settings .kept .1 .1 .1 .1 .0
+node-same-length-8 t c = c .before .before .settings .kept .1 .1 .1 .1 .1 .0
 
 node-returns-8 : (t : ℕ) → node-lts.Need-returns-8 (
   has-error-reads.Asked,
@@ -8564,7 +8564,7 @@ node-same-length-9 : (t : ℕ) → node-lts.Need-same-length-9 (
   pass-below t,
   pass.Post,
 ) (node-at t) node.Post
-node-same-length-9 t c = c .before .before .with .kept .1 .1 .1 .1 .0
+node-same-length-9 t c = c .before .before .with .kept .1 .1 .1 .1 .1 .0
 
 node-returns-9 : (t : ℕ) → node-lts.Need-returns-9 (
   has-error-reads.Asked,
@@ -8701,7 +8701,7 @@ node-same-length-10 : (t : ℕ) → node-lts.Need-same-length-10 (
   pass-below t,
   pass.Post,
 ) (node-at t) node.Post
-node-same-length-10 t c = c .before .before .join .kept .1 .1 .1 .1 .0
+node-same-length-10 t c = c .before .before .join .kept .1 .1 .1 .1 .1 .0
 
 node-returns-10 : (t : ℕ) → node-lts.Need-returns-10 (
   has-error-reads.Asked,
@@ -8838,7 +8838,7 @@ node-same-length-11 : (t : ℕ) → node-lts.Need-same-length-11 (
   pass-below t,
   pass.Post,
 ) (node-at t) node.Post
-node-same-length-11 t c = c .before .before .inline .kept .1 .1 .1 .1 .0
+node-same-length-11 t c = c .before .before .inline .kept .1 .1 .1 .1 .1 .0
 
 node-returns-11 : (t : ℕ) → node-lts.Need-returns-11 (
   has-error-reads.Asked,
@@ -8975,7 +8975,7 @@ node-same-length-12 : (t : ℕ) → node-lts.Need-same-length-12 (
   pass-below t,
   pass.Post,
 ) (node-at t) node.Post
-node-same-length-12 t c = c .before .before .comma .kept .1 .1 .1 .1 .0
+node-same-length-12 t c = c .before .before .comma .kept .1 .1 .1 .1 .1 .0
 
 node-returns-12 : (t : ℕ) → node-lts.Need-returns-12 (
   has-error-reads.Asked,
@@ -9112,7 +9112,7 @@ node-same-length-13 : (t : ℕ) → node-lts.Need-same-length-13 (
   pass-below t,
   pass.Post,
 ) (node-at t) node.Post
-node-same-length-13 t c = c .before .before .inl-list .kept .1 .1 .1 .1 .0
+node-same-length-13 t c = c .before .before .inl-list .kept .1 .1 .1 .1 .1 .0
 
 node-returns-13 : (t : ℕ) → node-lts.Need-returns-13 (
   has-error-reads.Asked,
@@ -9249,7 +9249,7 @@ node-same-length-14 : (t : ℕ) → node-lts.Need-same-length-14 (
   pass-below t,
   pass.Post,
 ) (node-at t) node.Post
-node-same-length-14 t c = c .before .before .binary .kept .1 .1 .1 .1 .0
+node-same-length-14 t c = c .before .before .binary .kept .1 .1 .1 .1 .1 .0
 
 node-returns-14 : (t : ℕ) → node-lts.Need-returns-14 (
   has-error-reads.Asked,
@@ -9386,7 +9386,7 @@ node-same-length-15 : (t : ℕ) → node-lts.Need-same-length-15 (
   pass-below t,
   pass.Post,
 ) (node-at t) node.Post
-node-same-length-15 t c = c .before .before .unary .kept .1 .1 .1 .1 .0
+node-same-length-15 t c = c .before .before .unary .kept .1 .1 .1 .1 .1 .0
 
 node-returns-15 : (t : ℕ) → node-lts.Need-returns-15 (
   has-error-reads.Asked,
@@ -9523,7 +9523,7 @@ node-same-length-16 : (t : ℕ) → node-lts.Need-same-length-16 (
   pass-below t,
   pass.Post,
 ) (node-at t) node.Post
-node-same-length-16 t c = c .before .before .call .kept .1 .1 .1 .1 .0
+node-same-length-16 t c = c .before .before .call .kept .1 .1 .1 .1 .1 .0
 
 node-returns-16 : (t : ℕ) → node-lts.Need-returns-16 (
   has-error-reads.Asked,
@@ -9660,7 +9660,7 @@ node-same-length-17 : (t : ℕ) → node-lts.Need-same-length-17 (
   pass-below t,
   pass.Post,
 ) (node-at t) node.Post
-node-same-length-17 t c = c .before .before .case .kept .1 .1 .1 .1 .0
+node-same-length-17 t c = c .before .before .case .kept .1 .1 .1 .1 .1 .0
 
 node-returns-17 : (t : ℕ) → node-lts.Need-returns-17 (
   has-error-reads.Asked,
@@ -9797,7 +9797,7 @@ node-same-length-18 : (t : ℕ) → node-lts.Need-same-length-18 (
   pass-below t,
   pass.Post,
 ) (node-at t) node.Post
-node-same-length-18 t c = c .before .before .when .kept .1 .1 .1 .1 .0
+node-same-length-18 t c = c .before .before .when .kept .1 .1 .1 .1 .1 .0
 
 node-returns-18 : (t : ℕ) → node-lts.Need-returns-18 (
   has-error-reads.Asked,
@@ -9934,7 +9934,7 @@ node-same-length-19 : (t : ℕ) → node-lts.Need-same-length-19 (
   pass-below t,
   pass.Post,
 ) (node-at t) node.Post
-node-same-length-19 t c = c .before .before .subquery .kept .1 .1 .1 .1 .0
+node-same-length-19 t c = c .before .before .subquery .kept .1 .1 .1 .1 .1 .0
 
 node-returns-19 : (t : ℕ) → node-lts.Need-returns-19 (
   has-error-reads.Asked,
@@ -10071,7 +10071,7 @@ node-same-length-20 : (t : ℕ) → node-lts.Need-same-length-20 (
   pass-below t,
   pass.Post,
 ) (node-at t) node.Post
-node-same-length-20 t c = c .before .before .paren .kept .1 .1 .1 .1 .0
+node-same-length-20 t c = c .before .before .paren .kept .1 .1 .1 .1 .1 .0
 
 node-returns-20 : (t : ℕ) → node-lts.Need-returns-20 (
   has-error-reads.Asked,
@@ -10208,7 +10208,7 @@ node-same-length-21 : (t : ℕ) → node-lts.Need-same-length-21 (
   pass-below t,
   pass.Post,
 ) (node-at t) node.Post
-node-same-length-21 t c = c .before .before .bracket .kept .1 .1 .1 .1 .0
+node-same-length-21 t c = c .before .before .bracket .kept .1 .1 .1 .1 .1 .0
 
 node-returns-21 : (t : ℕ) → node-lts.Need-returns-21 (
   has-error-reads.Asked,
@@ -10345,7 +10345,7 @@ node-same-length-22 : (t : ℕ) → node-lts.Need-same-length-22 (
   pass-below t,
   pass.Post,
 ) (node-at t) node.Post
-node-same-length-22 t c = c .before .before .no-spaces .kept .1 .1 .1 .1 .0
+node-same-length-22 t c = c .before .before .no-spaces .kept .1 .1 .1 .1 .1 .0
 
 node-returns-22 : (t : ℕ) → node-lts.Need-returns-22 (
   has-error-reads.Asked,
@@ -10482,7 +10482,7 @@ node-same-length-23 : (t : ℕ) → node-lts.Need-same-length-23 (
   pass-below t,
   pass.Post,
 ) (node-at t) node.Post
-node-same-length-23 t c = c .before .before .brace .kept .1 .1 .1 .1 .0
+node-same-length-23 t c = c .before .before .brace .kept .1 .1 .1 .1 .1 .0
 
 node-returns-23 : (t : ℕ) → node-lts.Need-returns-23 (
   has-error-reads.Asked,
@@ -10619,7 +10619,7 @@ node-same-length-24 : (t : ℕ) → node-lts.Need-same-length-24 (
   pass-below t,
   pass.Post,
 ) (node-at t) node.Post
-node-same-length-24 t c = c .before .before .dtype .kept .1 .1 .1 .1 .0
+node-same-length-24 t c = c .before .before .dtype .kept .1 .1 .1 .1 .1 .0
 
 node-returns-24 : (t : ℕ) → node-lts.Need-returns-24 (
   has-error-reads.Asked,
@@ -10756,7 +10756,7 @@ node-same-length-25 : (t : ℕ) → node-lts.Need-same-length-25 (
   pass-below t,
   pass.Post,
 ) (node-at t) node.Post
-node-same-length-25 t c = c .before .before .tight-paren .kept .1 .1 .1 .1 .0
+node-same-length-25 t c = c .before .before .tight-paren .kept .1 .1 .1 .1 .1 .0
 
 node-returns-25 : (t : ℕ) → node-lts.Need-returns-25 (
   has-error-reads.Asked,
@@ -10893,7 +10893,7 @@ node-same-length-26 : (t : ℕ) → node-lts.Need-same-length-26 (
   pass-below t,
   pass.Post,
 ) (node-at t) node.Post
-node-same-length-26 t c = c .before .before .alter .kept .1 .1 .1 .1 .0
+node-same-length-26 t c = c .before .before .alter .kept .1 .1 .1 .1 .1 .0
 
 node-returns-26 : (t : ℕ) → node-lts.Need-returns-26 (
   has-error-reads.Asked,
@@ -11030,7 +11030,7 @@ node-same-length-27 : (t : ℕ) → node-lts.Need-same-length-27 (
   pass-below t,
   pass.Post,
 ) (node-at t) node.Post
-node-same-length-27 t c = c .before .before .union .kept .1 .1 .1 .1 .0
+node-same-length-27 t c = c .before .before .union .kept .1 .1 .1 .1 .1 .0
 
 node-returns-27 : (t : ℕ) → node-lts.Need-returns-27 (
   has-error-reads.Asked,
@@ -11167,7 +11167,7 @@ node-same-length-28 : (t : ℕ) → node-lts.Need-same-length-28 (
   pass-below t,
   pass.Post,
 ) (node-at t) node.Post
-node-same-length-28 t c = c .before .before .pass .kept .1 .1 .1 .1 .0
+node-same-length-28 t c = c .before .before .pass .kept .1 .1 .1 .1 .1 .0
 
 node-returns-28 : (t : ℕ) → node-lts.Need-returns-28 (
   has-error-reads.Asked,
@@ -11239,10 +11239,10 @@ unfolding armsOf
 node-returns-28 t c = node-by the-variants.Passthrough (c .before .before .before .before .before .before .before .before .before .before .before .before .before .pre .1 .1) (⊎-elim (λ w. decided-list (c .before .before .before .before .before .before .before .before .before .before .before .before .before .pre .1 .0) (c .before .before .before .before .before .before .before .before .before .before .before .before .before .pre .1 .1) (w .1 .left)) (λ w. decided-clean (c .before .before .before .before .before .before .before .before .before .before .before .before .before .pre .1 .0) (c .before .before .before .before .before .before .before .before .before .before .before .before .before .pre .1 .1) (c .before .before .before .before .before .before .before .before .has-error .ensures) (w .left)) (c .before .before .before .before .before .before .before .if1 .came)) (sym (c .before .before .before .before .enum-told26 .given .1) ∙ c .before .before .before .before .before .before .routine-of .ensures) (c .before .before .pass .ensures)
 
 abbrev paren-Inv-loop : paren-lts.InvT-loop
-paren-Inv-loop source tape config facts out₀ left at i₀ ctx₀ out i ctx = Loop source tape facts config left at (always formatParenList) formatParenList ctx₀ out₀ out i ctx (flagged false)
+paren-Inv-loop source keywords tape config facts out₀ left at i₀ ctx₀ out i ctx = Loop source tape facts config left at (always formatParenList) formatParenList ctx₀ out₀ out i ctx (flagged false)
 
 abbrev paren-μ-loop : paren-lts.MeasureT-loop
-paren-μ-loop source tape config facts out₀ left at i₀ ctx₀ out i ctx = length tape - i
+paren-μ-loop source keywords tape config facts out₀ left at i₀ ctx₀ out i ctx = length tape - i
 
 paren-add-i : (t : ℕ) → paren-lts.Need-add-i (
   head-at-reads.Asked,
@@ -11303,7 +11303,7 @@ paren-paren-list-token-requires : (t : ℕ) → paren-lts.Need-paren-list-token-
   node-below t,
   node.Post,
 ) (paren-at t) paren.Post paren-Inv-loop paren-μ-loop
-paren-paren-list-token-requires t c κs = token-ready (c .before .before .before .before .before .before .before .before .before .before .before .pre .1) (c .before .before .before .before .before .before .loop .inv) _ (c .before .if2 .taken) (c .before .before .before .head-at .ensures)
+paren-paren-list-token-requires t c κs = (token-ready (c .before .before .before .before .before .before .before .before .before .before .before .pre .1) (c .before .before .before .before .before .before .loop .inv) _ (c .before .if2 .taken) (c .before .before .before .head-at .ensures), (c .before .before .before .before .before .before .before .before .before .before .before .pre .1) .words)
 
 paren-add-i-2 : (t : ℕ) → paren-lts.Need-add-i-2 (
   head-at-reads.Asked,
@@ -11334,7 +11334,7 @@ paren-loop-again : (t : ℕ) → paren-lts.Need-loop-again (
   node.Post,
 ) (paren-at t) paren.Post paren-Inv-loop paren-μ-loop
 unfolding formatParenList
-paren-loop-again t c = token-next (c .before .before .before .before .before .before .before .before .before .before .before .before .before .before .pre .1) (c .before .before .before .before .before .before .before .before .before .loop .inv) (c .before .before .before .before .if2 .taken) (c .before .before .before .before .before .before .head-at .ensures) (c .before .before .paren-list-token .ensures) refl (c .before .before .paren-list-token .kept .1 .1 .0)
+paren-loop-again t c = token-next (c .before .before .before .before .before .before .before .before .before .before .before .before .before .before .pre .1) (c .before .before .before .before .before .before .before .before .before .loop .inv) (c .before .before .before .before .if2 .taken) (c .before .before .before .before .before .before .head-at .ensures) (c .before .before .paren-list-token .ensures) refl (c .before .before .paren-list-token .kept .1 .1 .1 .0)
 
 paren-sub-node : (t : ℕ) → paren-lts.Need-sub-node (
   head-at-reads.Asked,
@@ -11375,9 +11375,9 @@ paren-loop-again-2 : (t : ℕ) → paren-lts.Need-loop-again-2 (
   node.Post,
 ) (paren-at t) paren.Post paren-Inv-loop paren-μ-loop
 unfolding formatParenList
-paren-loop-again-2 t c = node-next (c .before .before .before .before .before .before .before .before .before .before .before .before .before .before .before .pre .1) (c .before .before .before .before .before .before .before .before .before .before .loop .inv) (formatParenList .atNode (flagged false) (c .before .before .before .before .before .before .before .head-at .result .kind) 0) (c .before .before .before .before .before .before .before .before .if1 .taken) (c .before .before .before .before .before .if2 .left) (c .before .before .before .before .before .before .before .head-at .ensures) (λ k z. refl) (no-spacing {xs = c .before .before .before .before .before .before .before .before .before .before .loop .out}) (c .before .before .before .node .ensures) refl no-spacing (omega arith) (omega arith) (c .before .before .before .node .kept .1 .1 .1 .1 .0)
+paren-loop-again-2 t c = node-next (c .before .before .before .before .before .before .before .before .before .before .before .before .before .before .before .pre .1) (c .before .before .before .before .before .before .before .before .before .before .loop .inv) (formatParenList .atNode (flagged false) (c .before .before .before .before .before .before .before .head-at .result .kind) 0) (c .before .before .before .before .before .before .before .before .if1 .taken) (c .before .before .before .before .before .if2 .left) (c .before .before .before .before .before .before .before .head-at .ensures) (λ k z. refl) (no-spacing {xs = c .before .before .before .before .before .before .before .before .before .before .loop .out}) (c .before .before .before .node .ensures) refl no-spacing (omega arith) (omega arith) (c .before .before .before .node .kept .1 .1 .1 .1 .1 .0)
 
-paren-add-t23 : (t : ℕ) → paren-lts.Need-add-t23 (
+paren-add-t24 : (t : ℕ) → paren-lts.Need-add-t24 (
   head-at-reads.Asked,
   head-at-reads.Learnt,
   paren-list-token-reads.Asked,
@@ -11385,7 +11385,7 @@ paren-add-t23 : (t : ℕ) → paren-lts.Need-add-t23 (
   node-below t,
   node.Post,
 ) (paren-at t) paren.Post paren-Inv-loop paren-μ-loop
-paren-add-t23 t c = omega (arith, c .before .before .loop .inv .inside, c .before .before .before .before .before .before .before .pre .1 .sizes .tape-fits)
+paren-add-t24 t c = omega (arith, c .before .before .loop .inv .inside, c .before .before .before .before .before .before .before .pre .1 .sizes .tape-fits)
 
 paren-same-length : (t : ℕ) → paren-lts.Need-same-length (
   head-at-reads.Asked,
@@ -11409,10 +11409,10 @@ unfolding formatParenList
 paren-returns t c = loop-last (c .before .before .before .before .before .before .before .pre .1) (c .before .before .loop .inv) (c .if1 .left) no-spacing (omega arith)
 
 abbrev pass-Inv-loop : pass-lts.InvT-loop
-pass-Inv-loop source tape config facts out₀ left at i₀ ctx₀ out i ctx = Loop source tape facts config left at (always formatPassthrough) formatPassthrough ctx₀ out₀ out i ctx (flagged false)
+pass-Inv-loop source keywords tape config facts out₀ left at i₀ ctx₀ out i ctx = Loop source tape facts config left at (always formatPassthrough) formatPassthrough ctx₀ out₀ out i ctx (flagged false)
 
 abbrev pass-μ-loop : pass-lts.MeasureT-loop
-pass-μ-loop source tape config facts out₀ left at i₀ ctx₀ out i ctx = length tape - i
+pass-μ-loop source keywords tape config facts out₀ left at i₀ ctx₀ out i ctx = length tape - i
 
 pass-add-i : (t : ℕ) → pass-lts.Need-add-i (
   head-at-reads.Asked,
@@ -11473,7 +11473,7 @@ pass-passthrough-token-requires : (t : ℕ) → pass-lts.Need-passthrough-token-
   node-below t,
   node.Post,
 ) (pass-at t) pass.Post pass-Inv-loop pass-μ-loop
-pass-passthrough-token-requires t c κs = token-ready (c .before .before .before .before .before .before .before .before .before .before .before .pre .1) (c .before .before .before .before .before .before .loop .inv) _ (c .before .if2 .taken) (c .before .before .before .head-at .ensures)
+pass-passthrough-token-requires t c κs = (token-ready (c .before .before .before .before .before .before .before .before .before .before .before .pre .1) (c .before .before .before .before .before .before .loop .inv) _ (c .before .if2 .taken) (c .before .before .before .head-at .ensures), (c .before .before .before .before .before .before .before .before .before .before .before .pre .1) .words)
 
 pass-add-i-2 : (t : ℕ) → pass-lts.Need-add-i-2 (
   head-at-reads.Asked,
@@ -11504,7 +11504,7 @@ pass-loop-again : (t : ℕ) → pass-lts.Need-loop-again (
   node.Post,
 ) (pass-at t) pass.Post pass-Inv-loop pass-μ-loop
 unfolding formatPassthrough
-pass-loop-again t c = token-next (c .before .before .before .before .before .before .before .before .before .before .before .before .before .before .pre .1) (c .before .before .before .before .before .before .before .before .before .loop .inv) (c .before .before .before .before .if2 .taken) (c .before .before .before .before .before .before .head-at .ensures) (c .before .before .passthrough-token .ensures) refl (c .before .before .passthrough-token .kept .1 .1 .0)
+pass-loop-again t c = token-next (c .before .before .before .before .before .before .before .before .before .before .before .before .before .before .pre .1) (c .before .before .before .before .before .before .before .before .before .loop .inv) (c .before .before .before .before .if2 .taken) (c .before .before .before .before .before .before .head-at .ensures) (c .before .before .passthrough-token .ensures) refl (c .before .before .passthrough-token .kept .1 .1 .1 .0)
 
 pass-sub-node : (t : ℕ) → pass-lts.Need-sub-node (
   head-at-reads.Asked,
@@ -11545,9 +11545,9 @@ pass-loop-again-2 : (t : ℕ) → pass-lts.Need-loop-again-2 (
   node.Post,
 ) (pass-at t) pass.Post pass-Inv-loop pass-μ-loop
 unfolding formatPassthrough
-pass-loop-again-2 t c = node-next (c .before .before .before .before .before .before .before .before .before .before .before .before .before .before .before .pre .1) (c .before .before .before .before .before .before .before .before .before .before .loop .inv) (formatPassthrough .atNode (flagged false) (c .before .before .before .before .before .before .before .head-at .result .kind) 0) (c .before .before .before .before .before .before .before .before .if1 .taken) (c .before .before .before .before .before .if2 .left) (c .before .before .before .before .before .before .before .head-at .ensures) (λ k z. refl) (no-spacing {xs = c .before .before .before .before .before .before .before .before .before .before .loop .out}) (c .before .before .before .node .ensures) refl no-spacing (omega arith) (omega arith) (c .before .before .before .node .kept .1 .1 .1 .1 .0)
+pass-loop-again-2 t c = node-next (c .before .before .before .before .before .before .before .before .before .before .before .before .before .before .before .pre .1) (c .before .before .before .before .before .before .before .before .before .before .loop .inv) (formatPassthrough .atNode (flagged false) (c .before .before .before .before .before .before .before .head-at .result .kind) 0) (c .before .before .before .before .before .before .before .before .if1 .taken) (c .before .before .before .before .before .if2 .left) (c .before .before .before .before .before .before .before .head-at .ensures) (λ k z. refl) (no-spacing {xs = c .before .before .before .before .before .before .before .before .before .before .loop .out}) (c .before .before .before .node .ensures) refl no-spacing (omega arith) (omega arith) (c .before .before .before .node .kept .1 .1 .1 .1 .1 .0)
 
-pass-add-t23 : (t : ℕ) → pass-lts.Need-add-t23 (
+pass-add-t24 : (t : ℕ) → pass-lts.Need-add-t24 (
   head-at-reads.Asked,
   head-at-reads.Learnt,
   passthrough-token-reads.Asked,
@@ -11555,7 +11555,7 @@ pass-add-t23 : (t : ℕ) → pass-lts.Need-add-t23 (
   node-below t,
   node.Post,
 ) (pass-at t) pass.Post pass-Inv-loop pass-μ-loop
-pass-add-t23 t c = omega (arith, c .before .before .loop .inv .inside, c .before .before .before .before .before .before .before .pre .1 .sizes .tape-fits)
+pass-add-t24 t c = omega (arith, c .before .before .loop .inv .inside, c .before .before .before .before .before .before .before .pre .1 .sizes .tape-fits)
 
 pass-same-length : (t : ℕ) → pass-lts.Need-same-length (
   head-at-reads.Asked,
@@ -11579,10 +11579,10 @@ unfolding formatPassthrough
 pass-returns t c = loop-last (c .before .before .before .before .before .before .before .pre .1) (c .before .before .loop .inv) (c .if1 .left) no-spacing (omega arith)
 
 abbrev queries-Inv-loop : queries-lts.InvT-loop
-queries-Inv-loop source tape config facts out₀ left at i₀ ctx₀ local₀ out i ctx local = Loop source tape facts config left at (always formatQueryList) formatQueryList ctx₀ out₀ out i ctx local
+queries-Inv-loop source keywords tape config facts out₀ left at i₀ ctx₀ local₀ out i ctx local = Loop source tape facts config left at (always formatQueryList) formatQueryList ctx₀ out₀ out i ctx local
 
 abbrev queries-μ-loop : queries-lts.MeasureT-loop
-queries-μ-loop source tape config facts out₀ left at i₀ ctx₀ local₀ out i ctx local = length tape - i
+queries-μ-loop source keywords tape config facts out₀ left at i₀ ctx₀ local₀ out i ctx local = length tape - i
 
 queries-add-i : (t : ℕ) → queries-lts.Need-add-i (
   head-at-reads.Asked,
@@ -11655,7 +11655,7 @@ queries-query-list-token-requires : (t : ℕ) → queries-lts.Need-query-list-to
   node-below t,
   node.Post,
 ) (queries-at t) queries.Post queries-Inv-loop queries-μ-loop
-queries-query-list-token-requires t c κs = token-ready (c .before .before .before .before .before .before .before .before .before .before .before .pre .1) (c .before .before .before .before .before .before .loop .inv) _ (c .before .if2 .taken) (c .before .before .before .head-at .ensures)
+queries-query-list-token-requires t c κs = (token-ready (c .before .before .before .before .before .before .before .before .before .before .before .pre .1) (c .before .before .before .before .before .before .loop .inv) _ (c .before .if2 .taken) (c .before .before .before .head-at .ensures), (c .before .before .before .before .before .before .before .before .before .before .before .pre .1) .words)
 
 queries-add-i-2 : (t : ℕ) → queries-lts.Need-add-i-2 (
   head-at-reads.Asked,
@@ -11692,7 +11692,7 @@ queries-loop-again : (t : ℕ) → queries-lts.Need-loop-again (
   node.Post,
 ) (queries-at t) queries.Post queries-Inv-loop queries-μ-loop
 unfolding formatQueryList
-queries-loop-again t c = token-next (c .before .before .before .before .before .before .before .before .before .before .before .before .before .before .pre .1) (c .before .before .before .before .before .before .before .before .before .loop .inv) (c .before .before .before .before .if2 .taken) (c .before .before .before .before .before .before .head-at .ensures) (c .before .before .query-list-token .ensures) refl (c .before .before .query-list-token .kept .1 .1 .0)
+queries-loop-again t c = token-next (c .before .before .before .before .before .before .before .before .before .before .before .before .before .before .pre .1) (c .before .before .before .before .before .before .before .before .before .loop .inv) (c .before .before .before .before .if2 .taken) (c .before .before .before .before .before .before .head-at .ensures) (c .before .before .query-list-token .ensures) refl (c .before .before .query-list-token .kept .1 .1 .1 .0)
 
 queries-query-list-before-requires : (t : ℕ) → queries-lts.Need-query-list-before-requires (
   head-at-reads.Asked,
@@ -11753,9 +11753,9 @@ queries-loop-again-2 : (t : ℕ) → queries-lts.Need-loop-again-2 (
   node.Post,
 ) (queries-at t) queries.Post queries-Inv-loop queries-μ-loop
 unfolding formatQueryList
-queries-loop-again-2 t c = node-next (c .before .before .before .before .before .before .before .before .before .before .before .before .before .before .before .before .before .before .before .pre .1) (c .before .before .before .before .before .before .before .before .before .before .before .before .before .before .loop .inv) (formatQueryList .atNode (c .before .before .before .before .before .before .before .before .before .before .before .before .before .before .loop .local) (c .before .before .before .before .before .before .before .before .before .before .before .head-at .result .kind) 0) (c .before .before .before .before .before .before .before .before .before .before .before .before .if1 .taken) (c .before .before .before .before .before .before .before .before .before .if2 .left) (c .before .before .before .before .before .before .before .before .before .before .before .head-at .ensures) (λ k z. refl) (c .before .before .before .before .before .before .before .query-list-before .ensures) (c .before .before .before .node .ensures) refl no-spacing (omega arith) (omega arith) (c .before .before .before .node .kept .1 .1 .1 .1 .0 ∙ c .before .before .before .before .before .before .before .query-list-before .kept .0)
+queries-loop-again-2 t c = node-next (c .before .before .before .before .before .before .before .before .before .before .before .before .before .before .before .before .before .before .before .pre .1) (c .before .before .before .before .before .before .before .before .before .before .before .before .before .before .loop .inv) (formatQueryList .atNode (c .before .before .before .before .before .before .before .before .before .before .before .before .before .before .loop .local) (c .before .before .before .before .before .before .before .before .before .before .before .head-at .result .kind) 0) (c .before .before .before .before .before .before .before .before .before .before .before .before .if1 .taken) (c .before .before .before .before .before .before .before .before .before .if2 .left) (c .before .before .before .before .before .before .before .before .before .before .before .head-at .ensures) (λ k z. refl) (c .before .before .before .before .before .before .before .query-list-before .ensures) (c .before .before .before .node .ensures) refl no-spacing (omega arith) (omega arith) (c .before .before .before .node .kept .1 .1 .1 .1 .1 .0 ∙ c .before .before .before .before .before .before .before .query-list-before .kept .0)
 
-queries-add-t28 : (t : ℕ) → queries-lts.Need-add-t28 (
+queries-add-t29 : (t : ℕ) → queries-lts.Need-add-t29 (
   head-at-reads.Asked,
   head-at-reads.Learnt,
   query-list-token-reads.Asked,
@@ -11765,7 +11765,7 @@ queries-add-t28 : (t : ℕ) → queries-lts.Need-add-t28 (
   node-below t,
   node.Post,
 ) (queries-at t) queries.Post queries-Inv-loop queries-μ-loop
-queries-add-t28 t c = omega (arith, c .before .before .loop .inv .inside, c .before .before .before .before .before .before .before .pre .1 .sizes .tape-fits)
+queries-add-t29 t c = omega (arith, c .before .before .loop .inv .inside, c .before .before .before .before .before .before .before .pre .1 .sizes .tape-fits)
 
 queries-same-length : (t : ℕ) → queries-lts.Need-same-length (
   head-at-reads.Asked,
@@ -11793,10 +11793,10 @@ unfolding formatQueryList
 queries-returns t c = loop-last (c .before .before .before .before .before .before .before .pre .1) (c .before .before .loop .inv) (c .if1 .left) no-spacing (omega arith)
 
 abbrev sel-stmt-Inv-loop : sel-stmt-lts.InvT-loop
-sel-stmt-Inv-loop source tape config facts out₀ left at i₀ ctx₀ local₀ out i ctx local = Loop source tape facts config left at (always formatSelectStatement) formatSelectStatement ctx₀ out₀ out i ctx local
+sel-stmt-Inv-loop source keywords tape config facts out₀ left at i₀ ctx₀ local₀ out i ctx local = Loop source tape facts config left at (always formatSelectStatement) formatSelectStatement ctx₀ out₀ out i ctx local
 
 abbrev sel-stmt-μ-loop : sel-stmt-lts.MeasureT-loop
-sel-stmt-μ-loop source tape config facts out₀ left at i₀ ctx₀ local₀ out i ctx local = length tape - i
+sel-stmt-μ-loop source keywords tape config facts out₀ left at i₀ ctx₀ local₀ out i ctx local = length tape - i
 
 sel-stmt-add-i : (t : ℕ) → sel-stmt-lts.Need-add-i (
   head-at-reads.Asked,
@@ -11870,7 +11870,7 @@ sel-stmt-select-statement-token-requires :
       node-below t,
       node.Post,
     ) (sel-stmt-at t) sel-stmt.Post sel-stmt-Inv-loop sel-stmt-μ-loop
-sel-stmt-select-statement-token-requires t c κs = token-ready (c .before .before .before .before .before .before .before .before .before .before .before .pre .1) (c .before .before .before .before .before .before .loop .inv) _ (c .before .if2 .taken) (c .before .before .before .head-at .ensures)
+sel-stmt-select-statement-token-requires t c κs = (token-ready (c .before .before .before .before .before .before .before .before .before .before .before .pre .1) (c .before .before .before .before .before .before .loop .inv) _ (c .before .if2 .taken) (c .before .before .before .head-at .ensures), (c .before .before .before .before .before .before .before .before .before .before .before .pre .1) .words)
 
 sel-stmt-add-i-2 : (t : ℕ) → sel-stmt-lts.Need-add-i-2 (
   head-at-reads.Asked,
@@ -11907,7 +11907,7 @@ sel-stmt-loop-again : (t : ℕ) → sel-stmt-lts.Need-loop-again (
   node.Post,
 ) (sel-stmt-at t) sel-stmt.Post sel-stmt-Inv-loop sel-stmt-μ-loop
 unfolding formatSelectStatement
-sel-stmt-loop-again t c = token-next (c .before .before .before .before .before .before .before .before .before .before .before .before .before .before .pre .1) (c .before .before .before .before .before .before .before .before .before .loop .inv) (c .before .before .before .before .if2 .taken) (c .before .before .before .before .before .before .head-at .ensures) (c .before .before .select-statement-token .ensures) refl (c .before .before .select-statement-token .kept .1 .1 .0)
+sel-stmt-loop-again t c = token-next (c .before .before .before .before .before .before .before .before .before .before .before .before .before .before .pre .1) (c .before .before .before .before .before .before .before .before .before .loop .inv) (c .before .before .before .before .if2 .taken) (c .before .before .before .before .before .before .head-at .ensures) (c .before .before .select-statement-token .ensures) refl (c .before .before .select-statement-token .kept .1 .1 .1 .0)
 
 sel-stmt-select-statement-before-requires :
     (t : ℕ) → sel-stmt-lts.Need-select-statement-before-requires (
@@ -11969,9 +11969,9 @@ sel-stmt-loop-again-2 : (t : ℕ) → sel-stmt-lts.Need-loop-again-2 (
   node.Post,
 ) (sel-stmt-at t) sel-stmt.Post sel-stmt-Inv-loop sel-stmt-μ-loop
 unfolding formatSelectStatement
-sel-stmt-loop-again-2 t c = node-next (c .before .before .before .before .before .before .before .before .before .before .before .before .before .before .before .before .before .before .before .pre .1) (c .before .before .before .before .before .before .before .before .before .before .before .before .before .before .loop .inv) (formatSelectStatement .atNode (c .before .before .before .before .before .before .before .before .before .before .before .before .before .before .loop .local) (c .before .before .before .before .before .before .before .before .before .before .before .head-at .result .kind) 0) (c .before .before .before .before .before .before .before .before .before .before .before .before .if1 .taken) (c .before .before .before .before .before .before .before .before .before .if2 .left) (c .before .before .before .before .before .before .before .before .before .before .before .head-at .ensures) (λ k z. refl) (c .before .before .before .before .before .before .before .select-statement-before .ensures) (c .before .before .before .node .ensures) refl no-spacing (omega arith) (omega arith) (c .before .before .before .node .kept .1 .1 .1 .1 .0 ∙ c .before .before .before .before .before .before .before .select-statement-before .kept .0)
+sel-stmt-loop-again-2 t c = node-next (c .before .before .before .before .before .before .before .before .before .before .before .before .before .before .before .before .before .before .before .pre .1) (c .before .before .before .before .before .before .before .before .before .before .before .before .before .before .loop .inv) (formatSelectStatement .atNode (c .before .before .before .before .before .before .before .before .before .before .before .before .before .before .loop .local) (c .before .before .before .before .before .before .before .before .before .before .before .head-at .result .kind) 0) (c .before .before .before .before .before .before .before .before .before .before .before .before .if1 .taken) (c .before .before .before .before .before .before .before .before .before .if2 .left) (c .before .before .before .before .before .before .before .before .before .before .before .head-at .ensures) (λ k z. refl) (c .before .before .before .before .before .before .before .select-statement-before .ensures) (c .before .before .before .node .ensures) refl no-spacing (omega arith) (omega arith) (c .before .before .before .node .kept .1 .1 .1 .1 .1 .0 ∙ c .before .before .before .before .before .before .before .select-statement-before .kept .0)
 
-sel-stmt-add-t28 : (t : ℕ) → sel-stmt-lts.Need-add-t28 (
+sel-stmt-add-t29 : (t : ℕ) → sel-stmt-lts.Need-add-t29 (
   head-at-reads.Asked,
   head-at-reads.Learnt,
   select-statement-token-reads.Asked,
@@ -11981,7 +11981,7 @@ sel-stmt-add-t28 : (t : ℕ) → sel-stmt-lts.Need-add-t28 (
   node-below t,
   node.Post,
 ) (sel-stmt-at t) sel-stmt.Post sel-stmt-Inv-loop sel-stmt-μ-loop
-sel-stmt-add-t28 t c = omega (arith, c .before .before .loop .inv .inside, c .before .before .before .before .before .before .before .pre .1 .sizes .tape-fits)
+sel-stmt-add-t29 t c = omega (arith, c .before .before .loop .inv .inside, c .before .before .before .before .before .before .before .pre .1 .sizes .tape-fits)
 
 sel-stmt-same-length : (t : ℕ) → sel-stmt-lts.Need-same-length (
   head-at-reads.Asked,
@@ -12009,10 +12009,10 @@ unfolding formatSelectStatement
 sel-stmt-returns t c = loop-last (c .before .before .before .before .before .before .before .pre .1) (c .before .before .loop .inv) (c .if1 .left) no-spacing (omega arith)
 
 abbrev select-Inv-loop : select-lts.InvT-loop
-select-Inv-loop source tape config facts out₀ left at i₀ ctx₀ local out i ctx = Loop source tape facts config left at (always formatSelectClause) formatSelectClause ctx₀ out₀ out i ctx (flagged false)
+select-Inv-loop source keywords tape config facts out₀ left at i₀ ctx₀ local out i ctx = Loop source tape facts config left at (always formatSelectClause) formatSelectClause ctx₀ out₀ out i ctx (flagged false)
 
 abbrev select-μ-loop : select-lts.MeasureT-loop
-select-μ-loop source tape config facts out₀ left at i₀ ctx₀ local out i ctx = length tape - i
+select-μ-loop source keywords tape config facts out₀ left at i₀ ctx₀ local out i ctx = length tape - i
 
 select-add-i : (t : ℕ) → select-lts.Need-add-i (
   head-at-reads.Asked,
@@ -12097,7 +12097,7 @@ select-select-clause-token-requires : (t : ℕ) → select-lts.Need-select-claus
   select-clause-after-reads.Asked,
   select-clause-after-reads.Learnt,
 ) (select-at t) select.Post select-Inv-loop select-μ-loop
-select-select-clause-token-requires t c κs = token-ready (c .before .before .before .before .before .before .before .before .before .before .before .pre .1) (c .before .before .before .before .before .before .loop .inv) _ (c .before .if2 .taken) (c .before .before .before .head-at .ensures)
+select-select-clause-token-requires t c κs = (token-ready (c .before .before .before .before .before .before .before .before .before .before .before .pre .1) (c .before .before .before .before .before .before .loop .inv) _ (c .before .if2 .taken) (c .before .before .before .head-at .ensures), (c .before .before .before .before .before .before .before .before .before .before .before .pre .1) .words)
 
 select-add-i-2 : (t : ℕ) → select-lts.Need-add-i-2 (
   head-at-reads.Asked,
@@ -12140,7 +12140,7 @@ select-loop-again : (t : ℕ) → select-lts.Need-loop-again (
   select-clause-after-reads.Learnt,
 ) (select-at t) select.Post select-Inv-loop select-μ-loop
 unfolding formatSelectClause
-select-loop-again t c = token-next (c .before .before .before .before .before .before .before .before .before .before .before .before .before .before .pre .1) (c .before .before .before .before .before .before .before .before .before .loop .inv) (c .before .before .before .before .if2 .taken) (c .before .before .before .before .before .before .head-at .ensures) (c .before .before .select-clause-token .ensures) refl (c .before .before .select-clause-token .kept .1 .1 .0)
+select-loop-again t c = token-next (c .before .before .before .before .before .before .before .before .before .before .before .before .before .before .pre .1) (c .before .before .before .before .before .before .before .before .before .loop .inv) (c .before .before .before .before .if2 .taken) (c .before .before .before .before .before .before .head-at .ensures) (c .before .before .select-clause-token .ensures) refl (c .before .before .select-clause-token .kept .1 .1 .1 .0)
 
 select-select-clause-before-requires : (t : ℕ) → select-lts.Need-select-clause-before-requires (
   head-at-reads.Asked,
@@ -12225,9 +12225,9 @@ select-loop-again-2 : (t : ℕ) → select-lts.Need-loop-again-2 (
   select-clause-after-reads.Learnt,
 ) (select-at t) select.Post select-Inv-loop select-μ-loop
 unfolding formatSelectClause
-select-loop-again-2 t c = node-next (c .before .before .before .before .before .before .before .before .before .before .before .before .before .before .before .before .before .before .before .before .pre .1) (c .before .before .before .before .before .before .before .before .before .before .before .before .before .before .before .loop .inv) (formatSelectClause .atNode (flagged false) (c .before .before .before .before .before .before .before .before .before .before .before .before .head-at .result .kind) 0) (c .before .before .before .before .before .before .before .before .before .before .before .before .before .if1 .taken) (c .before .before .before .before .before .before .before .before .before .before .if2 .left) (c .before .before .before .before .before .before .before .before .before .before .before .before .head-at .ensures) (λ k z. refl) (c .before .before .before .before .before .before .before .before .select-clause-before .ensures) (c .before .before .before .before .node .ensures) (select-kept (flagged false) (c .before .before .before .before .before .before .before .before .before .before .before .before .head-at .result .kind)) (as-spaced (c .select-clause-after .ensures)) (omega arith) (omega arith) (c .before .before .before .before .node .kept .1 .1 .1 .1 .0 ∙ c .before .before .before .before .before .before .before .before .select-clause-before .kept .0)
+select-loop-again-2 t c = node-next (c .before .before .before .before .before .before .before .before .before .before .before .before .before .before .before .before .before .before .before .before .pre .1) (c .before .before .before .before .before .before .before .before .before .before .before .before .before .before .before .loop .inv) (formatSelectClause .atNode (flagged false) (c .before .before .before .before .before .before .before .before .before .before .before .before .head-at .result .kind) 0) (c .before .before .before .before .before .before .before .before .before .before .before .before .before .if1 .taken) (c .before .before .before .before .before .before .before .before .before .before .if2 .left) (c .before .before .before .before .before .before .before .before .before .before .before .before .head-at .ensures) (λ k z. refl) (c .before .before .before .before .before .before .before .before .select-clause-before .ensures) (c .before .before .before .before .node .ensures) (select-kept (flagged false) (c .before .before .before .before .before .before .before .before .before .before .before .before .head-at .result .kind)) (as-spaced (c .select-clause-after .ensures)) (omega arith) (omega arith) (c .before .before .before .before .node .kept .1 .1 .1 .1 .1 .0 ∙ c .before .before .before .before .before .before .before .before .select-clause-before .kept .0)
 
-select-add-t28 : (t : ℕ) → select-lts.Need-add-t28 (
+select-add-t29 : (t : ℕ) → select-lts.Need-add-t29 (
   head-at-reads.Asked,
   head-at-reads.Learnt,
   select-clause-token-reads.Asked,
@@ -12239,7 +12239,7 @@ select-add-t28 : (t : ℕ) → select-lts.Need-add-t28 (
   select-clause-after-reads.Asked,
   select-clause-after-reads.Learnt,
 ) (select-at t) select.Post select-Inv-loop select-μ-loop
-select-add-t28 t c = omega (arith, c .before .before .loop .inv .inside, c .before .before .before .before .before .before .before .pre .1 .sizes .tape-fits)
+select-add-t29 t c = omega (arith, c .before .before .loop .inv .inside, c .before .before .before .before .before .before .before .pre .1 .sizes .tape-fits)
 
 select-same-length : (t : ℕ) → select-lts.Need-same-length (
   head-at-reads.Asked,
@@ -12271,10 +12271,10 @@ unfolding formatSelectClause
 select-returns t c = loop-last (c .before .before .before .before .before .before .before .pre .1) (c .before .before .loop .inv) (c .if1 .left) no-spacing (omega arith)
 
 abbrev settings-Inv-loop : settings-lts.InvT-loop
-settings-Inv-loop source tape config facts out₀ left at i₀ ctx₀ local out i ctx = Loop source tape facts config left at (always formatSettingsClause) formatSettingsClause ctx₀ out₀ out i ctx (flagged false)
+settings-Inv-loop source keywords tape config facts out₀ left at i₀ ctx₀ local out i ctx = Loop source tape facts config left at (always formatSettingsClause) formatSettingsClause ctx₀ out₀ out i ctx (flagged false)
 
 abbrev settings-μ-loop : settings-lts.MeasureT-loop
-settings-μ-loop source tape config facts out₀ left at i₀ ctx₀ local out i ctx = length tape - i
+settings-μ-loop source keywords tape config facts out₀ left at i₀ ctx₀ local out i ctx = length tape - i
 
 settings-add-i : (t : ℕ) → settings-lts.Need-add-i (
   head-at-reads.Asked,
@@ -12359,7 +12359,7 @@ settings-select-clause-token-requires : (t : ℕ) → settings-lts.Need-select-c
   settings-clause-after-reads.Asked,
   settings-clause-after-reads.Learnt,
 ) (settings-at t) settings.Post settings-Inv-loop settings-μ-loop
-settings-select-clause-token-requires t c κs = token-ready (c .before .before .before .before .before .before .before .before .before .before .before .pre .1) (c .before .before .before .before .before .before .loop .inv) _ (c .before .if2 .taken) (c .before .before .before .head-at .ensures)
+settings-select-clause-token-requires t c κs = (token-ready (c .before .before .before .before .before .before .before .before .before .before .before .pre .1) (c .before .before .before .before .before .before .loop .inv) _ (c .before .if2 .taken) (c .before .before .before .head-at .ensures), (c .before .before .before .before .before .before .before .before .before .before .before .pre .1) .words)
 
 settings-add-i-2 : (t : ℕ) → settings-lts.Need-add-i-2 (
   head-at-reads.Asked,
@@ -12402,7 +12402,7 @@ settings-loop-again : (t : ℕ) → settings-lts.Need-loop-again (
   settings-clause-after-reads.Learnt,
 ) (settings-at t) settings.Post settings-Inv-loop settings-μ-loop
 unfolding formatSettingsClause
-settings-loop-again t c = token-next (c .before .before .before .before .before .before .before .before .before .before .before .before .before .before .pre .1) (c .before .before .before .before .before .before .before .before .before .loop .inv) (c .before .before .before .before .if2 .taken) (c .before .before .before .before .before .before .head-at .ensures) (c .before .before .select-clause-token .ensures) refl (c .before .before .select-clause-token .kept .1 .1 .0)
+settings-loop-again t c = token-next (c .before .before .before .before .before .before .before .before .before .before .before .before .before .before .pre .1) (c .before .before .before .before .before .before .before .before .before .loop .inv) (c .before .before .before .before .if2 .taken) (c .before .before .before .before .before .before .head-at .ensures) (c .before .before .select-clause-token .ensures) refl (c .before .before .select-clause-token .kept .1 .1 .1 .0)
 
 settings-settings-clause-before-requires :
     (t : ℕ) → settings-lts.Need-settings-clause-before-requires (
@@ -12489,9 +12489,9 @@ settings-loop-again-2 : (t : ℕ) → settings-lts.Need-loop-again-2 (
   settings-clause-after-reads.Learnt,
 ) (settings-at t) settings.Post settings-Inv-loop settings-μ-loop
 unfolding formatSettingsClause
-settings-loop-again-2 t c = node-next (c .before .before .before .before .before .before .before .before .before .before .before .before .before .before .before .before .before .before .before .before .pre .1) (c .before .before .before .before .before .before .before .before .before .before .before .before .before .before .before .loop .inv) (formatSettingsClause .atNode (flagged false) (c .before .before .before .before .before .before .before .before .before .before .before .before .head-at .result .kind) 0) (c .before .before .before .before .before .before .before .before .before .before .before .before .before .if1 .taken) (c .before .before .before .before .before .before .before .before .before .before .if2 .left) (c .before .before .before .before .before .before .before .before .before .before .before .before .head-at .ensures) (λ k z. refl) (c .before .before .before .before .before .before .before .before .settings-clause-before .ensures) (c .before .before .before .before .node .ensures) (settings-kept (flagged false) (c .before .before .before .before .before .before .before .before .before .before .before .before .head-at .result .kind)) (as-spaced (c .settings-clause-after .ensures)) (omega arith) (omega arith) (c .before .before .before .before .node .kept .1 .1 .1 .1 .0 ∙ c .before .before .before .before .before .before .before .before .settings-clause-before .kept .0)
+settings-loop-again-2 t c = node-next (c .before .before .before .before .before .before .before .before .before .before .before .before .before .before .before .before .before .before .before .before .pre .1) (c .before .before .before .before .before .before .before .before .before .before .before .before .before .before .before .loop .inv) (formatSettingsClause .atNode (flagged false) (c .before .before .before .before .before .before .before .before .before .before .before .before .head-at .result .kind) 0) (c .before .before .before .before .before .before .before .before .before .before .before .before .before .if1 .taken) (c .before .before .before .before .before .before .before .before .before .before .if2 .left) (c .before .before .before .before .before .before .before .before .before .before .before .before .head-at .ensures) (λ k z. refl) (c .before .before .before .before .before .before .before .before .settings-clause-before .ensures) (c .before .before .before .before .node .ensures) (settings-kept (flagged false) (c .before .before .before .before .before .before .before .before .before .before .before .before .head-at .result .kind)) (as-spaced (c .settings-clause-after .ensures)) (omega arith) (omega arith) (c .before .before .before .before .node .kept .1 .1 .1 .1 .1 .0 ∙ c .before .before .before .before .before .before .before .before .settings-clause-before .kept .0)
 
-settings-add-t28 : (t : ℕ) → settings-lts.Need-add-t28 (
+settings-add-t29 : (t : ℕ) → settings-lts.Need-add-t29 (
   head-at-reads.Asked,
   head-at-reads.Learnt,
   select-clause-token-reads.Asked,
@@ -12503,7 +12503,7 @@ settings-add-t28 : (t : ℕ) → settings-lts.Need-add-t28 (
   settings-clause-after-reads.Asked,
   settings-clause-after-reads.Learnt,
 ) (settings-at t) settings.Post settings-Inv-loop settings-μ-loop
-settings-add-t28 t c = omega (arith, c .before .before .loop .inv .inside, c .before .before .before .before .before .before .before .pre .1 .sizes .tape-fits)
+settings-add-t29 t c = omega (arith, c .before .before .loop .inv .inside, c .before .before .before .before .before .before .before .pre .1 .sizes .tape-fits)
 
 settings-same-length : (t : ℕ) → settings-lts.Need-same-length (
   head-at-reads.Asked,
@@ -12535,10 +12535,10 @@ unfolding formatSettingsClause
 settings-returns t c = loop-last (c .before .before .before .before .before .before .before .pre .1) (c .before .before .loop .inv) (c .if1 .left) no-spacing (omega arith)
 
 abbrev simple-Inv-loop : simple-lts.InvT-loop
-simple-Inv-loop source tape config facts out₀ left at i₀ ctx₀ local₀ out i ctx local = Loop source tape facts config left at (always formatSimpleClause) formatSimpleClause ctx₀ out₀ out i ctx local
+simple-Inv-loop source keywords tape config facts out₀ left at i₀ ctx₀ local₀ out i ctx local = Loop source tape facts config left at (always formatSimpleClause) formatSimpleClause ctx₀ out₀ out i ctx local
 
 abbrev simple-μ-loop : simple-lts.MeasureT-loop
-simple-μ-loop source tape config facts out₀ left at i₀ ctx₀ local₀ out i ctx local = length tape - i
+simple-μ-loop source keywords tape config facts out₀ left at i₀ ctx₀ local₀ out i ctx local = length tape - i
 
 simple-add-i : (t : ℕ) → simple-lts.Need-add-i (
   head-at-reads.Asked,
@@ -12611,7 +12611,7 @@ simple-simple-clause-token-requires : (t : ℕ) → simple-lts.Need-simple-claus
   node-below t,
   node.Post,
 ) (simple-at t) simple.Post simple-Inv-loop simple-μ-loop
-simple-simple-clause-token-requires t c κs = token-ready (c .before .before .before .before .before .before .before .before .before .before .before .pre .1) (c .before .before .before .before .before .before .loop .inv) _ (c .before .if2 .taken) (c .before .before .before .head-at .ensures)
+simple-simple-clause-token-requires t c κs = (token-ready (c .before .before .before .before .before .before .before .before .before .before .before .pre .1) (c .before .before .before .before .before .before .loop .inv) _ (c .before .if2 .taken) (c .before .before .before .head-at .ensures), (c .before .before .before .before .before .before .before .before .before .before .before .pre .1) .words)
 
 simple-add-i-2 : (t : ℕ) → simple-lts.Need-add-i-2 (
   head-at-reads.Asked,
@@ -12648,7 +12648,7 @@ simple-loop-again : (t : ℕ) → simple-lts.Need-loop-again (
   node.Post,
 ) (simple-at t) simple.Post simple-Inv-loop simple-μ-loop
 unfolding formatSimpleClause
-simple-loop-again t c = token-next (c .before .before .before .before .before .before .before .before .before .before .before .before .before .before .before .before .pre .1) (c .before .before .before .before .before .before .before .before .before .before .before .loop .inv) (c .before .before .before .before .before .before .if2 .taken) (c .before .before .before .before .before .before .before .before .head-at .ensures) (c .before .before .before .before .simple-clause-token .ensures .acted) (c .before .before .before .before .simple-clause-token .ensures .local) (c .before .before .before .before .simple-clause-token .kept .1 .1 .0)
+simple-loop-again t c = token-next (c .before .before .before .before .before .before .before .before .before .before .before .before .before .before .before .before .pre .1) (c .before .before .before .before .before .before .before .before .before .before .before .loop .inv) (c .before .before .before .before .before .before .if2 .taken) (c .before .before .before .before .before .before .before .before .head-at .ensures) (c .before .before .before .before .simple-clause-token .ensures .acted) (c .before .before .before .before .simple-clause-token .ensures .local) (c .before .before .before .before .simple-clause-token .kept .1 .1 .1 .0)
 
 simple-space-if-requires : (t : ℕ) → simple-lts.Need-space-if-requires (
   head-at-reads.Asked,
@@ -12709,9 +12709,9 @@ simple-loop-again-2 : (t : ℕ) → simple-lts.Need-loop-again-2 (
   node.Post,
 ) (simple-at t) simple.Post simple-Inv-loop simple-μ-loop
 unfolding formatSimpleClause
-simple-loop-again-2 t c = node-next (c .before .before .before .before .before .before .before .before .before .before .before .before .before .before .before .before .pre .1) (c .before .before .before .before .before .before .before .before .before .before .before .loop .inv) (formatSimpleClause .atNode (c .before .before .before .before .before .before .before .before .before .before .before .loop .local) (c .before .before .before .before .before .before .before .before .head-at .result .kind) 0) (c .before .before .before .before .before .before .before .before .before .if1 .taken) (c .before .before .before .before .before .before .if2 .left) (c .before .before .before .before .before .before .before .before .head-at .ensures) (λ k z. refl) (as-spaced (c .before .before .before .before .before .space-if .ensures)) (c .before .before .before .node .ensures) refl no-spacing (omega arith) (omega arith) (c .before .before .before .node .kept .1 .1 .1 .1 .0)
+simple-loop-again-2 t c = node-next (c .before .before .before .before .before .before .before .before .before .before .before .before .before .before .before .before .pre .1) (c .before .before .before .before .before .before .before .before .before .before .before .loop .inv) (formatSimpleClause .atNode (c .before .before .before .before .before .before .before .before .before .before .before .loop .local) (c .before .before .before .before .before .before .before .before .head-at .result .kind) 0) (c .before .before .before .before .before .before .before .before .before .if1 .taken) (c .before .before .before .before .before .before .if2 .left) (c .before .before .before .before .before .before .before .before .head-at .ensures) (λ k z. refl) (as-spaced (c .before .before .before .before .before .space-if .ensures)) (c .before .before .before .node .ensures) refl no-spacing (omega arith) (omega arith) (c .before .before .before .node .kept .1 .1 .1 .1 .1 .0)
 
-simple-add-t27 : (t : ℕ) → simple-lts.Need-add-t27 (
+simple-add-t28 : (t : ℕ) → simple-lts.Need-add-t28 (
   head-at-reads.Asked,
   head-at-reads.Learnt,
   simple-clause-token-reads.Asked,
@@ -12721,7 +12721,7 @@ simple-add-t27 : (t : ℕ) → simple-lts.Need-add-t27 (
   node-below t,
   node.Post,
 ) (simple-at t) simple.Post simple-Inv-loop simple-μ-loop
-simple-add-t27 t c = omega (arith, c .before .before .loop .inv .inside, c .before .before .before .before .before .before .before .pre .1 .sizes .tape-fits)
+simple-add-t28 t c = omega (arith, c .before .before .loop .inv .inside, c .before .before .before .before .before .before .before .pre .1 .sizes .tape-fits)
 
 simple-same-length : (t : ℕ) → simple-lts.Need-same-length (
   head-at-reads.Asked,
@@ -12749,10 +12749,10 @@ unfolding formatSimpleClause
 simple-returns t c = loop-last (c .before .before .before .before .before .before .before .pre .1) (c .before .before .loop .inv) (c .if1 .left) no-spacing (omega arith)
 
 abbrev subquery-Inv-loop : subquery-lts.InvT-loop
-subquery-Inv-loop source tape config facts out₀ left at i₀ ctx₀ out i ctx = Loop source tape facts config left at (always formatSubquery) formatSubquery ctx₀ out₀ out i ctx (flagged false)
+subquery-Inv-loop source keywords tape config facts out₀ left at i₀ ctx₀ out i ctx = Loop source tape facts config left at (always formatSubquery) formatSubquery ctx₀ out₀ out i ctx (flagged false)
 
 abbrev subquery-μ-loop : subquery-lts.MeasureT-loop
-subquery-μ-loop source tape config facts out₀ left at i₀ ctx₀ out i ctx = length tape - i
+subquery-μ-loop source keywords tape config facts out₀ left at i₀ ctx₀ out i ctx = length tape - i
 
 subquery-add-i : (t : ℕ) → subquery-lts.Need-add-i (
   head-at-reads.Asked,
@@ -12813,7 +12813,7 @@ subquery-subquery-token-requires : (t : ℕ) → subquery-lts.Need-subquery-toke
   node-below t,
   node.Post,
 ) (subquery-at t) subquery.Post subquery-Inv-loop subquery-μ-loop
-subquery-subquery-token-requires t c κs = token-ready (c .before .before .before .before .before .before .before .before .before .before .before .pre .1) (c .before .before .before .before .before .before .loop .inv) _ (c .before .if2 .taken) (c .before .before .before .head-at .ensures)
+subquery-subquery-token-requires t c κs = (token-ready (c .before .before .before .before .before .before .before .before .before .before .before .pre .1) (c .before .before .before .before .before .before .loop .inv) _ (c .before .if2 .taken) (c .before .before .before .head-at .ensures), (c .before .before .before .before .before .before .before .before .before .before .before .pre .1) .words)
 
 subquery-add-i-2 : (t : ℕ) → subquery-lts.Need-add-i-2 (
   head-at-reads.Asked,
@@ -12844,7 +12844,7 @@ subquery-loop-again : (t : ℕ) → subquery-lts.Need-loop-again (
   node.Post,
 ) (subquery-at t) subquery.Post subquery-Inv-loop subquery-μ-loop
 unfolding formatSubquery
-subquery-loop-again t c = token-next (c .before .before .before .before .before .before .before .before .before .before .before .before .before .before .pre .1) (c .before .before .before .before .before .before .before .before .before .loop .inv) (c .before .before .before .before .if2 .taken) (c .before .before .before .before .before .before .head-at .ensures) (c .before .before .subquery-token .ensures) refl (c .before .before .subquery-token .kept .1 .1 .0)
+subquery-loop-again t c = token-next (c .before .before .before .before .before .before .before .before .before .before .before .before .before .before .pre .1) (c .before .before .before .before .before .before .before .before .before .loop .inv) (c .before .before .before .before .if2 .taken) (c .before .before .before .before .before .before .head-at .ensures) (c .before .before .subquery-token .ensures) refl (c .before .before .subquery-token .kept .1 .1 .1 .0)
 
 subquery-sub-node : (t : ℕ) → subquery-lts.Need-sub-node (
   head-at-reads.Asked,
@@ -12885,9 +12885,9 @@ subquery-loop-again-2 : (t : ℕ) → subquery-lts.Need-loop-again-2 (
   node.Post,
 ) (subquery-at t) subquery.Post subquery-Inv-loop subquery-μ-loop
 unfolding formatSubquery
-subquery-loop-again-2 t c = node-next (c .before .before .before .before .before .before .before .before .before .before .before .before .before .before .before .pre .1) (c .before .before .before .before .before .before .before .before .before .before .loop .inv) (formatSubquery .atNode (flagged false) (c .before .before .before .before .before .before .before .head-at .result .kind) 0) (c .before .before .before .before .before .before .before .before .if1 .taken) (c .before .before .before .before .before .if2 .left) (c .before .before .before .before .before .before .before .head-at .ensures) (λ k z. refl) (no-spacing {xs = c .before .before .before .before .before .before .before .before .before .before .loop .out}) (c .before .before .before .node .ensures) refl no-spacing (omega arith) (omega arith) (c .before .before .before .node .kept .1 .1 .1 .1 .0)
+subquery-loop-again-2 t c = node-next (c .before .before .before .before .before .before .before .before .before .before .before .before .before .before .before .pre .1) (c .before .before .before .before .before .before .before .before .before .before .loop .inv) (formatSubquery .atNode (flagged false) (c .before .before .before .before .before .before .before .head-at .result .kind) 0) (c .before .before .before .before .before .before .before .before .if1 .taken) (c .before .before .before .before .before .if2 .left) (c .before .before .before .before .before .before .before .head-at .ensures) (λ k z. refl) (no-spacing {xs = c .before .before .before .before .before .before .before .before .before .before .loop .out}) (c .before .before .before .node .ensures) refl no-spacing (omega arith) (omega arith) (c .before .before .before .node .kept .1 .1 .1 .1 .1 .0)
 
-subquery-add-t23 : (t : ℕ) → subquery-lts.Need-add-t23 (
+subquery-add-t24 : (t : ℕ) → subquery-lts.Need-add-t24 (
   head-at-reads.Asked,
   head-at-reads.Learnt,
   subquery-token-reads.Asked,
@@ -12895,7 +12895,7 @@ subquery-add-t23 : (t : ℕ) → subquery-lts.Need-add-t23 (
   node-below t,
   node.Post,
 ) (subquery-at t) subquery.Post subquery-Inv-loop subquery-μ-loop
-subquery-add-t23 t c = omega (arith, c .before .before .loop .inv .inside, c .before .before .before .before .before .before .before .pre .1 .sizes .tape-fits)
+subquery-add-t24 t c = omega (arith, c .before .before .loop .inv .inside, c .before .before .before .before .before .before .before .pre .1 .sizes .tape-fits)
 
 subquery-same-length : (t : ℕ) → subquery-lts.Need-same-length (
   head-at-reads.Asked,
@@ -12919,10 +12919,10 @@ unfolding formatSubquery
 subquery-returns t c = loop-last (c .before .before .before .before .before .before .before .pre .1) (c .before .before .loop .inv) (c .if1 .left) no-spacing (omega arith)
 
 abbrev tight-paren-Inv-loop : tight-paren-lts.InvT-loop
-tight-paren-Inv-loop source tape config facts out₀ left at i₀ ctx₀ local₀ out i ctx local = Loop source tape facts config left at (always formatInlineTightParens) formatInlineTightParens ctx₀ out₀ out i ctx local
+tight-paren-Inv-loop source keywords tape config facts out₀ left at i₀ ctx₀ local₀ out i ctx local = Loop source tape facts config left at (always formatInlineTightParens) formatInlineTightParens ctx₀ out₀ out i ctx local
 
 abbrev tight-paren-μ-loop : tight-paren-lts.MeasureT-loop
-tight-paren-μ-loop source tape config facts out₀ left at i₀ ctx₀ local₀ out i ctx local = length tape - i
+tight-paren-μ-loop source keywords tape config facts out₀ left at i₀ ctx₀ local₀ out i ctx local = length tape - i
 
 tight-paren-add-i : (t : ℕ) → tight-paren-lts.Need-add-i (
   head-at-reads.Asked,
@@ -13008,7 +13008,7 @@ tight-paren-inline-tight-parens-token-requires :
       node-below t,
       node.Post,
     ) (tight-paren-at t) tight-paren.Post tight-paren-Inv-loop tight-paren-μ-loop
-tight-paren-inline-tight-parens-token-requires t c κs = token-ready (c .before .before .before .before .before .before .before .before .before .before .before .pre .1) (c .before .before .before .before .before .before .loop .inv) _ (c .before .if2 .taken) (c .before .before .before .head-at .ensures)
+tight-paren-inline-tight-parens-token-requires t c κs = (token-ready (c .before .before .before .before .before .before .before .before .before .before .before .pre .1) (c .before .before .before .before .before .before .loop .inv) _ (c .before .if2 .taken) (c .before .before .before .head-at .ensures), (c .before .before .before .before .before .before .before .before .before .before .before .pre .1) .words)
 
 tight-paren-add-i-2 : (t : ℕ) → tight-paren-lts.Need-add-i-2 (
   head-at-reads.Asked,
@@ -13051,7 +13051,7 @@ tight-paren-loop-again : (t : ℕ) → tight-paren-lts.Need-loop-again (
   node.Post,
 ) (tight-paren-at t) tight-paren.Post tight-paren-Inv-loop tight-paren-μ-loop
 unfolding formatInlineTightParens inlineNode
-tight-paren-loop-again t c = token-next (c .before .before .before .before .before .before .before .before .before .before .before .before .before .before .before .before .pre .1) (c .before .before .before .before .before .before .before .before .before .before .before .loop .inv) (c .before .before .before .before .before .before .if2 .taken) (c .before .before .before .before .before .before .before .before .head-at .ensures) (c .before .before .before .before .inline-tight-parens-token .ensures .acted) (c .before .before .before .before .inline-tight-parens-token .ensures .local) (c .before .before .before .before .inline-tight-parens-token .kept .1 .1 .0)
+tight-paren-loop-again t c = token-next (c .before .before .before .before .before .before .before .before .before .before .before .before .before .before .before .before .pre .1) (c .before .before .before .before .before .before .before .before .before .before .before .loop .inv) (c .before .before .before .before .before .before .if2 .taken) (c .before .before .before .before .before .before .before .before .head-at .ensures) (c .before .before .before .before .inline-tight-parens-token .ensures .acted) (c .before .before .before .before .inline-tight-parens-token .ensures .local) (c .before .before .before .before .inline-tight-parens-token .kept .1 .1 .1 .0)
 
 tight-paren-space-after-requires : (t : ℕ) → tight-paren-lts.Need-space-after-requires (
   head-at-reads.Asked,
@@ -13136,9 +13136,9 @@ tight-paren-loop-again-2 : (t : ℕ) → tight-paren-lts.Need-loop-again-2 (
   node.Post,
 ) (tight-paren-at t) tight-paren.Post tight-paren-Inv-loop tight-paren-μ-loop
 unfolding formatInlineTightParens inlineNode
-tight-paren-loop-again-2 t c = node-next (c .before .before .before .before .before .before .before .before .before .before .before .before .before .before .before .before .before .pre .1) (c .before .before .before .before .before .before .before .before .before .before .before .before .loop .inv) (formatInlineTightParens .atNode (c .before .before .before .before .before .before .before .before .before .before .before .before .loop .local) (c .before .before .before .before .before .before .before .before .before .head-at .result .kind) 0) (c .before .before .before .before .before .before .before .before .before .before .if1 .taken) (c .before .before .before .before .before .before .before .if2 .left) (c .before .before .before .before .before .before .before .before .before .head-at .ensures) (λ k z. refl) (spaced 0 (spaceIf (spaceAfter ((c .before .before .before .before .before .before .before .before .before .before .before .before .loop .local) .prev))) (omega arith) (ap spaceIf (sym (c .before .before .before .before .before .before .space-after .ensures))) (as-spaced (c .before .before .before .before .before .space-if .ensures))) (c .before .before .before .node .ensures) refl no-spacing (omega arith) (omega arith) (c .before .before .before .node .kept .1 .1 .1 .1 .0)
+tight-paren-loop-again-2 t c = node-next (c .before .before .before .before .before .before .before .before .before .before .before .before .before .before .before .before .before .pre .1) (c .before .before .before .before .before .before .before .before .before .before .before .before .loop .inv) (formatInlineTightParens .atNode (c .before .before .before .before .before .before .before .before .before .before .before .before .loop .local) (c .before .before .before .before .before .before .before .before .before .head-at .result .kind) 0) (c .before .before .before .before .before .before .before .before .before .before .if1 .taken) (c .before .before .before .before .before .before .before .if2 .left) (c .before .before .before .before .before .before .before .before .before .head-at .ensures) (λ k z. refl) (spaced 0 (spaceIf (spaceAfter ((c .before .before .before .before .before .before .before .before .before .before .before .before .loop .local) .prev))) (omega arith) (ap spaceIf (sym (c .before .before .before .before .before .before .space-after .ensures))) (as-spaced (c .before .before .before .before .before .space-if .ensures))) (c .before .before .before .node .ensures) refl no-spacing (omega arith) (omega arith) (c .before .before .before .node .kept .1 .1 .1 .1 .1 .0)
 
-tight-paren-add-t29 : (t : ℕ) → tight-paren-lts.Need-add-t29 (
+tight-paren-add-t30 : (t : ℕ) → tight-paren-lts.Need-add-t30 (
   head-at-reads.Asked,
   head-at-reads.Learnt,
   inline-tight-parens-token-reads.Asked,
@@ -13150,7 +13150,7 @@ tight-paren-add-t29 : (t : ℕ) → tight-paren-lts.Need-add-t29 (
   node-below t,
   node.Post,
 ) (tight-paren-at t) tight-paren.Post tight-paren-Inv-loop tight-paren-μ-loop
-tight-paren-add-t29 t c = omega (arith, c .before .before .loop .inv .inside, c .before .before .before .before .before .before .before .pre .1 .sizes .tape-fits)
+tight-paren-add-t30 t c = omega (arith, c .before .before .loop .inv .inside, c .before .before .before .before .before .before .before .pre .1 .sizes .tape-fits)
 
 tight-paren-same-length : (t : ℕ) → tight-paren-lts.Need-same-length (
   head-at-reads.Asked,
@@ -13182,10 +13182,10 @@ unfolding formatInlineTightParens inlineNode
 tight-paren-returns t c = loop-last (c .before .before .before .before .before .before .before .pre .1) (c .before .before .loop .inv) (c .if1 .left) no-spacing (omega arith)
 
 abbrev unary-Inv-loop : unary-lts.InvT-loop
-unary-Inv-loop source tape config facts out₀ left at i₀ ctx₀ out i ctx = Loop source tape facts config left at (always formatUnaryExpression) formatUnaryExpression ctx₀ out₀ out i ctx (flagged false)
+unary-Inv-loop source keywords tape config facts out₀ left at i₀ ctx₀ out i ctx = Loop source tape facts config left at (always formatUnaryExpression) formatUnaryExpression ctx₀ out₀ out i ctx (flagged false)
 
 abbrev unary-μ-loop : unary-lts.MeasureT-loop
-unary-μ-loop source tape config facts out₀ left at i₀ ctx₀ out i ctx = length tape - i
+unary-μ-loop source keywords tape config facts out₀ left at i₀ ctx₀ out i ctx = length tape - i
 
 unary-add-i : (t : ℕ) → unary-lts.Need-add-i (
   head-at-reads.Asked,
@@ -13246,7 +13246,7 @@ unary-unary-expression-token-requires : (t : ℕ) → unary-lts.Need-unary-expre
   node-below t,
   node.Post,
 ) (unary-at t) unary.Post unary-Inv-loop unary-μ-loop
-unary-unary-expression-token-requires t c κs = token-ready (c .before .before .before .before .before .before .before .before .before .before .before .pre .1) (c .before .before .before .before .before .before .loop .inv) _ (c .before .if2 .taken) (c .before .before .before .head-at .ensures)
+unary-unary-expression-token-requires t c κs = (token-ready (c .before .before .before .before .before .before .before .before .before .before .before .pre .1) (c .before .before .before .before .before .before .loop .inv) _ (c .before .if2 .taken) (c .before .before .before .head-at .ensures), (c .before .before .before .before .before .before .before .before .before .before .before .pre .1) .words)
 
 unary-add-i-2 : (t : ℕ) → unary-lts.Need-add-i-2 (
   head-at-reads.Asked,
@@ -13277,7 +13277,7 @@ unary-loop-again : (t : ℕ) → unary-lts.Need-loop-again (
   node.Post,
 ) (unary-at t) unary.Post unary-Inv-loop unary-μ-loop
 unfolding formatUnaryExpression
-unary-loop-again t c = token-next (c .before .before .before .before .before .before .before .before .before .before .before .before .before .before .pre .1) (c .before .before .before .before .before .before .before .before .before .loop .inv) (c .before .before .before .before .if2 .taken) (c .before .before .before .before .before .before .head-at .ensures) (c .before .before .unary-expression-token .ensures) refl (c .before .before .unary-expression-token .kept .1 .1 .0)
+unary-loop-again t c = token-next (c .before .before .before .before .before .before .before .before .before .before .before .before .before .before .pre .1) (c .before .before .before .before .before .before .before .before .before .loop .inv) (c .before .before .before .before .if2 .taken) (c .before .before .before .before .before .before .head-at .ensures) (c .before .before .unary-expression-token .ensures) refl (c .before .before .unary-expression-token .kept .1 .1 .1 .0)
 
 unary-sub-node : (t : ℕ) → unary-lts.Need-sub-node (
   head-at-reads.Asked,
@@ -13318,9 +13318,9 @@ unary-loop-again-2 : (t : ℕ) → unary-lts.Need-loop-again-2 (
   node.Post,
 ) (unary-at t) unary.Post unary-Inv-loop unary-μ-loop
 unfolding formatUnaryExpression
-unary-loop-again-2 t c = node-next (c .before .before .before .before .before .before .before .before .before .before .before .before .before .before .before .pre .1) (c .before .before .before .before .before .before .before .before .before .before .loop .inv) (formatUnaryExpression .atNode (flagged false) (c .before .before .before .before .before .before .before .head-at .result .kind) 0) (c .before .before .before .before .before .before .before .before .if1 .taken) (c .before .before .before .before .before .if2 .left) (c .before .before .before .before .before .before .before .head-at .ensures) (λ k z. refl) (no-spacing {xs = c .before .before .before .before .before .before .before .before .before .before .loop .out}) (c .before .before .before .node .ensures) refl no-spacing (omega arith) (omega arith) (c .before .before .before .node .kept .1 .1 .1 .1 .0)
+unary-loop-again-2 t c = node-next (c .before .before .before .before .before .before .before .before .before .before .before .before .before .before .before .pre .1) (c .before .before .before .before .before .before .before .before .before .before .loop .inv) (formatUnaryExpression .atNode (flagged false) (c .before .before .before .before .before .before .before .head-at .result .kind) 0) (c .before .before .before .before .before .before .before .before .if1 .taken) (c .before .before .before .before .before .if2 .left) (c .before .before .before .before .before .before .before .head-at .ensures) (λ k z. refl) (no-spacing {xs = c .before .before .before .before .before .before .before .before .before .before .loop .out}) (c .before .before .before .node .ensures) refl no-spacing (omega arith) (omega arith) (c .before .before .before .node .kept .1 .1 .1 .1 .1 .0)
 
-unary-add-t23 : (t : ℕ) → unary-lts.Need-add-t23 (
+unary-add-t24 : (t : ℕ) → unary-lts.Need-add-t24 (
   head-at-reads.Asked,
   head-at-reads.Learnt,
   unary-expression-token-reads.Asked,
@@ -13328,7 +13328,7 @@ unary-add-t23 : (t : ℕ) → unary-lts.Need-add-t23 (
   node-below t,
   node.Post,
 ) (unary-at t) unary.Post unary-Inv-loop unary-μ-loop
-unary-add-t23 t c = omega (arith, c .before .before .loop .inv .inside, c .before .before .before .before .before .before .before .pre .1 .sizes .tape-fits)
+unary-add-t24 t c = omega (arith, c .before .before .loop .inv .inside, c .before .before .before .before .before .before .before .pre .1 .sizes .tape-fits)
 
 unary-same-length : (t : ℕ) → unary-lts.Need-same-length (
   head-at-reads.Asked,
@@ -13352,10 +13352,10 @@ unfolding formatUnaryExpression
 unary-returns t c = loop-last (c .before .before .before .before .before .before .before .pre .1) (c .before .before .loop .inv) (c .if1 .left) no-spacing (omega arith)
 
 abbrev union-Inv-loop : union-lts.InvT-loop
-union-Inv-loop source tape config facts out₀ left at i₀ ctx₀ local₀ out i ctx local = Loop source tape facts config left at (always formatUnionClause) formatUnionClause ctx₀ out₀ out i ctx local
+union-Inv-loop source keywords tape config facts out₀ left at i₀ ctx₀ local₀ out i ctx local = Loop source tape facts config left at (always formatUnionClause) formatUnionClause ctx₀ out₀ out i ctx local
 
 abbrev union-μ-loop : union-lts.MeasureT-loop
-union-μ-loop source tape config facts out₀ left at i₀ ctx₀ local₀ out i ctx local = length tape - i
+union-μ-loop source keywords tape config facts out₀ left at i₀ ctx₀ local₀ out i ctx local = length tape - i
 
 union-add-i : (t : ℕ) → union-lts.Need-add-i (
   head-at-reads.Asked,
@@ -13440,7 +13440,7 @@ union-union-clause-token-requires : (t : ℕ) → union-lts.Need-union-clause-to
   union-clause-local-reads.Asked,
   union-clause-local-reads.Learnt,
 ) (union-at t) union.Post union-Inv-loop union-μ-loop
-union-union-clause-token-requires t c κs = token-ready (c .before .before .before .before .before .before .before .before .before .before .before .pre .1) (c .before .before .before .before .before .before .loop .inv) _ (c .before .if2 .taken) (c .before .before .before .head-at .ensures)
+union-union-clause-token-requires t c κs = (token-ready (c .before .before .before .before .before .before .before .before .before .before .before .pre .1) (c .before .before .before .before .before .before .loop .inv) _ (c .before .if2 .taken) (c .before .before .before .head-at .ensures), (c .before .before .before .before .before .before .before .before .before .before .before .pre .1) .words)
 
 union-add-i-2 : (t : ℕ) → union-lts.Need-add-i-2 (
   head-at-reads.Asked,
@@ -13483,7 +13483,7 @@ union-loop-again : (t : ℕ) → union-lts.Need-loop-again (
   union-clause-local-reads.Learnt,
 ) (union-at t) union.Post union-Inv-loop union-μ-loop
 unfolding formatUnionClause unionToken
-union-loop-again t c = token-next (c .before .before .before .before .before .before .before .before .before .before .before .before .before .before .pre .1) (c .before .before .before .before .before .before .before .before .before .loop .inv) (c .before .before .before .before .if2 .taken) (c .before .before .before .before .before .before .head-at .ensures) (c .before .before .union-clause-token .ensures) refl (c .before .before .union-clause-token .kept .1 .1 .0)
+union-loop-again t c = token-next (c .before .before .before .before .before .before .before .before .before .before .before .before .before .before .pre .1) (c .before .before .before .before .before .before .before .before .before .loop .inv) (c .before .before .before .before .if2 .taken) (c .before .before .before .before .before .before .head-at .ensures) (c .before .before .union-clause-token .ensures) refl (c .before .before .union-clause-token .kept .1 .1 .1 .0)
 
 union-union-clause-before-requires : (t : ℕ) → union-lts.Need-union-clause-before-requires (
   head-at-reads.Asked,
@@ -13568,9 +13568,9 @@ union-loop-again-2 : (t : ℕ) → union-lts.Need-loop-again-2 (
   union-clause-local-reads.Learnt,
 ) (union-at t) union.Post union-Inv-loop union-μ-loop
 unfolding formatUnionClause
-union-loop-again-2 t c = node-next (c .before .before .before .before .before .before .before .before .before .before .before .before .before .before .before .before .before .before .before .before .pre .1) (c .before .before .before .before .before .before .before .before .before .before .before .before .before .before .before .loop .inv) (formatUnionClause .atNode (c .before .before .before .before .before .before .before .before .before .before .before .before .before .before .before .loop .local) (c .before .before .before .before .before .before .before .before .before .before .before .before .head-at .result .kind) 0) (c .before .before .before .before .before .before .before .before .before .before .before .before .before .if1 .taken) (c .before .before .before .before .before .before .before .before .before .before .if2 .left) (c .before .before .before .before .before .before .before .before .before .before .before .before .head-at .ensures) (λ k z. refl) (c .before .before .before .before .before .before .before .before .union-clause-before .ensures) (c .before .before .before .before .node .ensures) (c .union-clause-local .ensures) (spaced 0 _ (omega arith) (sym (union-after (c .before .before .before .before .before .before .before .before .before .before .before .before .before .before .before .loop .local) (c .before .before .before .before .before .before .before .before .before .before .before .before .head-at .result .kind))) no-spacing) (omega arith) (omega arith) (c .before .before .before .before .node .kept .1 .1 .1 .1 .0 ∙ c .before .before .before .before .before .before .before .before .union-clause-before .kept .0)
+union-loop-again-2 t c = node-next (c .before .before .before .before .before .before .before .before .before .before .before .before .before .before .before .before .before .before .before .before .pre .1) (c .before .before .before .before .before .before .before .before .before .before .before .before .before .before .before .loop .inv) (formatUnionClause .atNode (c .before .before .before .before .before .before .before .before .before .before .before .before .before .before .before .loop .local) (c .before .before .before .before .before .before .before .before .before .before .before .before .head-at .result .kind) 0) (c .before .before .before .before .before .before .before .before .before .before .before .before .before .if1 .taken) (c .before .before .before .before .before .before .before .before .before .before .if2 .left) (c .before .before .before .before .before .before .before .before .before .before .before .before .head-at .ensures) (λ k z. refl) (c .before .before .before .before .before .before .before .before .union-clause-before .ensures) (c .before .before .before .before .node .ensures) (c .union-clause-local .ensures) (spaced 0 _ (omega arith) (sym (union-after (c .before .before .before .before .before .before .before .before .before .before .before .before .before .before .before .loop .local) (c .before .before .before .before .before .before .before .before .before .before .before .before .head-at .result .kind))) no-spacing) (omega arith) (omega arith) (c .before .before .before .before .node .kept .1 .1 .1 .1 .1 .0 ∙ c .before .before .before .before .before .before .before .before .union-clause-before .kept .0)
 
-union-add-t27 : (t : ℕ) → union-lts.Need-add-t27 (
+union-add-t28 : (t : ℕ) → union-lts.Need-add-t28 (
   head-at-reads.Asked,
   head-at-reads.Learnt,
   union-clause-token-reads.Asked,
@@ -13582,7 +13582,7 @@ union-add-t27 : (t : ℕ) → union-lts.Need-add-t27 (
   union-clause-local-reads.Asked,
   union-clause-local-reads.Learnt,
 ) (union-at t) union.Post union-Inv-loop union-μ-loop
-union-add-t27 t c = omega (arith, c .before .before .loop .inv .inside, c .before .before .before .before .before .before .before .pre .1 .sizes .tape-fits)
+union-add-t28 t c = omega (arith, c .before .before .loop .inv .inside, c .before .before .before .before .before .before .before .pre .1 .sizes .tape-fits)
 
 union-same-length : (t : ℕ) → union-lts.Need-same-length (
   head-at-reads.Asked,
@@ -13614,10 +13614,10 @@ unfolding formatUnionClause
 union-returns t c = loop-last (c .before .before .before .before .before .before .before .pre .1) (c .before .before .loop .inv) (c .if1 .left) no-spacing (omega arith)
 
 abbrev when-Inv-loop : when-lts.InvT-loop
-when-Inv-loop source tape config facts out₀ left at i₀ ctx₀ out i ctx = Loop source tape facts config left at (always formatWhenClause) formatWhenClause ctx₀ out₀ out i ctx (flagged false)
+when-Inv-loop source keywords tape config facts out₀ left at i₀ ctx₀ out i ctx = Loop source tape facts config left at (always formatWhenClause) formatWhenClause ctx₀ out₀ out i ctx (flagged false)
 
 abbrev when-μ-loop : when-lts.MeasureT-loop
-when-μ-loop source tape config facts out₀ left at i₀ ctx₀ out i ctx = length tape - i
+when-μ-loop source keywords tape config facts out₀ left at i₀ ctx₀ out i ctx = length tape - i
 
 when-add-i : (t : ℕ) → when-lts.Need-add-i (
   head-at-reads.Asked,
@@ -13678,7 +13678,7 @@ when-when-clause-token-requires : (t : ℕ) → when-lts.Need-when-clause-token-
   node-below t,
   node.Post,
 ) (when-at t) when.Post when-Inv-loop when-μ-loop
-when-when-clause-token-requires t c κs = token-ready (c .before .before .before .before .before .before .before .before .before .before .before .pre .1) (c .before .before .before .before .before .before .loop .inv) _ (c .before .if2 .taken) (c .before .before .before .head-at .ensures)
+when-when-clause-token-requires t c κs = (token-ready (c .before .before .before .before .before .before .before .before .before .before .before .pre .1) (c .before .before .before .before .before .before .loop .inv) _ (c .before .if2 .taken) (c .before .before .before .head-at .ensures), (c .before .before .before .before .before .before .before .before .before .before .before .pre .1) .words)
 
 when-add-i-2 : (t : ℕ) → when-lts.Need-add-i-2 (
   head-at-reads.Asked,
@@ -13709,7 +13709,7 @@ when-loop-again : (t : ℕ) → when-lts.Need-loop-again (
   node.Post,
 ) (when-at t) when.Post when-Inv-loop when-μ-loop
 unfolding formatWhenClause
-when-loop-again t c = token-next (c .before .before .before .before .before .before .before .before .before .before .before .before .before .before .pre .1) (c .before .before .before .before .before .before .before .before .before .loop .inv) (c .before .before .before .before .if2 .taken) (c .before .before .before .before .before .before .head-at .ensures) (c .before .before .when-clause-token .ensures) refl (c .before .before .when-clause-token .kept .1 .1 .0)
+when-loop-again t c = token-next (c .before .before .before .before .before .before .before .before .before .before .before .before .before .before .pre .1) (c .before .before .before .before .before .before .before .before .before .loop .inv) (c .before .before .before .before .if2 .taken) (c .before .before .before .before .before .before .head-at .ensures) (c .before .before .when-clause-token .ensures) refl (c .before .before .when-clause-token .kept .1 .1 .1 .0)
 
 when-sub-node : (t : ℕ) → when-lts.Need-sub-node (
   head-at-reads.Asked,
@@ -13750,9 +13750,9 @@ when-loop-again-2 : (t : ℕ) → when-lts.Need-loop-again-2 (
   node.Post,
 ) (when-at t) when.Post when-Inv-loop when-μ-loop
 unfolding formatWhenClause
-when-loop-again-2 t c = node-next (c .before .before .before .before .before .before .before .before .before .before .before .before .before .before .before .pre .1) (c .before .before .before .before .before .before .before .before .before .before .loop .inv) (formatWhenClause .atNode (flagged false) (c .before .before .before .before .before .before .before .head-at .result .kind) 0) (c .before .before .before .before .before .before .before .before .if1 .taken) (c .before .before .before .before .before .if2 .left) (c .before .before .before .before .before .before .before .head-at .ensures) (λ k z. refl) (no-spacing {xs = c .before .before .before .before .before .before .before .before .before .before .loop .out}) (c .before .before .before .node .ensures) refl no-spacing (omega arith) (omega arith) (c .before .before .before .node .kept .1 .1 .1 .1 .0)
+when-loop-again-2 t c = node-next (c .before .before .before .before .before .before .before .before .before .before .before .before .before .before .before .pre .1) (c .before .before .before .before .before .before .before .before .before .before .loop .inv) (formatWhenClause .atNode (flagged false) (c .before .before .before .before .before .before .before .head-at .result .kind) 0) (c .before .before .before .before .before .before .before .before .if1 .taken) (c .before .before .before .before .before .if2 .left) (c .before .before .before .before .before .before .before .head-at .ensures) (λ k z. refl) (no-spacing {xs = c .before .before .before .before .before .before .before .before .before .before .loop .out}) (c .before .before .before .node .ensures) refl no-spacing (omega arith) (omega arith) (c .before .before .before .node .kept .1 .1 .1 .1 .1 .0)
 
-when-add-t23 : (t : ℕ) → when-lts.Need-add-t23 (
+when-add-t24 : (t : ℕ) → when-lts.Need-add-t24 (
   head-at-reads.Asked,
   head-at-reads.Learnt,
   when-clause-token-reads.Asked,
@@ -13760,7 +13760,7 @@ when-add-t23 : (t : ℕ) → when-lts.Need-add-t23 (
   node-below t,
   node.Post,
 ) (when-at t) when.Post when-Inv-loop when-μ-loop
-when-add-t23 t c = omega (arith, c .before .before .loop .inv .inside, c .before .before .before .before .before .before .before .pre .1 .sizes .tape-fits)
+when-add-t24 t c = omega (arith, c .before .before .loop .inv .inside, c .before .before .before .before .before .before .before .pre .1 .sizes .tape-fits)
 
 when-same-length : (t : ℕ) → when-lts.Need-same-length (
   head-at-reads.Asked,
@@ -13784,10 +13784,10 @@ unfolding formatWhenClause
 when-returns t c = loop-last (c .before .before .before .before .before .before .before .pre .1) (c .before .before .loop .inv) (c .if1 .left) no-spacing (omega arith)
 
 abbrev with-Inv-loop : with-lts.InvT-loop
-with-Inv-loop source tape config facts out₀ left at i₀ ctx₀ out i ctx = Loop source tape facts config left at (always formatWithClause) formatWithClause ctx₀ out₀ out i ctx (flagged false)
+with-Inv-loop source keywords tape config facts out₀ left at i₀ ctx₀ out i ctx = Loop source tape facts config left at (always formatWithClause) formatWithClause ctx₀ out₀ out i ctx (flagged false)
 
 abbrev with-μ-loop : with-lts.MeasureT-loop
-with-μ-loop source tape config facts out₀ left at i₀ ctx₀ out i ctx = length tape - i
+with-μ-loop source keywords tape config facts out₀ left at i₀ ctx₀ out i ctx = length tape - i
 
 with-add-i : (t : ℕ) → with-lts.Need-add-i (
   head-at-reads.Asked,
@@ -13872,7 +13872,7 @@ with-select-clause-token-requires : (t : ℕ) → with-lts.Need-select-clause-to
   with-clause-after-reads.Asked,
   with-clause-after-reads.Learnt,
 ) (with-at t) with.Post with-Inv-loop with-μ-loop
-with-select-clause-token-requires t c κs = token-ready (c .before .before .before .before .before .before .before .before .before .before .before .pre .1) (c .before .before .before .before .before .before .loop .inv) _ (c .before .if2 .taken) (c .before .before .before .head-at .ensures)
+with-select-clause-token-requires t c κs = (token-ready (c .before .before .before .before .before .before .before .before .before .before .before .pre .1) (c .before .before .before .before .before .before .loop .inv) _ (c .before .if2 .taken) (c .before .before .before .head-at .ensures), (c .before .before .before .before .before .before .before .before .before .before .before .pre .1) .words)
 
 with-add-i-2 : (t : ℕ) → with-lts.Need-add-i-2 (
   head-at-reads.Asked,
@@ -13915,7 +13915,7 @@ with-loop-again : (t : ℕ) → with-lts.Need-loop-again (
   with-clause-after-reads.Learnt,
 ) (with-at t) with.Post with-Inv-loop with-μ-loop
 unfolding formatWithClause
-with-loop-again t c = token-next (c .before .before .before .before .before .before .before .before .before .before .before .before .before .before .pre .1) (c .before .before .before .before .before .before .before .before .before .loop .inv) (c .before .before .before .before .if2 .taken) (c .before .before .before .before .before .before .head-at .ensures) (c .before .before .select-clause-token .ensures) refl (c .before .before .select-clause-token .kept .1 .1 .0)
+with-loop-again t c = token-next (c .before .before .before .before .before .before .before .before .before .before .before .before .before .before .pre .1) (c .before .before .before .before .before .before .before .before .before .loop .inv) (c .before .before .before .before .if2 .taken) (c .before .before .before .before .before .before .head-at .ensures) (c .before .before .select-clause-token .ensures) refl (c .before .before .select-clause-token .kept .1 .1 .1 .0)
 
 with-with-clause-before-requires : (t : ℕ) → with-lts.Need-with-clause-before-requires (
   head-at-reads.Asked,
@@ -14000,9 +14000,9 @@ with-loop-again-2 : (t : ℕ) → with-lts.Need-loop-again-2 (
   with-clause-after-reads.Learnt,
 ) (with-at t) with.Post with-Inv-loop with-μ-loop
 unfolding formatWithClause
-with-loop-again-2 t c = node-next (c .before .before .before .before .before .before .before .before .before .before .before .before .before .before .before .before .before .before .before .before .pre .1) (c .before .before .before .before .before .before .before .before .before .before .before .before .before .before .before .loop .inv) (formatWithClause .atNode (flagged false) (c .before .before .before .before .before .before .before .before .before .before .before .before .head-at .result .kind) 0) (c .before .before .before .before .before .before .before .before .before .before .before .before .before .if1 .taken) (c .before .before .before .before .before .before .before .before .before .before .if2 .left) (c .before .before .before .before .before .before .before .before .before .before .before .before .head-at .ensures) (λ k z. refl) (c .before .before .before .before .before .before .before .before .with-clause-before .ensures) (c .before .before .before .before .node .ensures) refl (as-spaced (c .with-clause-after .ensures)) (omega arith) (omega arith) (c .before .before .before .before .node .kept .1 .1 .1 .1 .0 ∙ c .before .before .before .before .before .before .before .before .with-clause-before .kept .0)
+with-loop-again-2 t c = node-next (c .before .before .before .before .before .before .before .before .before .before .before .before .before .before .before .before .before .before .before .before .pre .1) (c .before .before .before .before .before .before .before .before .before .before .before .before .before .before .before .loop .inv) (formatWithClause .atNode (flagged false) (c .before .before .before .before .before .before .before .before .before .before .before .before .head-at .result .kind) 0) (c .before .before .before .before .before .before .before .before .before .before .before .before .before .if1 .taken) (c .before .before .before .before .before .before .before .before .before .before .if2 .left) (c .before .before .before .before .before .before .before .before .before .before .before .before .head-at .ensures) (λ k z. refl) (c .before .before .before .before .before .before .before .before .with-clause-before .ensures) (c .before .before .before .before .node .ensures) refl (as-spaced (c .with-clause-after .ensures)) (omega arith) (omega arith) (c .before .before .before .before .node .kept .1 .1 .1 .1 .1 .0 ∙ c .before .before .before .before .before .before .before .before .with-clause-before .kept .0)
 
-with-add-t26 : (t : ℕ) → with-lts.Need-add-t26 (
+with-add-t27 : (t : ℕ) → with-lts.Need-add-t27 (
   head-at-reads.Asked,
   head-at-reads.Learnt,
   select-clause-token-reads.Asked,
@@ -14014,7 +14014,7 @@ with-add-t26 : (t : ℕ) → with-lts.Need-add-t26 (
   with-clause-after-reads.Asked,
   with-clause-after-reads.Learnt,
 ) (with-at t) with.Post with-Inv-loop with-μ-loop
-with-add-t26 t c = omega (arith, c .before .before .loop .inv .inside, c .before .before .before .before .before .before .before .pre .1 .sizes .tape-fits)
+with-add-t27 t c = omega (arith, c .before .before .loop .inv .inside, c .before .before .before .before .before .before .before .pre .1 .sizes .tape-fits)
 
 with-same-length : (t : ℕ) → with-lts.Need-same-length (
   head-at-reads.Asked,
@@ -14102,7 +14102,7 @@ pub +alter+binary+brace+bracket+call+case+comma+dtype+file+inl-list+inline+join+
     (alter-node-requires t)
     (alter-loop-less-2 t)
     (alter-loop-again-2 t)
-    (alter-add-t23 t)
+    (alter-add-t24 t)
     (alter-same-length t)
     (alter-returns t))
     (λ t. binary-lts.spec (
@@ -14130,7 +14130,7 @@ pub +alter+binary+brace+bracket+call+case+comma+dtype+file+inl-list+inline+join+
     (binary-node-requires t)
     (binary-loop-less-2 t)
     (binary-loop-again-2 t)
-    (binary-add-t23 t)
+    (binary-add-t24 t)
     (binary-same-length t)
     (binary-returns t))
     (λ t. brace-lts.spec (
@@ -14158,7 +14158,7 @@ pub +alter+binary+brace+bracket+call+case+comma+dtype+file+inl-list+inline+join+
     (brace-node-requires t)
     (brace-loop-less-2 t)
     (brace-loop-again-2 t)
-    (brace-add-t23 t)
+    (brace-add-t24 t)
     (brace-same-length t)
     (brace-returns t))
     (λ t. bracket-lts.spec (
@@ -14186,7 +14186,7 @@ pub +alter+binary+brace+bracket+call+case+comma+dtype+file+inl-list+inline+join+
     (bracket-node-requires t)
     (bracket-loop-less-2 t)
     (bracket-loop-again-2 t)
-    (bracket-add-t23 t)
+    (bracket-add-t24 t)
     (bracket-same-length t)
     (bracket-returns t))
     (λ t. call-lts.spec (
@@ -14214,7 +14214,7 @@ pub +alter+binary+brace+bracket+call+case+comma+dtype+file+inl-list+inline+join+
     (call-node-requires t)
     (call-loop-less-2 t)
     (call-loop-again-2 t)
-    (call-add-t23 t)
+    (call-add-t24 t)
     (call-same-length t)
     (call-returns t))
     (λ t. case-lts.spec (
@@ -14245,7 +14245,7 @@ pub +alter+binary+brace+bracket+call+case+comma+dtype+file+inl-list+inline+join+
     (case-node-requires t)
     (case-loop-less-2 t)
     (case-loop-again-2 t)
-    (case-add-t27 t)
+    (case-add-t28 t)
     (case-same-length t)
     (case-returns t))
     (λ t. comma-lts.spec (
@@ -14276,7 +14276,7 @@ pub +alter+binary+brace+bracket+call+case+comma+dtype+file+inl-list+inline+join+
     (comma-node-requires t)
     (comma-loop-less-2 t)
     (comma-loop-again-2 t)
-    (comma-add-t28 t)
+    (comma-add-t29 t)
     (comma-same-length t)
     (comma-returns t))
     (λ t. dtype-lts.spec (
@@ -14304,7 +14304,7 @@ pub +alter+binary+brace+bracket+call+case+comma+dtype+file+inl-list+inline+join+
     (dtype-node-requires t)
     (dtype-loop-less-2 t)
     (dtype-loop-again-2 t)
-    (dtype-add-t23 t)
+    (dtype-add-t24 t)
     (dtype-same-length t)
     (dtype-returns t))
     (λ t. file-lts.spec (
@@ -14335,7 +14335,7 @@ pub +alter+binary+brace+bracket+call+case+comma+dtype+file+inl-list+inline+join+
     (file-node-requires t)
     (file-loop-less-2 t)
     (file-loop-again-2 t)
-    (file-add-t28 t)
+    (file-add-t29 t)
     (file-same-length t)
     (file-returns t))
     (λ t. inl-list-lts.spec (
@@ -14363,7 +14363,7 @@ pub +alter+binary+brace+bracket+call+case+comma+dtype+file+inl-list+inline+join+
     (inl-list-node-requires t)
     (inl-list-loop-less-2 t)
     (inl-list-loop-again-2 t)
-    (inl-list-add-t23 t)
+    (inl-list-add-t24 t)
     (inl-list-same-length t)
     (inl-list-returns t))
     (λ t. inline-lts.spec (
@@ -14397,7 +14397,7 @@ pub +alter+binary+brace+bracket+call+case+comma+dtype+file+inl-list+inline+join+
     (inline-node-requires t)
     (inline-loop-less-2 t)
     (inline-loop-again-2 t)
-    (inline-add-t29 t)
+    (inline-add-t30 t)
     (inline-same-length t)
     (inline-returns t))
     (λ t. join-lts.spec (
@@ -14428,7 +14428,7 @@ pub +alter+binary+brace+bracket+call+case+comma+dtype+file+inl-list+inline+join+
     (join-node-requires t)
     (join-loop-less-2 t)
     (join-loop-again-2 t)
-    (join-add-t27 t)
+    (join-add-t28 t)
     (join-same-length t)
     (join-returns t))
     (λ t. list-by-lts.spec (
@@ -14474,7 +14474,7 @@ pub +alter+binary+brace+bracket+call+case+comma+dtype+file+inl-list+inline+join+
     (list-by-loop-less-2 t)
     (list-by-loop-again-2 t)
     (list-by-list-clause-end-requires t)
-    (list-by-add-t32 t)
+    (list-by-add-t33 t)
     (list-by-same-length t)
     (list-by-returns t))
     (λ t. no-spaces-lts.spec (
@@ -14502,7 +14502,7 @@ pub +alter+binary+brace+bracket+call+case+comma+dtype+file+inl-list+inline+join+
     (no-spaces-node-requires t)
     (no-spaces-loop-less-2 t)
     (no-spaces-loop-again-2 t)
-    (no-spaces-add-t23 t)
+    (no-spaces-add-t24 t)
     (no-spaces-same-length t)
     (no-spaces-returns t))
     (λ t. node-lts.spec (
@@ -14713,7 +14713,7 @@ pub +alter+binary+brace+bracket+call+case+comma+dtype+file+inl-list+inline+join+
     (paren-node-requires t)
     (paren-loop-less-2 t)
     (paren-loop-again-2 t)
-    (paren-add-t23 t)
+    (paren-add-t24 t)
     (paren-same-length t)
     (paren-returns t))
     (λ t. pass-lts.spec (
@@ -14741,7 +14741,7 @@ pub +alter+binary+brace+bracket+call+case+comma+dtype+file+inl-list+inline+join+
     (pass-node-requires t)
     (pass-loop-less-2 t)
     (pass-loop-again-2 t)
-    (pass-add-t23 t)
+    (pass-add-t24 t)
     (pass-same-length t)
     (pass-returns t))
     (λ t. queries-lts.spec (
@@ -14772,7 +14772,7 @@ pub +alter+binary+brace+bracket+call+case+comma+dtype+file+inl-list+inline+join+
     (queries-node-requires t)
     (queries-loop-less-2 t)
     (queries-loop-again-2 t)
-    (queries-add-t28 t)
+    (queries-add-t29 t)
     (queries-same-length t)
     (queries-returns t))
     (λ t. sel-stmt-lts.spec (
@@ -14803,7 +14803,7 @@ pub +alter+binary+brace+bracket+call+case+comma+dtype+file+inl-list+inline+join+
     (sel-stmt-node-requires t)
     (sel-stmt-loop-less-2 t)
     (sel-stmt-loop-again-2 t)
-    (sel-stmt-add-t28 t)
+    (sel-stmt-add-t29 t)
     (sel-stmt-same-length t)
     (sel-stmt-returns t))
     (λ t. select-lts.spec (
@@ -14837,7 +14837,7 @@ pub +alter+binary+brace+bracket+call+case+comma+dtype+file+inl-list+inline+join+
     (select-select-clause-after-requires t)
     (select-loop-less-2 t)
     (select-loop-again-2 t)
-    (select-add-t28 t)
+    (select-add-t29 t)
     (select-same-length t)
     (select-returns t))
     (λ t. settings-lts.spec (
@@ -14871,7 +14871,7 @@ pub +alter+binary+brace+bracket+call+case+comma+dtype+file+inl-list+inline+join+
     (settings-settings-clause-after-requires t)
     (settings-loop-less-2 t)
     (settings-loop-again-2 t)
-    (settings-add-t28 t)
+    (settings-add-t29 t)
     (settings-same-length t)
     (settings-returns t))
     (λ t. simple-lts.spec (
@@ -14902,7 +14902,7 @@ pub +alter+binary+brace+bracket+call+case+comma+dtype+file+inl-list+inline+join+
     (simple-node-requires t)
     (simple-loop-less-2 t)
     (simple-loop-again-2 t)
-    (simple-add-t27 t)
+    (simple-add-t28 t)
     (simple-same-length t)
     (simple-returns t))
     (λ t. subquery-lts.spec (
@@ -14930,7 +14930,7 @@ pub +alter+binary+brace+bracket+call+case+comma+dtype+file+inl-list+inline+join+
     (subquery-node-requires t)
     (subquery-loop-less-2 t)
     (subquery-loop-again-2 t)
-    (subquery-add-t23 t)
+    (subquery-add-t24 t)
     (subquery-same-length t)
     (subquery-returns t))
     (λ t. tight-paren-lts.spec (
@@ -14964,7 +14964,7 @@ pub +alter+binary+brace+bracket+call+case+comma+dtype+file+inl-list+inline+join+
     (tight-paren-node-requires t)
     (tight-paren-loop-less-2 t)
     (tight-paren-loop-again-2 t)
-    (tight-paren-add-t29 t)
+    (tight-paren-add-t30 t)
     (tight-paren-same-length t)
     (tight-paren-returns t))
     (λ t. unary-lts.spec (
@@ -14992,7 +14992,7 @@ pub +alter+binary+brace+bracket+call+case+comma+dtype+file+inl-list+inline+join+
     (unary-node-requires t)
     (unary-loop-less-2 t)
     (unary-loop-again-2 t)
-    (unary-add-t23 t)
+    (unary-add-t24 t)
     (unary-same-length t)
     (unary-returns t))
     (λ t. union-lts.spec (
@@ -15026,7 +15026,7 @@ pub +alter+binary+brace+bracket+call+case+comma+dtype+file+inl-list+inline+join+
     (union-union-clause-local-requires t)
     (union-loop-less-2 t)
     (union-loop-again-2 t)
-    (union-add-t27 t)
+    (union-add-t28 t)
     (union-same-length t)
     (union-returns t))
     (λ t. when-lts.spec (
@@ -15054,7 +15054,7 @@ pub +alter+binary+brace+bracket+call+case+comma+dtype+file+inl-list+inline+join+
     (when-node-requires t)
     (when-loop-less-2 t)
     (when-loop-again-2 t)
-    (when-add-t23 t)
+    (when-add-t24 t)
     (when-same-length t)
     (when-returns t))
     λ t. with-lts.spec (
@@ -15088,6 +15088,6 @@ pub +alter+binary+brace+bracket+call+case+comma+dtype+file+inl-list+inline+join+
     (with-with-clause-after-requires t)
     (with-loop-less-2 t)
     (with-loop-again-2 t)
-    (with-add-t26 t)
+    (with-add-t27 t)
     (with-same-length t)
     (with-returns t)

@@ -1,8 +1,8 @@
--- `keywords::key_of` meets its contract.
+-- `key_of` meets its contract.
 use borrow.Author.Needs.{needs}
 use Rattle.keywords.specs.Index.{key}
-use Rattle.keywords.proofs.key_of.Statement.{statement}
-use Rattle.keywords.proofs.key_of.Tie as tie
+use Rattle.keywords.proofs.index.key_of.Statement.{statement}
+use Rattle.keywords.proofs.index.key_of.Tie as tie
 
 sub-last : tie.Need-sub-last
 sub-last c = search needs

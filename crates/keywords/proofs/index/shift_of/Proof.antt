@@ -1,5 +1,5 @@
 -- Written by scripts/keyword_tables.py; do not edit.
--- `keywords::shift_of` meets its contract: each arm against the list of the definition.
+-- `shift_of` meets its contract: each arm against the list of the definition.
 use mathlib.Core.List.{[], _∷_, map}
 use mathlib.Core.Path.{refl}
 use Prim.Native.Nat.{ℕ}
@@ -7,8 +7,8 @@ use Rattle.basics.specs.Match.{match}
 use Rattle.basics.proofs.Match.{arm-is, other-is}
 use native.Mathlib.Omega.{arith}
 use Rattle.keywords.specs.Index.{shifts}
-use Rattle.keywords.proofs.shift_of.Statement.{statement}
-use Rattle.keywords.proofs.shift_of.Tie as tie
+use Rattle.keywords.proofs.index.shift_of.Statement.{statement}
+use Rattle.keywords.proofs.index.shift_of.Tie as tie
 
 returns : tie.Need-returns
 unfolding shifts

@@ -1,0 +1,65 @@
+-- The change requests follow from the definitions; their conditions are met by real words.
+use mathlib.Core.Path.{_≡_, refl, sym, ap, _∙_}
+use mathlib.Core.Bool.{Bool, true, false, cond, false≢true}
+use mathlib.Core.List.{List, [], _∷_}
+use Prim.Native.Nat.{ℕ, zero, suc, _<_}
+use native.Mathlib.Nat.{le-of-suc-le-suc, not-suc-le-zero}
+use native.Mathlib.Omega.{arith}
+use lib.ListN.{length, getD}
+use Rattle.basics.specs.Case.{toUppercase}
+use Rattle.basics.proofs.Same.{same-equal}
+use Rattle.keywords.specs.Names.{names}
+use Rattle.keywords.specs.Words.{bytes, capitals, isKeyword, isValueKeyword, next, placeOf, same, sortOf, wordOf, words}
+use Rattle.keywords.specs.declared.Place.{Place}
+use Rattle.keywords.specs.declared.Place.the-variants.{At, Nowhere}
+use Rattle.keywords.specs.declared.Word.{Word}
+use Rattle.keywords.specs.declared.Word.the-variants.{Plain, Value, Keyword}
+use Rattle.keywords.proofs.Places.{same-self}
+use Rattle.keywords.proofs.Sorts.{isListed, keyword-listed}
+use Rattle.acceptance.specs.Requests.{FirstAt, SortOfWord}
+
+first-placed : (w : List ℕ) (list : List (List ℕ)) (i : ℕ) → FirstAt w list i → placeOf w list ≡ At i
+unfolding placeOf
+first-placed w [] i x = absurd (not-suc-le-zero (x .inside))
+first-placed w (e ∷ es) zero x = rw (x .is, same-self w)
+first-placed w (e ∷ es) (suc i) x =
+    go (same e w) refl (first-placed w es i (record { inside = le-of-suc-le-suc (x .inside); is = x .is; first = λ j h. x .first (suc j) (omega (arith, h)) }))
+  where
+    go : (b : Bool) → same e w ≡ b → placeOf w es ≡ At i → cond b (At 0) (next (placeOf w es)) ≡ At (suc i)
+    go true s h = absurd (x .first 0 (omega arith) (same-equal e w s))
+    go false s h = ap next h
+
+pub sort-of-word : (w : List ℕ) (r : Word) → r ≡ wordOf w → SortOfWord w r
+sort-of-word w r e =
+    record {
+      plain = λ h. e ∙ unlisted (wordOf w) (sym (keyword-listed w) ∙ h);
+      value = λ i x v. e ∙ rw (v, first-placed (capitals w) words i x) refl;
+      keyword = λ i x v. e ∙ rw (v, first-placed (capitals w) words i x) refl;
+    }
+  where
+    unlisted : (z : Word) → isListed z ≡ false → z ≡ Plain
+    unlisted Plain h = refl
+    unlisted (Value i) h = absurd (false≢true (sym h))
+    unlisted (Keyword i) h = absurd (false≢true (sym h))
+
+-- ── words of each sort, and an entry that stands in a list twice
+
+select-word : wordOf (bytes "seLect") ≡ Keyword 0
+unfolding names words same placeOf toUppercase
+select-word = refl
+
+value-words : (wordOf (bytes "Null") ≡ Value 97) × (wordOf (bytes "true") ≡ Value 98) × (wordOf (bytes "FALSE") ≡ Value 99)
+unfolding names words same placeOf toUppercase
+value-words = (refl, refl, refl)
+
+last-word : wordOf (bytes "keyed") ≡ Keyword 216
+unfolding names words same placeOf toUppercase
+last-word = refl
+
+plain-words : (wordOf (bytes "selects") ≡ Plain) × (wordOf (bytes "selec") ≡ Plain) × (wordOf [] ≡ Plain)
+unfolding names words same placeOf toUppercase
+plain-words = (refl, refl, refl)
+
+twice : placeOf (bytes "B") (bytes "A" ∷ bytes "B" ∷ bytes "B" ∷ []) ≡ At 1
+unfolding same placeOf
+twice = refl

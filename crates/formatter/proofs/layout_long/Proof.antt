@@ -1,0 +1,58 @@
+-- `layout_long` meets its contract: its facts are enough for any tape that 5 lets pass.
+use native.Mathlib.Omega.{arith}
+use borrow.Author.Needs.{needs}
+use Rattle.formatter.proofs.layout_long.Statement.{statement}
+use Rattle.formatter.proofs.layout_long.Tie as tie
+
+table-requires : tie.Need-table-requires
+table-requires c κs = search needs
+
+slice-aggregate-layout-in : tie.Need-slice-aggregate-layout-in
+slice-aggregate-layout-in c = search needs
+
+array-borrow-prefix-space : tie.Need-array-borrow-prefix-space
+array-borrow-prefix-space c = search needs
+
+slice-aggregate-layout-in-2 : tie.Need-slice-aggregate-layout-in-2
+slice-aggregate-layout-in-2 c = search needs
+
+layout-in-requires : tie.Need-layout-in-requires
+layout-in-requires c κs = ((λ fits. omega (arith, fits)), search needs)
+
+same-length : tie.Need-same-length
+same-length c = search needs
+
+returns : tie.Need-returns
+returns c = search needs
+
+slice-aggregate-layout-in-3 : tie.Need-slice-aggregate-layout-in-3
+slice-aggregate-layout-in-3 c = search needs
+
+slice-aggregate-layout-in-4 : tie.Need-slice-aggregate-layout-in-4
+slice-aggregate-layout-in-4 c = search needs
+
+layout-in-requires-2 : tie.Need-layout-in-requires-2
+layout-in-requires-2 c κs = ((λ fits. omega (arith, fits)), search needs)
+
+same-length-2 : tie.Need-same-length-2
+same-length-2 c = search needs
+
+returns-2 : tie.Need-returns-2
+returns-2 c = search needs
+
+pub layout-long-spec : {M : Type 1} → statement M
+layout-long-spec =
+    tie.close
+    (tie.spec
+    table-requires
+    slice-aggregate-layout-in
+    array-borrow-prefix-space
+    slice-aggregate-layout-in-2
+    layout-in-requires
+    same-length
+    returns
+    slice-aggregate-layout-in-3
+    slice-aggregate-layout-in-4
+    layout-in-requires-2
+    same-length-2
+    returns-2)

@@ -1,0 +1,2 @@
+-- How C sees answers that have no numbers of their own.
+pub mod WordAnswer
