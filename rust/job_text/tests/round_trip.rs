@@ -24,6 +24,7 @@ fn jobs(class: Class, index: u64) -> Vec<Vec<u8>> {
         Made::Call(case) => vec![write(&case)],
         Made::Pair(pair) => [0, 1].map(|which| write(&pair.case(which))).to_vec(),
         Made::Job(job) => vec![job],
+        Made::Word(_) => panic!("a word is no job"),
     }
 }
 

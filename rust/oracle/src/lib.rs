@@ -1,6 +1,6 @@
 //! The oracle: answers to calls and jobs by documents 01 and 02, with the layout made by the original Rust source.
 //!
-//! `answers::answer` answers a call, `job::printed` a job, and `cases::make` makes inputs for both.
+//! `answers::answer` answers a call, `words::answer` a word, `job::printed` a job, and `cases::make` makes inputs for all.
 
 pub mod answers;
 pub mod arms;
@@ -16,6 +16,7 @@ pub mod source;
 pub mod stored;
 pub mod tape;
 pub mod text;
+pub mod words;
 
 // The source's own modules lexer, parser and formatter; nothing where it is not at hand.
 include!(concat!(env!("OUT_DIR"), "/source.rs"));

@@ -6,7 +6,7 @@ use oracle::cases::{make, Class, Made};
 use oracle::masking::{breaches, claim, Pair};
 use oracle::stored::{self, names, Record};
 use oracle::tape::{Child, Node};
-use oracle::{arms, job, kinds, source};
+use oracle::{arms, job, kinds, source, words};
 use std::io::{self, Read};
 use std::process::ExitCode;
 
@@ -15,10 +15,11 @@ const USAGE: &str = "usage: oracle case SEED CLASS INDEX            prints a cas
        oracle arms                             prints the arms of the source's routines, which vectors name
        oracle job < FILE                       answers a job as the desk's program does
        oracle stored < FILE                    writes the stored list of the calls that FILE names, a line each
+       oracle words                            prints the stored list of words
        oracle source                           says whether the source is at hand, which all of these need
        oracle --help, oracle --version
-CLASS is parser, wild, damaged, jobs, masked, limits, small, utf8, utf8-small, utf8-damaged, utf8-masked or
-utf8-limits; the others are numbers from 0 to 2^64-1";
+CLASS is parser, wild, damaged, jobs, masked, limits, small, utf8, utf8-small, utf8-damaged, utf8-masked,
+utf8-limits or words; the others are numbers from 0 to 2^64-1";
 
 const PROGRAM: Program = Program { name: "oracle", version: env!("CARGO_PKG_VERSION"), usage: USAGE };
 
@@ -33,6 +34,7 @@ fn run(arguments: &[&str]) -> Result<Vec<u8>, String> {
         ["case", seed, class, index] => print_case(seed, class, index).map(String::into_bytes),
         ["vectors", seed, class, first, count] => print_vectors(seed, class, first, count).map(String::into_bytes),
         ["arms"] => print_arms().map(String::into_bytes),
+        ["words"] => source_at_hand().map(|()| stored::words::list().into_bytes()),
         ["source"] => source_at_hand().map(|()| b"the source is at hand\n".to_vec()),
         _ => Err(USAGE.to_string()),
     }
@@ -73,6 +75,7 @@ fn print_case(seed: &str, class: &str, index: &str) -> Result<String, String> {
         Made::Call(case) => call_text(&case),
         Made::Job(bytes) => job_text(&bytes),
         Made::Pair(pair) => pair_text(&pair),
+        Made::Word(word) => word_text(&word),
     })
 }
 
@@ -88,7 +91,7 @@ fn print_vectors(seed: &str, name: &str, first: &str, count: &str) -> Result<Str
             .enumerate()
             .map(|(which, text)| vector(&format!("{name} {index} {text}"), &pair.case(which)))
             .collect()),
-        Made::Job(_) => Err(format!("{name} makes no calls\n{USAGE}")),
+        Made::Job(_) | Made::Word(_) => Err(format!("{name} makes no calls\n{USAGE}")),
     });
     lines.collect()
 }
@@ -181,6 +184,10 @@ fn pair_text(pair: &Pair) -> String {
         call_text(&pair.case(1)),
         claim(pair)
     )
+}
+
+fn word_text(word: &[u8]) -> String {
+    format!("word, {} bytes: \"{}\"\nanswered {}\n", word.len(), word.escape_ascii(), numbers(words::answer(word)))
 }
 
 fn numbers(answer: Answer) -> String {

@@ -2,6 +2,7 @@
 
 pub mod by_hand;
 pub mod names;
+pub mod words;
 
 use crate::answers::{answer, Answer, Answered, Case};
 

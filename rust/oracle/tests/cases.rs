@@ -317,6 +317,7 @@ fn the_first_cases_are_the_ones_they_always_were() {
         4_785_548_435_630_006_274,
         1_106_184_582_570_739_320,
         6_201_839_075_419_040_035,
+        13_479_420_962_885_586_760,
     ];
     assert_eq!(sums, expected);
 }
@@ -324,7 +325,7 @@ fn the_first_cases_are_the_ones_they_always_were() {
 /// All bytes of a case in a row.
 fn bytes_of(made: Made) -> Vec<u8> {
     match made {
-        Made::Job(job) => job,
+        Made::Job(bytes) | Made::Word(bytes) => bytes,
         Made::Call(case) => call_bytes(&case),
         Made::Pair(pair) => [call_bytes(&pair.case(0)), call_bytes(&pair.case(1))].concat(),
     }

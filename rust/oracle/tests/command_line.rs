@@ -36,6 +36,7 @@ fn a_bad_call_gets_a_message_and_status_2() {
     assert_bad_call(&["vectors", "0", "parser", "18446744073709551615", "1"], "pass the last index");
     assert_bad_call(&["arms", "parser"], "usage: oracle");
     assert_bad_call(&["stored", "file"], "usage: oracle");
+    assert_bad_call(&["words", "file"], "usage: oracle");
     assert_bad_call(&["source", "file"], "usage: oracle");
 }
 
@@ -71,6 +72,13 @@ fn a_stored_list_has_a_record_for_each_name() {
     let output = oracle(&["stored"], b"1 small 0\n1 large 0\n");
     assert_eq!(output.status.code(), Some(2));
     assert!(output.stdout.is_empty() && output.stderr == b"oracle: no call has the name: 1 large 0\n");
+}
+
+#[test]
+fn the_stored_words_are_printed() {
+    needs_source!();
+    assert_eq!(oracle(&["words"], b"").stdout, stored::words::list().into_bytes());
+    rules::assert_output_kept(PROGRAM, "oracle", &["words"], b"");
 }
 
 #[test]
@@ -110,6 +118,7 @@ fn each_class_prints_its_case_and_answer() {
         ("utf8-damaged", "measured "),
         ("utf8-masked", "claim: Ok"),
         ("utf8-limits", "measured "),
+        ("words", "answered "),
     ] {
         let output = oracle(&["case", "1", class, "10"], b"");
         assert!(output.status.success(), "{class}");
@@ -136,6 +145,7 @@ fn vectors_are_the_calls_a_line_each() {
     }
     assert!(lines(&["vectors", "1", "parser", "7", "0"]).is_empty());
     assert_bad_call(&["vectors", "1", "jobs", "7", "2"], "jobs makes no calls");
+    assert_bad_call(&["vectors", "1", "words", "7", "2"], "words makes no calls");
 }
 
 #[test]

@@ -8,6 +8,7 @@ mod query;
 mod small;
 mod utf8;
 mod wild;
+mod words;
 
 pub use utf8::characters::listed as characters;
 
@@ -41,10 +42,12 @@ pub enum Class {
     Utf8Masked,
     /// Characters of several bytes at the limits.
     Utf8Limits,
+    /// Words for the test of a word: entries of the list, what is near them, any bytes.
+    Words,
 }
 
 impl Class {
-    pub const ALL: [(&'static str, Class); 12] = [
+    pub const ALL: [(&'static str, Class); 13] = [
         ("parser", Class::Parser),
         ("wild", Class::Wild),
         ("damaged", Class::Damaged),
@@ -57,6 +60,7 @@ impl Class {
         ("utf8-damaged", Class::Utf8Damaged),
         ("utf8-masked", Class::Utf8Masked),
         ("utf8-limits", Class::Utf8Limits),
+        ("words", Class::Words),
     ];
 
     pub fn named(name: &str) -> Option<Class> {
@@ -69,6 +73,7 @@ pub enum Made {
     Call(Case),
     Job(Vec<u8>),
     Pair(Pair),
+    Word(Vec<u8>),
 }
 
 /// The case of this seed, class and index.
@@ -87,6 +92,7 @@ pub fn make(seed: u64, class: Class, index: u64) -> Made {
         Class::Utf8Damaged => Made::Call(utf8::damaged::make(&mut random)),
         Class::Utf8Masked => Made::Pair(utf8::masked::make(&mut random)),
         Class::Utf8Limits => Made::Call(utf8::limits::make(&mut random, index)),
+        Class::Words => Made::Word(words::make(&mut random)),
     }
 }
 
