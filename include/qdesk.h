@@ -1,6 +1,6 @@
 /*
- * Lays out a ClickHouse query, one clause to a line, from its text and its syntax tree: the C interface of libformatter.a, which
- * `rt staticlib formatter` writes to target/staticlib, for Linux on x86-64.
+ * Lays out a ClickHouse query, one clause to a line, from its text and its syntax tree, and tells the sorts of word apart: the C
+ * interface of libqdesk.a, which `rt staticlib qdesk` writes to target/staticlib, for Linux on x86-64.
  *
  * What goes in
  *
@@ -55,7 +55,7 @@ extern "C" {
 #define QDESK_MOST_WIDTH 16
 
 struct qdesk_answer {
-    uint64_t number; /* one of enum qdesk_number */
+    uint64_t number; /* one of enum qdesk_number; of qdesk_word, one of enum qdesk_sort */
     uint64_t value;  /* a length or a place, as stands there; 0 where nothing does */
 };
 
@@ -121,6 +121,20 @@ struct qdesk_answer qdesk_measure(const uint8_t *text, size_t text_len, const ui
 /* The same, and the layout in `out`; or a refusal. */
 struct qdesk_answer qdesk_layout(const uint8_t *text, size_t text_len, const uint8_t *tape, size_t tape_len, uint64_t width,
                                  uint64_t case_byte, uint8_t *out, size_t out_len);
+
+/* The sorts of word. The list is clickhouse-analyzer's KEYWORDS; a place in it counts from 0. */
+enum qdesk_sort {
+    QDESK_SORT_PLAIN = 0,  /* a word that is on the list in no case of its letters; value: 0 */
+    QDESK_SORT_VALUE = 1,  /* TRUE, FALSE or NULL, in any case; value: its place in the list */
+    QDESK_SORT_KEYWORD = 2 /* any other word of the list, in any case; value: its place in the list */
+};
+
+/*
+ * Which sort a word is, and its place in the list: the first, if it stood there twice. Any bytes are answered, and none refused; a byte
+ * above 127 is no letter, so that a word with one is plain. The caller answers for the pointer as above: it is valid for the length, and at
+ * length 0 it may be null.
+ */
+struct qdesk_answer qdesk_word(const uint8_t *word, size_t word_len);
 
 #ifdef __cplusplus
 }

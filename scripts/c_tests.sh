@@ -14,7 +14,7 @@ runs=0
 try() { # NAME COMPILER WORDS...
     name=$1 compiler=$2
     shift 2
-    "$compiler" "$@" -Wall -Wextra -Wpedantic -Werror -Iinclude "tests/c/$name.c" -x none target/staticlib/libformatter.a -o "$built/$name"
+    "$compiler" "$@" -Wall -Wextra -Wpedantic -Werror -Iinclude "tests/c/$name.c" -x none target/staticlib/libqdesk.a -o "$built/$name"
     ASAN_OPTIONS=detect_leaks=0 "$built/$name"
     runs=$((runs + 1))
 }

@@ -1,4 +1,4 @@
-//! Finds libformatter.a and links it. Where there is none it says how it is made and makes nothing: the proof takes minutes, and cargo
+//! Finds libqdesk.a and links it. Where there is none it says how it is made and makes nothing: the proof takes minutes, and cargo
 //! shows a build script's words only when the script has ended.
 
 use std::collections::HashSet;
@@ -7,9 +7,9 @@ use std::time::SystemTime;
 use std::{env, fs};
 
 const VARIABLE: &str = "QDESK_LIB_DIR";
-pub const LIBRARY: &str = "libformatter.a";
+pub const LIBRARY: &str = "libqdesk.a";
 /// The crate of the repository that the library is made from.
-const CRATE: &str = "formatter";
+const CRATE: &str = "qdesk";
 
 fn main() {
     println!("cargo::rerun-if-env-changed={VARIABLE}");
@@ -22,7 +22,7 @@ fn main() {
 fn link(folder: &Path) {
     println!("cargo::rerun-if-changed={}", folder.join(LIBRARY).display());
     println!("cargo::rustc-link-search=native={}", folder.display());
-    println!("cargo::rustc-link-lib=static=formatter");
+    println!("cargo::rustc-link-lib=static=qdesk");
 }
 
 /// The library's machine code is for one machine: elsewhere a linker's message would say less.

@@ -1,12 +1,13 @@
 //! One call of the port held to the oracle: both numbers of both answers, and every byte of the output space and of the margins around it.
 
-use crate::{layout, measure};
+use crate::{layout, measure, word};
 use oracle::answers::{accepted_tree, answer, formatted, Answer, Answered, Case};
 use oracle::cases::{make, Class, Made};
 use oracle::masking::{claim, Pair};
+use oracle::words;
 
 /// The classes whose cases are calls.
-pub const CLASSES: [Class; 11] = [
+pub const CLASSES: [Class; 12] = [
     Class::Parser,
     Class::Wild,
     Class::Damaged,
@@ -18,6 +19,7 @@ pub const CLASSES: [Class; 11] = [
     Class::Utf8Damaged,
     Class::Utf8Masked,
     Class::Utf8Limits,
+    Class::Words,
 ];
 
 /// Bytes before and after the output space that no call may touch.
@@ -29,6 +31,7 @@ pub fn compare(seed: u64, class: Class, index: u64) -> Result<(), String> {
     match make(seed, class, index) {
         Made::Call(case) => call(&case),
         Made::Pair(pair) => masked(&pair),
+        Made::Word(bytes) => same_word(&bytes),
         Made::Job(_) => panic!("a job is no call"),
     }
     .map_err(differs)
@@ -44,6 +47,11 @@ fn call(case: &Case) -> Result<(), String> {
         in_space(&Case { space: pattern(length), ..case.clone() })?;
     }
     Ok(())
+}
+
+/// The port's answer for a word, which is the oracle's.
+pub fn same_word(bytes: &[u8]) -> Result<(), String> {
+    equal(&format!("the word \"{}\"", bytes.escape_ascii()), word(bytes), words::answer(bytes))
 }
 
 /// Bytes that no well-formed text has, and so no layout; each unlike its neighbours.
@@ -80,11 +88,11 @@ fn laid_out(case: &Case) -> Result<(Answer, Vec<u8>), String> {
     Ok((got, memory[MARGIN..end].to_vec()))
 }
 
-fn equal(call: &str, got: Answer, expected: Answer) -> Result<(), String> {
+fn equal(what: &str, got: Answer, expected: Answer) -> Result<(), String> {
     if got == expected {
         return Ok(());
     }
-    Err(format!("{call} answers {got:?} instead of {expected:?}"))
+    Err(format!("{what} answers {got:?} instead of {expected:?}"))
 }
 
 /// Both calls of a pair, which are the oracle's byte for byte; the rule's claim on these, and on the port's own answers.

@@ -1,54 +1,41 @@
-//! Calls of the proved functions: those of the static libraries that `rt staticlib formatter` and `rt staticlib keywords` write.
+//! Calls of the proved functions: those of the static library that `rt staticlib qdesk` writes.
 
 pub mod compare;
 pub mod corpora;
 pub mod rounds;
 
-/// Whether the libraries were at hand when this crate was built.
+/// Whether the library was at hand when this crate was built.
 pub const AT_HAND: bool = cfg!(has_library);
 
-/// What to do where they were not.
-pub const HINT: &str =
-    "target/staticlib is not complete: run `rt staticlib formatter` and `rt staticlib keywords` in the repository";
+/// What to do where it was not.
+pub const HINT: &str = "no target/staticlib/libqdesk.a in the repository: run `rt staticlib qdesk` there";
 
-/// The formatter's two functions, declared once: the file is the crate qdesk's own, so that what holds here holds of its calls.
+/// The library's functions, declared once: the file is the crate qdesk's own, so that what holds here holds of its calls.
 #[cfg(has_library)]
 #[path = "../../qdesk/src/ffi.rs"]
-mod formatter;
+mod library;
 
 #[cfg(has_library)]
 mod present {
-    use super::formatter;
+    use super::library;
     use oracle::answers::Answer;
-
-    extern "C" {
-        fn qdesk_is_keyword(word: *const u8, length: usize) -> bool;
-        fn qdesk_is_value_keyword(word: *const u8, length: usize) -> bool;
-    }
-
-    /// The port's `is_keyword`.
-    pub fn is_keyword(word: &[u8]) -> bool {
-        // Safe: the function asks nothing of its slice.
-        unsafe { qdesk_is_keyword(word.as_ptr(), word.len()) }
-    }
-
-    /// The port's `is_value_keyword`.
-    pub fn is_value_keyword(word: &[u8]) -> bool {
-        // Safe: the function asks nothing of its slice.
-        unsafe { qdesk_is_value_keyword(word.as_ptr(), word.len()) }
-    }
 
     /// The port's measuring.
     pub fn measure(text: &[u8], tape: &[u8], width: u64, case: u64) -> Answer {
-        answer(formatter::measure(text, tape, width, case))
+        answer(library::measure(text, tape, width, case))
     }
 
     /// The port's laying out.
     pub fn layout(text: &[u8], tape: &[u8], width: u64, case: u64, out: &mut [u8]) -> Answer {
-        answer(formatter::layout(text, tape, width, case, out))
+        answer(library::layout(text, tape, width, case, out))
     }
 
-    fn answer(given: formatter::Answer) -> Answer {
+    /// What the port says of a word.
+    pub fn word(word: &[u8]) -> Answer {
+        answer(library::word(word))
+    }
+
+    fn answer(given: library::Answer) -> Answer {
         Answer { number: given.number, second: given.value }
     }
 }
@@ -56,25 +43,21 @@ mod present {
 #[cfg(has_library)]
 pub use present::*;
 
-/// The same names where the libraries are not at hand: every call ends with the hint.
+/// The same names where the library is not at hand: every call ends with the hint.
 #[cfg(not(has_library))]
 mod absent {
     use super::HINT;
     use oracle::answers::Answer;
-
-    pub fn is_keyword(_word: &[u8]) -> bool {
-        panic!("{HINT}")
-    }
-
-    pub fn is_value_keyword(_word: &[u8]) -> bool {
-        panic!("{HINT}")
-    }
 
     pub fn measure(_text: &[u8], _tape: &[u8], _width: u64, _case: u64) -> Answer {
         panic!("{HINT}")
     }
 
     pub fn layout(_text: &[u8], _tape: &[u8], _width: u64, _case: u64, _out: &mut [u8]) -> Answer {
+        panic!("{HINT}")
+    }
+
+    pub fn word(_word: &[u8]) -> Answer {
         panic!("{HINT}")
     }
 }

@@ -50,6 +50,7 @@ fn as_many_cases_are_compared_as_the_call_says() {
         return;
     }
     assert_eq!(compared(&["1", "3", "limits"]), "Limits: 3 cases agree\n");
+    assert_eq!(compared(&["1", "3", "words"]), "Words: 3 cases agree\n");
     assert_eq!(compared(&["1", "2", "utf8-limits", "small"]), "Utf8Limits: 2 cases agree\nSmall: 2 cases agree\n");
     let all = compared(&["1", "2"]);
     assert_eq!(all.lines().count(), bench::compare::CLASSES.len());

@@ -1,14 +1,15 @@
-//! The port's word tests answer as the source's do.
+//! The port says of a word what the oracle does.
 
-use oracle::random::Random;
+use bench::compare::{compare, same_word};
+use oracle::cases::Class;
 use oracle::source;
 
-const ASCII: std::ops::Range<u8> = 0..128;
+const BYTES: std::ops::RangeInclusive<u8> = 0..=255;
+const SEED: u64 = 20;
 
-fn compare(word: &[u8]) {
-    let text = std::str::from_utf8(word).expect("ASCII");
-    assert_eq!(bench::is_keyword(word), source::is_keyword(text), "is_keyword of {text:?}");
-    assert_eq!(bench::is_value_keyword(word), source::is_value_keyword(text), "is_value_keyword of {text:?}");
+#[track_caller]
+fn same(word: &[u8]) {
+    same_word(word).unwrap_or_else(|difference| panic!("{difference}"));
 }
 
 #[test]
@@ -16,11 +17,11 @@ fn every_word_of_at_most_two_bytes() {
     if !source::at_hand_for("every_word_of_at_most_two_bytes") {
         return;
     }
-    compare(&[]);
-    for first in ASCII {
-        compare(&[first]);
-        for second in ASCII {
-            compare(&[first, second]);
+    same(&[]);
+    for first in BYTES {
+        same(&[first]);
+        for second in BYTES {
+            same(&[first, second]);
         }
     }
 }
@@ -33,7 +34,7 @@ fn every_entry_in_every_mix_of_cases() {
     for word in source::keywords() {
         for small in 0..1u32 << word.len() {
             let letter = |(i, byte): (usize, u8)| if small >> i & 1 == 1 { byte.to_ascii_lowercase() } else { byte };
-            compare(&word.bytes().enumerate().map(letter).collect::<Vec<u8>>());
+            same(&word.bytes().enumerate().map(letter).collect::<Vec<u8>>());
         }
     }
 }
@@ -47,15 +48,28 @@ fn every_entry_with_one_byte_changed_removed_or_added() {
         let word = word.as_bytes();
         for at in 0..=word.len() {
             let (before, after) = word.split_at(at);
-            for byte in ASCII {
-                compare(&[before, &[byte], after].concat());
+            for byte in BYTES {
+                same(&[before, &[byte], after].concat());
             }
             if let [_, rest @ ..] = after {
-                compare(&[before, rest].concat());
-                for byte in ASCII {
-                    compare(&[before, &[byte], rest].concat());
+                same(&[before, rest].concat());
+                for byte in BYTES {
+                    same(&[before, &[byte], rest].concat());
                 }
             }
+        }
+    }
+}
+
+/// An entry that goes on: with its own letters, and up to lengths whose low byte is an entry's.
+#[test]
+fn every_entry_in_a_longer_word() {
+    if !source::at_hand_for("every_entry_in_a_longer_word") {
+        return;
+    }
+    for word in source::keywords() {
+        for length in (word.len() + 1..=40).chain(250..=270) {
+            same(&word.bytes().cycle().take(length).collect::<Vec<u8>>());
         }
     }
 }
@@ -65,34 +79,19 @@ fn random_words() {
     if !source::at_hand_for("random_words") {
         return;
     }
-    let mut random = Random::of(1, 0, 0);
-    for _ in 0..300_000 {
-        let length = random.within(0, 16);
-        compare(&(0..length).map(|_| b'A' + random.below(26) as u8).collect::<Vec<u8>>());
-        compare(&(0..length).map(|_| random.below(128) as u8).collect::<Vec<u8>>());
-        // The front of one entry and the back of another.
-        let [one, other] = [(); 2].map(|_| random.pick(source::keywords()).as_bytes());
-        let (end, start) = (random.below(one.len()), random.below(other.len()));
-        compare(&[&one[..end], &other[start..]].concat());
+    for index in 0..300_000 {
+        compare(SEED, Class::Words, index).unwrap_or_else(|difference| panic!("{difference}"));
     }
 }
 
-/// The port takes any bytes: one above 127 is no letter.
-#[test]
-fn a_byte_above_127_makes_no_keyword() {
-    for byte in 128..=255 {
-        for word in [[byte, b'Y'], [b'B', byte]] {
-            assert!(!bench::is_keyword(&word), "{word:?}");
-        }
-        for at in 0..4 {
-            let mut word = *b"NULL";
-            word[at] = byte;
-            assert!(!bench::is_keyword(&word) && !bench::is_value_keyword(&word), "{word:?}");
-        }
-    }
+/// An entry of the code's table, as its line has it: `\x06SELECT\`, the last with a quote at its end.
+fn entry(line: &str) -> Option<(usize, &str)> {
+    let line = line.trim().strip_prefix("\\x")?;
+    let (length, letters) = line.split_at(2);
+    Some((usize::from_str_radix(length, 16).ok()?, letters.trim_end_matches(['\\', '"', ';'])))
 }
 
-/// The list of the definition, and the table of the code with its comments, have the source's entries in the source's order.
+/// The list of the definition, and the table of the code, have the source's entries in the source's order.
 #[test]
 fn the_lists_keep_the_sources_order() {
     if !source::at_hand_for("the_lists_keep_the_sources_order") {
@@ -101,7 +100,8 @@ fn the_lists_keep_the_sources_order() {
     let names = include_str!("../../../crates/keywords/specs/Names.antt");
     let quoted: Vec<&str> = names.split('"').skip(1).step_by(2).collect();
     assert_eq!(quoted, source::keywords());
-    let code = include_str!("../../../crates/keywords/src/lib.rt");
-    let arms: Vec<&str> = code.lines().filter_map(|line| line.split_once(", // ")).map(|(_, word)| word).collect();
-    assert_eq!(arms, source::keywords());
+    let code = include_str!("../../../crates/keywords/src/table.rt");
+    let entries: Vec<(usize, &str)> = code.lines().filter_map(entry).collect();
+    let expected: Vec<(usize, &str)> = source::keywords().iter().map(|word| (word.len(), *word)).collect();
+    assert_eq!(entries, expected);
 }

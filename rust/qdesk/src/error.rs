@@ -103,15 +103,16 @@ pub struct Error {
     place: u64,
 }
 
+/// A number that this crate does not know is nothing a caller could act on: library and crate are of two versions.
+pub(crate) fn unknown(number: u64) -> ! {
+    panic!("libqdesk.a answers {number}, which this crate does not know: are both of one version?")
+}
+
 impl Error {
     /// The refusal that the library's answer names.
-    ///
-    /// A number that this crate does not know is nothing a caller could act on: library and crate are of two versions.
     pub(crate) fn of(answer: Answer) -> Error {
         let refusal = Refusal::ALL.iter().find(|refusal| **refusal as u64 == answer.number);
-        let refusal = refusal.unwrap_or_else(|| {
-            panic!("libformatter.a answers {}, which this crate does not know: are both of one version?", answer.number)
-        });
+        let refusal = refusal.unwrap_or_else(|| unknown(answer.number));
         Error { refusal: *refusal, place: answer.value }
     }
 

@@ -1,6 +1,6 @@
-//! The two C functions of libformatter.a, and all the unsafe code there is.
+//! The C functions of libqdesk.a, and all the unsafe code there is.
 
-/// An answer as the library gives it: 0 and a length, or a refusal's number and its place.
+/// An answer as the library gives it: 0 and a length, or a refusal's number and its place; of a word its sort and its place in the list.
 #[repr(C)]
 pub struct Answer {
     pub number: u64,
@@ -27,6 +27,8 @@ extern "C" {
         out: *mut u8,
         out_length: usize,
     ) -> Answer;
+
+    fn qdesk_word(word: *const u8, word_length: usize) -> Answer;
 }
 
 pub fn measure(text: &[u8], tape: &[u8], width: u64, case: u64) -> Answer {
@@ -41,4 +43,9 @@ pub fn layout(text: &[u8], tape: &[u8], width: u64, case: u64, out: &mut [u8]) -
     let (out, out_length) = (out.as_mut_ptr(), out.len());
     // SAFETY: as for measuring. `out` is valid for writes of its length, and a slice lent mutably overlaps no other.
     unsafe { qdesk_layout(text, text_length, tape, tape_length, width, case, out, out_length) }
+}
+
+pub fn word(word: &[u8]) -> Answer {
+    // SAFETY: as for measuring.
+    unsafe { qdesk_word(word.as_ptr(), word.len()) }
 }

@@ -35,7 +35,7 @@ fn a_named_folder_is_taken() {
 #[test]
 fn a_named_folder_without_the_library_is_refused() {
     let folder = empty("named_empty");
-    let message = format!("QDESK_LIB_DIR is {}, which has no libformatter.a", folder.display());
+    let message = format!("QDESK_LIB_DIR is {}, which has no libqdesk.a", folder.display());
     assert_eq!(named_folder(folder), Err(message));
 }
 
@@ -54,7 +54,7 @@ fn the_repositorys_library_is_taken() {
 #[test]
 fn where_there_is_no_library_it_is_said_how_it_is_made_and_how_long_that_takes() {
     let message = repository_folder(&empty("no_library")).unwrap_err();
-    assert!(message.starts_with("no target/staticlib/libformatter.a in the repository: run `rt staticlib formatter`"));
+    assert!(message.starts_with("no target/staticlib/libqdesk.a in the repository: run `rt staticlib qdesk`"));
     assert!(message.contains("3 to 7 minutes") && message.contains("set QDESK_LIB_DIR"), "{message}");
 }
 
@@ -69,9 +69,10 @@ fn changed(repository: &Path, file: &str, after: u64) {
 #[test]
 fn a_library_that_is_older_than_its_sources_is_told() {
     let repository = empty("older");
-    let list = "# NAME: what it depends on\nbasics:\ntape: basics\nformatter: tape\ndesk: formatter\n";
+    let list =
+        "# NAME: what it depends on\nbasics:\ntape: basics\nformatter: tape\nqdesk: formatter\ndesk: formatter\n";
     fs::write(repository.join("crates.txt"), list).unwrap();
-    changed(&repository, "target/staticlib/libformatter.a", 1);
+    changed(&repository, "target/staticlib/libqdesk.a", 1);
     changed(&repository, "crates/basics/src/lib.rt", 0);
     changed(&repository, "crates/formatter/src/lib.rt", 1);
     changed(&repository, "crates/desk/src/main.rt", 2);
@@ -96,6 +97,6 @@ fn a_package_starts_no_proof() {
         .output()
         .unwrap();
     let errors = String::from_utf8_lossy(&package.stderr);
-    assert!(errors.contains("no target/staticlib/libformatter.a in the repository"), "{errors}");
+    assert!(errors.contains("no target/staticlib/libqdesk.a in the repository"), "{errors}");
     assert!(!folder.join("started").exists(), "{errors}");
 }

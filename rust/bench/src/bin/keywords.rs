@@ -1,4 +1,5 @@
-//! Times the word tests of the source and of the port on the same words, in one run.
+//! Times what it costs to learn a word's sort: the source's two tests one after the other, and the port's one answer, on the same words in
+//! one run.
 
 use command_line::{Failure, Program};
 use oracle::random::Random;
@@ -8,7 +9,8 @@ use std::io::{self, Write};
 use std::process::ExitCode;
 use std::time::Instant;
 
-const USAGE: &str = "usage: keywords   prints what a word costs in each test, in nanoseconds; takes no argument";
+const USAGE: &str =
+    "usage: keywords   prints what it costs on both sides to learn a word's sort, in nanoseconds; takes no argument";
 
 /// Names as queries have them, of many lengths.
 const NAMES: &str =
@@ -35,18 +37,12 @@ fn main() -> ExitCode {
 fn print_times(out: &mut dyn Write) -> io::Result<()> {
     let mut random = Random::of(1, 0, 0);
     let texts = [
-        ("keywords", text(|| keyword(&mut random))),
+        ("listed words", text(|| keyword(&mut random))),
         ("names", text(|| name(&mut random))),
         ("half and half", text(|| if random.percent(50) { keyword(&mut random) } else { name(&mut random) })),
     ];
-    writeln!(out, "{:<17} {:<14} {:>10} {:>9} {:>6}", "test", "words", "source ns", "port ns", "ratio")?;
-    for (label, text) in &texts {
-        row(out, "is_keyword", label, text, source::is_keyword, bench::is_keyword)?;
-    }
-    for (label, text) in &texts {
-        row(out, "is_value_keyword", label, text, source::is_value_keyword, bench::is_value_keyword)?;
-    }
-    Ok(())
+    writeln!(out, "{:<14} {:>10} {:>9} {:>6}", "words", "source ns", "port ns", "ratio")?;
+    texts.iter().try_for_each(|(label, text)| row(out, label, text))
 }
 
 /// A text of so many words, each followed by a blank.
@@ -70,26 +66,25 @@ fn name(random: &mut Random) -> String {
 }
 
 /// Prints the median of the rounds of each side, which take turns.
-fn row(
-    out: &mut dyn Write,
-    test: &str,
-    label: &str,
-    text: &str,
-    source: fn(&str) -> bool,
-    port: fn(&[u8]) -> bool,
-) -> io::Result<()> {
+fn row(out: &mut dyn Write, label: &str, text: &str) -> io::Result<()> {
     let words: Vec<&str> = text.split_terminator(' ').collect();
     let mut times = [Vec::new(), Vec::new()];
     for _ in 0..ROUNDS {
-        times[0].push(time(&words, source));
-        times[1].push(time(&words, |word| port(word.as_bytes())));
+        times[0].push(time(&words, two_tests));
+        times[1].push(time(&words, |word| bench::word(word.as_bytes())));
     }
     let [source, port] = times.map(bench::median);
-    writeln!(out, "{test:<17} {label:<14} {source:>10.1} {port:>9.1} {:>6.1}", source / port)
+    writeln!(out, "{label:<14} {source:>10.1} {port:>9.1} {:>6.1}", source / port)
+}
+
+/// What tells the sorts apart with the source: whether a word is listed and, if so, whether it is a value. Its place is not found so.
+fn two_tests(word: &str) -> (bool, bool) {
+    let listed = source::is_keyword(word);
+    (listed, listed && source::is_value_keyword(word))
 }
 
 /// Nanoseconds for a word.
-fn time(words: &[&str], test: impl Fn(&str) -> bool) -> f64 {
+fn time<T>(words: &[&str], test: impl Fn(&str) -> T) -> f64 {
     let start = Instant::now();
     for _ in 0..PASSES {
         for word in words {
