@@ -4,7 +4,7 @@ mod common;
 
 use oracle::answers::Answer;
 use oracle::cases::{make, Class, Made};
-use oracle::source::keywords;
+use oracle::source::{is_keyword, keywords};
 use oracle::stored::words::{list, read, Stored};
 use oracle::words::answer;
 use std::collections::{BTreeMap, BTreeSet};
@@ -68,6 +68,16 @@ fn the_list_has_every_entry_in_capitals_and_in_another_case() {
         let found = words.iter().filter(|word| word.eq_ignore_ascii_case(entry.as_bytes())).count();
         assert!(words.iter().any(|word| word == entry.as_bytes()) && found >= 2, "{entry}");
     }
+}
+
+/// The source changes the case of all letters, and so takes some words beyond ASCII for keywords; they are plain here.
+#[test]
+fn the_list_has_words_that_the_source_takes_for_keywords() {
+    needs_source!();
+    let taken = |one: &Stored| std::str::from_utf8(&one.word).is_ok_and(|text| !text.is_ascii() && is_keyword(text));
+    let words: Vec<Stored> = stored().into_iter().filter(taken).collect();
+    assert_eq!(words.len(), 7);
+    assert!(words.iter().all(|one| one.answer == Answer { number: 0, second: 0 }));
 }
 
 #[test]
