@@ -108,13 +108,13 @@ fn every_remainder(word: &[u8]) -> Vec<Vec<u8>> {
     (0..word.len()).flat_map(|at| (0..8).map(move |high| with(at, high))).collect()
 }
 
-/// No byte and one; two that are no entry; 12, as the longest entries have, and 13; many more.
+/// No byte and one; two that are no entry; 12, as the longest entries have, and 13; many more, 268 among them, whose low byte is 12.
 fn by_length() -> Vec<Vec<u8>> {
     let mut words: Vec<Vec<u8>> = vec![Vec::new()];
     words.extend([0, b' ', b'"', b'\\', b'_', b'@', b'[', b'`', b'{', 127, 128, 255].map(|byte| vec![byte]));
     words.extend((b'A'..=b'Z').map(|byte| vec![byte]));
     words.extend(["AA", "YB", "ZZ", "B_", "_Y", "B1", "\0\0", "BY\0", "\0BY", " BY", "BY "].map(|word| word.into()));
-    for length in [11, 12, 13, 14, 64, 255, 256, 257, 1_000] {
+    for length in [11, 12, 13, 14, 64, 255, 256, 257, 268, 1_000] {
         words.push(vec![b'A'; length]);
         words.push(b"MATERIALIZED".iter().copied().cycle().take(length).collect());
     }
