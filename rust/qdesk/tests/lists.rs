@@ -1,8 +1,8 @@
-//! The crate's lists of kinds and refusals against those of the port and of the C header.
+//! The crate's lists of kinds, refusals and sorts of word against those of the port and of the C header.
 
 mod common;
 
-use qdesk::{measure, Kind, Refusal, MOST_BYTES, MOST_OPEN};
+use qdesk::{measure, Kind, Refusal, Word, MOST_BYTES, MOST_OPEN};
 use std::fs;
 use std::path::PathBuf;
 
@@ -96,6 +96,14 @@ fn the_kinds_are_those_of_the_header() {
         })
         .collect();
     assert_eq!(here, entries(&read("include/qdesk_kinds.h"), "qdesk_kind"));
+}
+
+#[test]
+fn the_sorts_of_word_are_those_of_the_header() {
+    let sorts = [Word::Plain, Word::Value(0), Word::Keyword(0)].map(|sort| format!("{sort:?}").replace("(0)", ""));
+    let here = sorts.iter().zip(0..).map(|(name, number)| format!("QDESK_SORT_{} = {number}", constant(name)));
+    let there = entries(&read("include/qdesk.h"), "qdesk_sort").into_iter().map(|(entry, _)| entry);
+    assert_eq!(here.collect::<Vec<_>>(), there.collect::<Vec<_>>());
 }
 
 #[test]
