@@ -1,6 +1,6 @@
 /*
- * The sorts of word: the words of vectors/words.txt are answered as stored there, and a null pointer with length 0 is a plain word. It is run
- * in the repository's root. Good C and good C++: scripts/c_tests.sh compiles it as both.
+ * The sorts of word: the words of vectors/words.txt are answered as stored there, and a null pointer with length 0 is a plain word. It is
+ * run in the repository's root. Good C and good C++: scripts/c_tests.sh compiles it as both.
  */
 #include "qdesk.h"
 
@@ -40,8 +40,8 @@ static void expect(const char *what, struct qdesk_answer answer, uint64_t number
     made++;
     if (answer.number != number || answer.value != value) {
         failures++;
-        printf("words: %s: answers %" PRIu64 " and %" PRIu64 ", not %" PRIu64 " and %" PRIu64 "\n", what, answer.number, answer.value, number,
-               value);
+        printf("words: %s: answers %" PRIu64 " and %" PRIu64 ", not %" PRIu64 " and %" PRIu64 "\n", what, answer.number, answer.value,
+               number, value);
     }
 }
 

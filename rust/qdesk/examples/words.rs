@@ -1,4 +1,4 @@
-//! Prints each bare word of a query with its sort and its place in the keyword list, by which a page can colour it. A word in quotes is none.
+//! Prints each bare word of a query with its sort and its place in the keyword list, by which a page can colour it.
 
 use qdesk::{commands, word, Command, Kind, TapeBuilder, TapeError, Word};
 use std::error::Error;

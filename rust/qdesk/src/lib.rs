@@ -2,8 +2,8 @@
 //! libqdesk.a.
 //!
 //! The tree comes as a *tape*, a row of commands; [`TapeBuilder`] spells one. [`measure`] says how long the layout is, [`layout`] writes
-//! it into a lent space, [`layout_to_vec`] does both, and [`layout_to_string`] does so from a `&str` to a `String`. [`word`] tells keywords,
-//! value words (TRUE, FALSE, NULL) and all other words apart.
+//! it into a lent space, [`layout_to_vec`] does both, and [`layout_to_string`] does so from a `&str` to a `String`. [`word`] tells
+//! keywords, value words (TRUE, FALSE, NULL) and all other words apart.
 //!
 //! ```
 //! use qdesk::{layout_to_string, Case, Kind, Settings, TapeBuilder};
@@ -20,9 +20,10 @@
 //!
 //! The text is UTF-8, and words outside of quotes are ASCII. All offsets and lengths count bytes.
 //!
-//! Any bytes and any numbers may be passed: each call has one answer, for a layout a length or a refusal ([`Error`]), and which one is proved.
-//! The calls keep no state, so that any number of threads may make them at once; [`measure`], [`layout`] and [`word`] use no heap. Only a
-//! library of another version than this crate could answer with a number that is unknown here, and the call would end in a panic that says so.
+//! Any bytes and any numbers may be passed: each call has one answer, for a layout a length or a refusal ([`Error`]), and which one is
+//! proved. The calls keep no state, so that any number of threads may make them at once; [`measure`], [`layout`] and [`word`] use no heap.
+//! Only a library of another version than this crate could answer with a number that is unknown here, and the call would end in a panic
+//! that says so.
 
 #![deny(unsafe_code)]
 #![warn(missing_docs)]
