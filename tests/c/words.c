@@ -12,28 +12,11 @@
 
 #define LIST "vectors/words.txt"
 
-/* As long as the list's longest line, in which each byte takes four. */
+/* Longer than any line of the list. */
 #define MOST_LINE 8192
 
 static int failures = 0;
 static int made = 0;
-
-/* The word in memory of its own length, so that the checks of addresses tell a byte read past its end. */
-static struct qdesk_answer answered(const uint8_t *word, size_t length)
-{
-    uint8_t *copy = (uint8_t *)malloc(length);
-    struct qdesk_answer answer;
-    if (copy == NULL && length > 0) {
-        printf("words: no memory\n");
-        exit(2);
-    }
-    if (length > 0) {
-        memcpy(copy, word, length);
-    }
-    answer = qdesk_word(copy, length);
-    free(copy);
-    return answer;
-}
 
 static void expect(const char *what, struct qdesk_answer answer, uint64_t number, uint64_t value)
 {
@@ -47,7 +30,7 @@ static void expect(const char *what, struct qdesk_answer answer, uint64_t number
 
 static void expect_word(const char *word, uint64_t number, uint64_t value)
 {
-    expect(word, answered((const uint8_t *)word, strlen(word)), number, value);
+    expect(word, qdesk_word((const uint8_t *)word, strlen(word)), number, value);
 }
 
 /* The byte that an escape names, or -1 where it is none. */
@@ -99,7 +82,7 @@ static int replay(const char *line)
     if (end == NULL || *end != 0) {
         return 0;
     }
-    expect(line, answered(word, length), number, value);
+    expect(line, qdesk_word(word, length), number, value);
     return 1;
 }
 
