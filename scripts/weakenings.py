@@ -4,7 +4,7 @@
     python3 scripts/weakenings.py [NAME...]
 
 A must-fail edit reaches only its own crate, and a promise that is weakened there with its proof is proved. So this tries them, each in a copy of
-the crates under target/weakenings, over what `rt check` has proved. It takes about a minute each, and three for a promise of formatter.
+the crates under target/weakenings, over what `rt check` has proved. It takes about a minute each.
 """
 import os
 import shutil
@@ -15,11 +15,13 @@ BOTH, BOTH_PROOF = "two_calls/specs/Both.antt", "two_calls/proofs/Both.antt"
 LAYOUT_MASKED = "  pub masked : MaskedPairForLayout width case a b tape → xs ≡ us\n"
 LAYOUT_PROOF = "            λ m e.\n            let k = masking-original width case a b tape m xs in\n"
 
+LENGTH = ("qdesk/src/lib.rt", "ghost use mathlib.Core.Path.{_≡_};\n", "ghost use mathlib.Core.Path.{_≡_};\nghost use lib.ListN.{length};\n")
+
 # What is weakened, and the edits that do it: a file, the text that stands there once, and what stands there instead.
 WEAKENINGS = {
     "measuring from C promises nothing": [
         (
-            "formatter/src/lib.rt",
+            "qdesk/src/lib.rt",
             'pub extern "C" fn qdesk_measure(text: &[u8], tape: &[u8], width: u64, case: u64) -> Answer\n'
             "    ensures { λ r. ⌜ r ≡ measured (outcome original width case (now (text .entry)) (now (tape .entry))) ⌝ }\n",
             'pub extern "C" fn qdesk_measure(text: &[u8], tape: &[u8], width: u64, case: u64) -> Answer\n',
@@ -27,13 +29,22 @@ WEAKENINGS = {
     ],
     "laying out from C asks for an empty text": [
         (
-            "formatter/src/lib.rt",
+            "qdesk/src/lib.rt",
             "    ensures { λ r. ⌜ _≡_ {A = Result} (record { answer = r; space = now (out .exit) }) (laidOut (outcome original width case (now (text .entry)) (now (tape .entry))) (now (out .entry))) ⌝ }\n"
             "{\n    layout(text, tape, width, case, out)\n",
             "    requires { ⌜ length (now text) ≡ 0 ⌝ }\n"
             "    ensures { λ r. ⌜ _≡_ {A = Result} (record { answer = r; space = now (out .exit) }) (laidOut (outcome original width case (now (text .entry)) (now (tape .entry))) (now (out .entry))) ⌝ }\n"
             "{\n    layout(text, tape, width, case, out)\n",
-        )
+        ),
+        LENGTH,
+    ],
+    "the sort of a word from C asks for an empty word": [
+        (
+            "qdesk/src/lib.rt",
+            "    ensures { λ r. ⌜ r ≡ wordAnswer",
+            "    requires { ⌜ length (now word) ≡ 0 ⌝ }\n    ensures { λ r. ⌜ r ≡ wordAnswer",
+        ),
+        LENGTH,
     ],
     "measuring both texts asks for a narrow indent": [
         (

@@ -7,7 +7,7 @@ pub use buffer::put;
 pub use buffer::put_in_case;
 pub use buffer::put_short;
 use utf8::is_white_byte;
-use utf8::trimmed_length;
+use utf8::trimmed_from_end;
 ghost use mathlib.Core.Path.{_≡_};
 ghost use mathlib.Core.List.{[], _∷_, _++_};
 ghost use Prim.Native.Nat.{_+_, _^_, _≤_, _<_};
@@ -102,7 +102,7 @@ impl Position {
         let from = self.length + blanks;
         Position {
             length: from + text.len(),
-            trimmed: buffer::trimmed_after(from, self.trimmed, trimmed_length(text)),
+            trimmed: buffer::trimmed_after(from, self.trimmed, trimmed_from_end(text)),
         }
     }
 

@@ -262,7 +262,7 @@ fn white_before(text: &[u8], n: usize) -> usize
 }
 
 // The length of the text without the white-space characters at its end. White space of one byte goes by itself, since most of it is that.
-fn trimmed_from_end(text: &[u8]) -> usize
+pub fn trimmed_from_end(text: &[u8]) -> usize
     ensures { λ r. ⌜ r ≡ trimmedLength (now (text .entry)) ⌝ }
 {
     let mut n = text.len();
@@ -281,7 +281,8 @@ fn trimmed_from_end(text: &[u8]) -> usize
     0
 }
 
-// The same. Most texts end in a byte from 33 to 127; the others go to a function of their own, so that this one is small where it is called.
+// The same. Most texts end in a byte from 33 to 127; the others go to a function of their own. It has other callers, so that the compiler leaves it by itself
+// and puts this one, which is small, where it is called.
 pub fn trimmed_length(text: &[u8]) -> usize
     ensures { λ r. ⌜ r ≡ trimmedLength (now (text .entry)) ⌝ }
 {

@@ -15,8 +15,8 @@ add-from c = search needs
 add-t6 : tie.Need-add-t6
 add-t6 c = search needs
 
-trimmed-length-requires : tie.Need-trimmed-length-requires
-trimmed-length-requires c κs = search needs
+trimmed-from-end-requires : tie.Need-trimmed-from-end-requires
+trimmed-from-end-requires c κs = search needs
 
 trimmed-after-requires : tie.Need-trimmed-after-requires
 trimmed-after-requires c κs = omega (arith, trimmed-le (c .before .before .before .args .text .now))
@@ -25,8 +25,8 @@ returns : tie.Need-returns
 returns c =
     let a = c .before .before .before .before .args in
     advanced-blanks (a .blanks) (a .text .now) (a .self) _ _ refl
-    (c .trimmed-after .ensures ∙ ap (trimmedAfter (a .self .length + a .blanks) (a .self .trimmed)) (c .before .trimmed-length .ensures))
+    (c .trimmed-after .ensures ∙ ap (trimmedAfter (a .self .length + a .blanks) (a .self .trimmed)) (c .before .trimmed-from-end .ensures))
 
 pub after-spec : {M : Type 1} → statement M
 after-spec =
-    tie.close (tie.spec add-from add-t6 trimmed-length-requires trimmed-after-requires returns)
+    tie.close (tie.spec add-from add-t6 trimmed-from-end-requires trimmed-after-requires returns)
