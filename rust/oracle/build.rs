@@ -1,56 +1,25 @@
 //! Finds the original source, mounts its files unchanged as modules, and reads its tables of kinds and routines.
 
-use std::path::{Path, PathBuf};
-use std::{env, fs};
+#[path = "../find_source.rs"]
+mod find_source;
 
-const VARIABLE: &str = "CLICKHOUSE_ANALYZER_SRC";
+use find_source::{write, CONTEXT, FORMATTER, FORMAT_NODE, SYNTAX_KIND, SYNTAX_TREE, TOKEN};
+use std::fs;
+use std::path::Path;
 
 fn main() {
-    println!("cargo::rustc-check-cfg=cfg(has_source)");
-    // The source names a feature that this crate does not have.
-    println!("cargo::rustc-check-cfg=cfg(feature, values(\"serde\"))");
-    println!("cargo::rerun-if-env-changed={VARIABLE}");
-    let source = source_folder().join("src");
-    for file in FILES {
-        println!("cargo::rerun-if-changed={}", source.join(file).display());
-    }
-    let present = FILES.iter().all(|file| source.join(file).is_file());
-    if present {
-        println!("cargo::rustc-cfg=has_source");
+    if let Some(source) = find_source::find() {
         write("source.rs", &modules(&source));
         write("tables.rs", &tables(&source));
     } else {
-        println!("cargo::warning=no source in {}: set {VARIABLE} to the folder that holds src/", source.display());
         write("source.rs", "");
         write("tables.rs", &table_text(&[], &[]));
     }
 }
 
-const TOKEN: &str = "lexer/token.rs";
-const SYNTAX_KIND: &str = "parser/syntax_kind.rs";
-const SYNTAX_TREE: &str = "parser/syntax_tree.rs";
-const FORMATTER: &str = "formatter/mod.rs";
-const CONTEXT: &str = "formatter/context.rs";
-const FORMAT_NODE: &str = "formatter/format_node.rs";
-const FILES: [&str; 6] = [TOKEN, SYNTAX_KIND, SYNTAX_TREE, FORMATTER, CONTEXT, FORMAT_NODE];
-
-/// The folder that holds src/: the variable's, else shared/docs/src beside the repository.
-fn source_folder() -> PathBuf {
-    if let Some(folder) = env::var_os(VARIABLE) {
-        return PathBuf::from(folder);
-    }
-    let package = PathBuf::from(env::var_os("CARGO_MANIFEST_DIR").expect("cargo names the package"));
-    package.join("../../../shared/docs/src")
-}
-
-fn write(name: &str, text: &str) {
-    let folder = PathBuf::from(env::var_os("OUT_DIR").expect("cargo names the output folder"));
-    fs::write(folder.join(name), text).expect("the output folder can be written");
-}
-
 /// The original crate's module tree. `format_node` is mounted a second time to reach its private word tests.
 fn modules(source: &Path) -> String {
-    let path = |file: &str| format!("{:?}", source.join(file).canonicalize().expect("a file seen before"));
+    let path = |file: &str| format!("{:?}", source.join(file));
     format!(
         "pub mod lexer {{ #[path = {token}] pub mod token; }}
 pub mod parser {{
@@ -112,14 +81,16 @@ fn dispatch_rows(text: &str) -> Vec<(String, String)> {
 }
 
 fn table_text(names: &[String], rows: &[(String, String)]) -> String {
-    let values: Vec<String> =
-        names.iter().map(|name| format!("crate::parser::syntax_kind::SyntaxKind::{name}")).collect();
+    let values = |path: &str| names.iter().map(|name| format!("{path}::{name}")).collect::<Vec<_>>().join(", ");
     format!(
         "/// The kinds' names in the source's order.\npub static NAMES: &[&str] = &{names:?};\n\
          /// The named rows of the source's dispatch: a kind's name and its routine's.\n\
          pub static ROWS: &[(&str, &str)] = &{rows:?};\n\
          /// The kinds as the source's own values, in its order.\n\
-         #[cfg(has_source)]\npub static VALUES: &[crate::parser::syntax_kind::SyntaxKind] = &[{}];\n",
-        values.join(", ")
+         #[cfg(has_source)]\npub static VALUES: &[crate::parser::syntax_kind::SyntaxKind] = &[{}];\n\
+         /// The same as the recorder's values.\n\
+         #[cfg(has_source)]\npub static RECORDED_VALUES: &[recorder::parser::syntax_kind::SyntaxKind] = &[{}];\n",
+        values("crate::parser::syntax_kind::SyntaxKind"),
+        values("recorder::parser::syntax_kind::SyntaxKind"),
     )
 }

@@ -51,8 +51,8 @@ pub fn accepted_tree(case: &Case) -> Result<Node, Answer> {
     read(case).map(|(_, root)| root)
 }
 
-/// The text and the tree of an accepted input.
-fn read(case: &Case) -> Result<(&str, Node), Answer> {
+/// The text and the tree of an accepted input, or the first refusal, 13 aside.
+pub fn read(case: &Case) -> Result<(&str, Node), Answer> {
     if case.width > MOST_WIDTH {
         return refused(1, 0);
     }

@@ -1,4 +1,4 @@
-//! Calls of the compiled source: its layout of a tree, its word tests and its keyword table.
+//! Calls of the compiled source: its layout of a tree, where its tokens begin in it, its word tests and its keyword table.
 
 use crate::tape::Node;
 
@@ -17,10 +17,12 @@ pub fn format(root: &Node, width: usize, upper: bool, text: &str) -> String {
 mod present {
     use crate::formatter::{format, FormatConfig};
     use crate::formatter_opened::format_node;
-    use crate::kinds::VALUES;
+    use crate::kinds::{RECORDED_VALUES, VALUES};
     use crate::lexer::token::Token;
     use crate::parser::syntax_tree::{SyntaxChild, SyntaxTree};
     use crate::tape::{Child, Node};
+    use recorder::tree::{Numbered, SyntaxTree as RecordedTree};
+    use recorder::Recorder;
 
     /// The source's own tree.
     pub type Tree = SyntaxTree;
@@ -44,6 +46,27 @@ mod present {
     /// The source's `format` of its own tree.
     pub fn format_tree(tree: &Tree, width: usize, upper: bool, text: &str) -> String {
         format(tree, &FormatConfig { indent_width: width, uppercase_keywords: upper }, text)
+    }
+
+    /// What the recorder's walk of the source's routines returns, and for each token the offset at which its bytes begin before trimming,
+    /// if it is written.
+    pub fn recorded(root: &Node, width: usize, upper: bool, text: &str) -> (String, Vec<Option<usize>>) {
+        let mut recorder = Recorder::default();
+        let tree = recorded_tree(root, &mut recorder);
+        let recorded = recorder.record(&tree, width, upper, text);
+        (recorded.output, recorded.starts)
+    }
+
+    fn recorded_tree(node: &Node, recorder: &mut Recorder) -> RecordedTree {
+        let children = node.children.iter().map(|child| recorded_child(child, recorder)).collect();
+        recorder.tree(RECORDED_VALUES[usize::from(node.kind)], node.start, node.end, children)
+    }
+
+    fn recorded_child(child: &Child, recorder: &mut Recorder) -> Numbered {
+        match child {
+            Child::Token(t) => recorder.token(RECORDED_VALUES[usize::from(t.kind)], t.start, t.end),
+            Child::Node(node) => Recorder::child(recorded_tree(node, recorder)),
+        }
     }
 
     /// The name and number that the source itself gives the kind of this number.
@@ -95,6 +118,10 @@ mod absent {
     }
 
     pub fn format_tree(_tree: &Tree, _width: usize, _upper: bool, _text: &str) -> String {
+        panic!("{HINT}")
+    }
+
+    pub fn recorded(_root: &Node, _width: usize, _upper: bool, _text: &str) -> (String, Vec<Option<usize>>) {
         panic!("{HINT}")
     }
 
