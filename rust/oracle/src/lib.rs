@@ -1,6 +1,7 @@
 //! The oracle: answers to calls and jobs by documents 01 and 02, with the layout made by the original Rust source.
 //!
-//! `answers::answer` answers a call, `words::answer` a word, `job::printed` a job, and `cases::make` makes inputs for all.
+//! `answers::answer` answers a call, `map::answer` one that maps its tokens, `words::answer` a word, `job::printed` a job, and
+//! `cases::make` makes inputs for all.
 
 pub mod answers;
 pub mod arms;
@@ -10,6 +11,7 @@ pub mod coverage;
 pub mod edit;
 pub mod job;
 pub mod kinds;
+pub mod map;
 pub mod masking;
 pub mod random;
 pub mod source;
