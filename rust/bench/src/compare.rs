@@ -33,6 +33,7 @@ pub fn compare(seed: u64, class: Class, index: u64) -> Result<(), String> {
         Made::Pair(pair) => masked(&pair),
         Made::Word(bytes) => same_word(&bytes),
         Made::Job(_) => panic!("a job is no call"),
+        Made::MapCall(_) | Made::MapPair(_) => panic!("a map call is not compared yet"),
     }
     .map_err(differs)
 }

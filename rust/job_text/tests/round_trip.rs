@@ -25,6 +25,8 @@ fn jobs(class: Class, index: u64) -> Vec<Vec<u8>> {
         Made::Pair(pair) => [0, 1].map(|which| write(&pair.case(which))).to_vec(),
         Made::Job(job) => vec![job],
         Made::Word(_) => panic!("a word is no job"),
+        Made::MapCall(case) => vec![write(&case.call)],
+        Made::MapPair(pair) => [0, 1].map(|which| write(&pair.calls.case(which))).to_vec(),
     }
 }
 

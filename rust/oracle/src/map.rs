@@ -75,7 +75,13 @@ pub fn laid_out(call: &Case) -> Result<Layout, Answer> {
     read(call).map(|(text, root)| Layout::of(text, &root, call))
 }
 
-/// The numbers of two for each token that the map space needs; none where the call is refused before.
+/// The call with both spaces as long as it needs; of nothing where it is refused before.
+pub fn with_exact_spaces(call: Case) -> MapCase {
+    let (bytes, numbers) = laid_out(&call).map_or((0, 0), |layout| (layout.output.len(), 2 * layout.places.len()));
+    MapCase { call: Case { space: vec![0; bytes], ..call }, map: vec![0; numbers] }
+}
+
+/// The count of numbers that the map space needs, two for each token; none where the call is refused before.
 pub fn needed(call: &Case) -> Option<usize> {
     read(call).ok().map(|(_, root)| 2 * tokens(&root).len())
 }

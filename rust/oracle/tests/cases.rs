@@ -7,6 +7,7 @@ use oracle::cases::{call, make, Class, Made};
 use oracle::edit::{kind_at, span_at, span_commands, text_at};
 use oracle::job::printed;
 use oracle::kinds::{self, BARE_WORD, TOKENS};
+use oracle::map::MapCase;
 use oracle::random::Random;
 use oracle::tape::{command_places, CLOSE, MOST_BYTES, MOST_OPEN, OPEN, TOKEN};
 use oracle::text::{accepted, first_ill_formed, is_white_space, table, WHITE_SPACE};
@@ -318,6 +319,10 @@ fn the_first_cases_are_the_ones_they_always_were() {
         1_106_184_582_570_739_320,
         6_201_839_075_419_040_035,
         13_479_420_962_885_586_760,
+        17_165_747_131_713_380_352,
+        3_950_505_699_754_599_138,
+        9_951_125_735_200_283_694,
+        4_758_170_455_706_926_525,
     ];
     assert_eq!(sums, expected);
 }
@@ -328,7 +333,14 @@ fn bytes_of(made: Made) -> Vec<u8> {
         Made::Job(bytes) | Made::Word(bytes) => bytes,
         Made::Call(case) => call_bytes(&case),
         Made::Pair(pair) => [call_bytes(&pair.case(0)), call_bytes(&pair.case(1))].concat(),
+        Made::MapCall(case) => map_call_bytes(&case),
+        Made::MapPair(pair) => [map_call_bytes(&pair.case(0)), map_call_bytes(&pair.case(1))].concat(),
     }
+}
+
+fn map_call_bytes(case: &MapCase) -> Vec<u8> {
+    let map: Vec<u8> = case.map.iter().flat_map(|number| number.to_le_bytes()).collect();
+    [call_bytes(&case.call), map].concat()
 }
 
 fn call_bytes(case: &Case) -> Vec<u8> {

@@ -4,8 +4,9 @@ mod common;
 
 use command_line::rules;
 use oracle::answers::answer;
-use oracle::cases::{call, Class};
+use oracle::cases::{call, map_call, Class};
 use oracle::stored::{self, names, Record};
+use oracle::{arms, job, map};
 use std::process::Output;
 
 const PROGRAM: &str = env!("CARGO_BIN_EXE_oracle");
@@ -37,6 +38,7 @@ fn a_bad_call_gets_a_message_and_status_2() {
     assert_bad_call(&["arms", "parser"], "usage: oracle");
     assert_bad_call(&["stored", "file"], "usage: oracle");
     assert_bad_call(&["words", "file"], "usage: oracle");
+    assert_bad_call(&["map", "file"], "usage: oracle");
     assert_bad_call(&["source", "file"], "usage: oracle");
 }
 
@@ -103,6 +105,30 @@ fn a_job_is_answered_on_standard_output() {
 }
 
 #[test]
+fn a_job_is_mapped_token_by_token() {
+    needs_source!();
+    let output = oracle(&["map"], &job::write(&common::call(common::sheet_b)));
+    assert!(output.status.success());
+    let text = String::from_utf8(output.stdout).unwrap();
+    let shown = "map space 18 numbers
+mapped 0 27
+space after: \"SELECT\\n    a,\\n    b\\nFROM t\\n\"
+map after:
+  line 1, column 1: BareWord 0 to 6 \"select\"
+  line 0, column 0: Whitespace 6 to 7 \" \"
+  line 2, column 5: BareWord 7 to 8 \"a\"
+  line 2, column 6: Comma 8 to 9 \",\"
+  line 3, column 5: BareWord 9 to 10 \"b\"
+  line 0, column 0: Whitespace 10 to 11 \" \"
+  line 4, column 1: BareWord 11 to 15 \"from\"
+  line 0, column 0: Whitespace 15 to 16 \" \"
+  line 4, column 6: BareWord 16 to 17 \"t\"
+";
+    assert!(text.ends_with(shown), "{text}");
+    assert_eq!(oracle(&["map"], b"").stdout, b"mapped 14 0\n");
+}
+
+#[test]
 fn each_class_prints_its_case_and_answer() {
     needs_source!();
     for (class, part) in [
@@ -119,6 +145,10 @@ fn each_class_prints_its_case_and_answer() {
         ("utf8-masked", "claim: Ok"),
         ("utf8-limits", "measured "),
         ("words", "answered "),
+        ("map", "mapped "),
+        ("map-damaged", "mapped "),
+        ("map-masked", "claim of the map: Ok"),
+        ("map-limits", "mapped "),
     ] {
         let output = oracle(&["case", "1", class, "10"], b"");
         assert!(output.status.success(), "{class}");
@@ -138,6 +168,8 @@ fn vectors_are_the_calls_a_line_each() {
     for (class, names) in [
         ("small", vec!["small 7", "small 8"]),
         ("masked", vec!["masked 7 first", "masked 7 second", "masked 8 first", "masked 8 second"]),
+        ("map", vec!["map 7", "map 8"]),
+        ("map-masked", vec!["map-masked 7 first", "map-masked 7 second", "map-masked 8 first", "map-masked 8 second"]),
     ] {
         let lines = lines(&["vectors", "1", class, "7", "2"]);
         let firsts: Vec<&str> = lines.iter().filter_map(|line| line.split('\t').next()).collect();
@@ -148,12 +180,36 @@ fn vectors_are_the_calls_a_line_each() {
     assert_bad_call(&["vectors", "1", "words", "7", "2"], "words makes no calls");
 }
 
+fn bytes(field: &str) -> Vec<u8> {
+    field.split_whitespace().map(|byte| u8::from_str_radix(byte, 16).unwrap()).collect()
+}
+
+fn decimal(field: &str) -> Vec<u64> {
+    field.split_whitespace().map(|number| number.parse().unwrap()).collect()
+}
+
+#[test]
+fn a_vector_of_a_map_call_holds_the_call_and_its_answer() {
+    needs_source!();
+    for (index, line) in lines(&["vectors", "1", "map", "0", "40"]).iter().enumerate() {
+        let case = map_call(1, Class::Map, index as u64);
+        let mapped = map::answer(&case);
+        let arms = Some(arms::taken(&case.call)).filter(|_| mapped.answer.number == 0).unwrap_or_default();
+        let arms: Vec<String> = arms.into_iter().collect();
+        let fields: Vec<&str> = line.split('\t').collect();
+        assert_eq!(fields.len(), 11);
+        assert_eq!(fields[1..3], [case.call.width.to_string(), case.call.case.to_string()]);
+        let spaces = [case.call.text, case.call.tape, case.call.space, mapped.space];
+        assert_eq!([3, 4, 5, 8].map(|field| bytes(fields[field])), spaces);
+        assert_eq!([6, 9].map(|field| decimal(fields[field])), [case.map, mapped.map]);
+        assert_eq!(fields[7], format!("{} {}", mapped.answer.number, mapped.answer.second));
+        assert_eq!(fields[10], arms.join(";"), "only a layout that is written shows arms");
+    }
+}
+
 #[test]
 fn a_vector_holds_the_call_and_its_answer() {
     needs_source!();
-    let bytes = |field: &str| -> Vec<u8> {
-        field.split_whitespace().map(|byte| u8::from_str_radix(byte, 16).unwrap()).collect()
-    };
     for (index, line) in lines(&["vectors", "1", "small", "0", "20"]).iter().enumerate() {
         let case = call(1, Class::Small, index as u64);
         let answered = answer(&case);

@@ -3,6 +3,7 @@
 mod damaged;
 mod jobs;
 mod limits;
+mod map;
 mod masked;
 mod query;
 mod small;
@@ -13,6 +14,7 @@ mod words;
 pub use utf8::characters::listed as characters;
 
 use crate::answers::{formatted, Case};
+use crate::map::{MapCase, MapPair};
 use crate::masking::Pair;
 use crate::random::Random;
 
@@ -44,10 +46,18 @@ pub enum Class {
     Utf8Limits,
     /// Words for the test of a word: entries of the list, what is near them, any bytes.
     Words,
+    /// Good map calls: those of the other classes, and ones about what the map tells apart.
+    Map,
+    /// Map calls with one or more faults.
+    MapDamaged,
+    /// Two texts and one tape under the masking rule, lent the same spaces.
+    MapMasked,
+    /// Map calls with both spaces about the needed lengths, and the most tokens, lines and columns.
+    MapLimits,
 }
 
 impl Class {
-    pub const ALL: [(&'static str, Class); 13] = [
+    pub const ALL: [(&'static str, Class); 17] = [
         ("parser", Class::Parser),
         ("wild", Class::Wild),
         ("damaged", Class::Damaged),
@@ -61,6 +71,10 @@ impl Class {
         ("utf8-masked", Class::Utf8Masked),
         ("utf8-limits", Class::Utf8Limits),
         ("words", Class::Words),
+        ("map", Class::Map),
+        ("map-damaged", Class::MapDamaged),
+        ("map-masked", Class::MapMasked),
+        ("map-limits", Class::MapLimits),
     ];
 
     pub fn named(name: &str) -> Option<Class> {
@@ -74,6 +88,8 @@ pub enum Made {
     Job(Vec<u8>),
     Pair(Pair),
     Word(Vec<u8>),
+    MapCall(MapCase),
+    MapPair(MapPair),
 }
 
 /// The case of this seed, class and index.
@@ -93,6 +109,10 @@ pub fn make(seed: u64, class: Class, index: u64) -> Made {
         Class::Utf8Masked => Made::Pair(utf8::masked::make(&mut random)),
         Class::Utf8Limits => Made::Call(utf8::limits::make(&mut random, index)),
         Class::Words => Made::Word(words::make(&mut random)),
+        Class::Map => Made::MapCall(map::make(&mut random, index)),
+        Class::MapDamaged => Made::MapCall(map::damaged(&mut random)),
+        Class::MapMasked => Made::MapPair(map::masked::make(&mut random)),
+        Class::MapLimits => Made::MapCall(map::limits::make(&mut random, index)),
     }
 }
 
@@ -101,6 +121,14 @@ pub fn call(seed: u64, class: Class, index: u64) -> Case {
     match make(seed, class, index) {
         Made::Call(case) => case,
         _ => panic!("{class:?} makes no single calls"),
+    }
+}
+
+/// The map call of this seed, class and index; for the classes that make map calls.
+pub fn map_call(seed: u64, class: Class, index: u64) -> MapCase {
+    match make(seed, class, index) {
+        Made::MapCall(case) => case,
+        _ => panic!("{class:?} makes no single map calls"),
     }
 }
 
