@@ -424,6 +424,8 @@ fn a_map_needs_two_numbers_for_each_token_command() {
     needs_source!();
     for call in good_calls(2_000) {
         let commands = command_places(&call.tape).into_iter().filter(|place| call.tape[*place] == TOKEN);
-        assert_eq!(map::needed(&call), Some(2 * commands.count()));
+        let count = commands.count();
+        assert_eq!(map::needed(&call), Some(2 * count));
+        assert_eq!(laid_out(&call).expect("an accepted call").places.len(), count);
     }
 }
