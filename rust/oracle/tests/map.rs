@@ -339,6 +339,11 @@ fn every_other_refusal_comes_first_and_leaves_both_spaces() {
     needs_source!();
     let good = tokens_over("a", "File", &[("Number", 0, 1)]);
     let cut = |length: usize| good.tape[..length].to_vec();
+    let opened = |kind: u16| {
+        let mut tape = Vec::new();
+        push_open(&mut tape, kind, 0, 0);
+        tape
+    };
     let bare_word = tokens_over("é", "File", &[("BareWord", 0, 2)]);
     let inside = tokens_over("é", "File", &[("Number", 0, 1)]);
     for (call, number, place) in [
@@ -349,6 +354,8 @@ fn every_other_refusal_comes_first_and_leaves_both_spaces() {
         (Case { tape: vec![3; 262_145], ..good.clone() }, 5, 0),
         (Case { tape: vec![4], ..good.clone() }, 6, 0),
         (Case { tape: cut(21), ..good.clone() }, 7, 11),
+        (Case { tape: opened(kinds::COUNT), ..good.clone() }, 8, 0),
+        (Case { tape: opened(kinds::number("SetStatement")), ..good.clone() }, 9, 0),
         (Case { text: Vec::new(), ..good.clone() }, 10, 11),
         (plain(b"", nested_files(65)), 11, 704),
         (Case { tape: cut(22), ..good.clone() }, 12, 22),

@@ -51,6 +51,11 @@ fn is_left_out(met: &Met) -> bool {
     is_kind(met.token.kind, "Whitespace") || is_semicolon
 }
 
+/// Whether a token gets 0 and 0 whatever is trimmed.
+fn is_never_placed(met: &Met) -> bool {
+    met.token.start == met.token.end || met.is_below_a_copy || is_left_out(met)
+}
+
 fn sign(kind: u16) -> Option<u8> {
     let signs = [
         ("Comma", b','),
@@ -176,7 +181,7 @@ fn at_a_token_s_place_stands_its_text_or_its_sign() {
         let text = accepted(&call.text);
         for (met, place) in met(&root, false).iter().zip(&layout.places) {
             let own = &text[met.token.start as usize..met.token.end as usize];
-            let is_never_placed = own.is_empty() || met.is_below_a_copy || is_left_out(met);
+            let is_never_placed = is_never_placed(met);
             let is_lost = own.chars().all(is_white_space);
             match place {
                 Some(place) => {
@@ -197,6 +202,28 @@ fn places_rise_from_token_to_token() {
         let places: Vec<usize> = laid_out(&call).expect("an accepted call").places.into_iter().flatten().collect();
         assert!(places.windows(2).all(|two| two[0] < two[1]), "index {index}: {places:?}");
     }
+}
+
+/// A written token without a place comes after all that have one, and no place is that of the newline that `finish` adds.
+#[test]
+fn trimming_takes_tokens_at_the_end_alone() {
+    needs_source!();
+    let mut lost = 0;
+    for (index, call) in good_calls(8_000).enumerate() {
+        let (root, layout) = (tree(&call), laid_out(&call).expect("an accepted call"));
+        let all = met(&root, false);
+        let last = layout.places.iter().rposition(Option::is_some);
+        for (number, met) in all.iter().enumerate().filter(|(_, met)| !is_never_placed(met)) {
+            match layout.places[number] {
+                Some(place) => assert!(place < layout.output.len() - 1, "index {index}, {:?}", met.token),
+                None => {
+                    lost += 1;
+                    assert!(last.is_none_or(|last| last < number), "index {index}, {:?}", met.token);
+                }
+            }
+        }
+    }
+    assert!(lost > 500, "{lost} tokens");
 }
 
 /// A token that shares no byte with another token or a copied node, and whose text the output has once, is where a search finds it.
