@@ -196,6 +196,15 @@ fn after_a_text_that_ends_in_a_newline_the_next_token_is_in_column_1() {
     assert_map(&call, "a\nb\n", &[[1, 1], [2, 1]]);
 }
 
+/// A newline stands at the end of the line that it ends.
+#[test]
+fn a_text_that_begins_with_a_newline_begins_on_the_line_before() {
+    needs_source!();
+    let call = tokens_over("7\n8", "QualifiedName", &[("Number", 0, 1), ("Number", 1, 3), ("Number", 2, 3)]);
+    assert_map(&call, "7\n88\n", &[[1, 1], [1, 2], [2, 2]]);
+    assert_map(&tokens_over("\n8", "QualifiedName", &[("Number", 0, 2)]), "\n8\n", &[[1, 1]]);
+}
+
 #[test]
 fn a_changed_case_keeps_the_place() {
     needs_source!();
@@ -238,16 +247,16 @@ fn a_sign_over_white_text_has_the_sign_s_place() {
 fn a_token_that_loses_all_its_bytes_gets_0_and_0() {
     needs_source!();
     let spans = [("Number", 0, 1), ("Number", 1, 3), ("Number", 3, 6), ("Number", 0, 0), ("Comment", 1, 2)];
-    assert_map(&tokens_over("7 \n\u{3000}", "ColumnReference", &spans[..1]), "7\n", &[[1, 1]]);
+    assert_map(&tokens_over("7 \n\u{3000}", "QualifiedName", &spans[..1]), "7\n", &[[1, 1]]);
     let lost = [[1, 1], [0, 0], [0, 0], [0, 0], [0, 0]];
-    assert_map(&tokens_over("7 \n\u{3000}", "ColumnReference", &spans), "7\n", &lost);
+    assert_map(&tokens_over("7 \n\u{3000}", "QualifiedName", &spans), "7\n", &lost);
 }
 
 /// The newline that `finish` adds stands where the lost token's first byte stood, and belongs to nobody.
 #[test]
 fn the_newline_at_the_end_belongs_to_no_token() {
     needs_source!();
-    let call = tokens_over("7\n", "ColumnReference", &[("Number", 0, 1), ("Number", 1, 2)]);
+    let call = tokens_over("7\n", "QualifiedName", &[("Number", 0, 1), ("Number", 1, 2)]);
     assert_map(&call, "7\n", &[[1, 1], [0, 0]]);
 }
 
