@@ -1,12 +1,14 @@
 //! One call of the port held to the oracle: both numbers of both answers, and every byte of the output space and of the margins around it.
 
+pub mod map;
+
 use crate::{layout, measure, word};
 use oracle::answers::{accepted_tree, answer, formatted, Answer, Answered, Case};
 use oracle::cases::{make, Class, Made};
 use oracle::masking::{claim, Pair};
 use oracle::words;
 
-/// The classes whose cases are calls.
+/// The classes whose cases are calls that the library has.
 pub const CLASSES: [Class; 12] = [
     Class::Parser,
     Class::Wild,
@@ -22,7 +24,7 @@ pub const CLASSES: [Class; 12] = [
     Class::Words,
 ];
 
-/// Bytes before and after the output space that no call may touch.
+/// The cells before and after a space that no call may touch.
 const MARGIN: usize = 16;
 
 /// The case of this seed, class and index on both sides; the error says what differs.
@@ -33,7 +35,7 @@ pub fn compare(seed: u64, class: Class, index: u64) -> Result<(), String> {
         Made::Pair(pair) => masked(&pair),
         Made::Word(bytes) => same_word(&bytes),
         Made::Job(_) => panic!("a job is no call"),
-        Made::MapCall(_) | Made::MapPair(_) => panic!("a map call is not compared yet"),
+        Made::MapCall(_) | Made::MapPair(_) => panic!("the library has no map call yet"),
     }
     .map_err(differs)
 }
@@ -43,11 +45,20 @@ fn call(case: &Case) -> Result<(), String> {
     let expected = answer(case).measured;
     equal("measuring", measure(&case.text, &case.tape, case.width, case.case), expected)?;
     in_space(case)?;
-    let needed = formatted(case).map_or(5, |output| output.len());
-    for length in [needed, needed.saturating_sub(1), needed + 5, 0] {
+    for length in about(needed_bytes(case)) {
         in_space(&Case { space: pattern(length), ..case.clone() })?;
     }
     Ok(())
+}
+
+/// The bytes that a call needs; a refused one gets a few.
+fn needed_bytes(case: &Case) -> usize {
+    formatted(case).map_or(5, |output| output.len())
+}
+
+/// The lengths of a space that are tried: as needed, one less, five more, none.
+fn about(needed: usize) -> [usize; 4] {
+    [needed, needed.saturating_sub(1), needed + 5, 0]
 }
 
 /// The port's answer for a word, which is the oracle's.
@@ -79,14 +90,36 @@ pub fn answered(case: &Case) -> Result<Answered, String> {
 
 /// What laying out answers, and the space afterwards.
 fn laid_out(case: &Case) -> Result<(Answer, Vec<u8>), String> {
-    let margin = pattern(MARGIN);
-    let mut memory = [&margin[..], &case.space, &margin].concat();
-    let end = MARGIN + case.space.len();
-    let got = layout(&case.text, &case.tape, case.width, case.case, &mut memory[MARGIN..end]);
-    if memory[..MARGIN] != margin[..] || memory[end..] != margin[..] {
-        return Err(format!("the margins of a space of {} bytes", case.space.len()));
+    let mut space = Lent::new(&case.space, pattern(MARGIN));
+    let got = layout(&case.text, &case.tape, case.width, case.case, space.cells());
+    space.returned("bytes").map(|space| (got, space))
+}
+
+/// A space that a call is lent, between two margins.
+struct Lent<T> {
+    memory: Vec<T>,
+    margin: Vec<T>,
+}
+
+impl<T: Clone + PartialEq> Lent<T> {
+    fn new(space: &[T], margin: Vec<T>) -> Lent<T> {
+        Lent { memory: [&margin[..], space, &margin].concat(), margin }
     }
-    Ok((got, memory[MARGIN..end].to_vec()))
+
+    /// The space without the margins.
+    fn cells(&mut self) -> &mut [T] {
+        let (start, end) = (self.margin.len(), self.memory.len() - self.margin.len());
+        &mut self.memory[start..end]
+    }
+
+    /// The space afterwards; the error is that a margin was touched.
+    fn returned(mut self, cells: &str) -> Result<Vec<T>, String> {
+        let space = self.cells().to_vec();
+        if self.memory.starts_with(&self.margin) && self.memory.ends_with(&self.margin) {
+            return Ok(space);
+        }
+        Err(format!("the margins of a space of {} {cells}", space.len()))
+    }
 }
 
 fn equal(what: &str, got: Answer, expected: Answer) -> Result<(), String> {
