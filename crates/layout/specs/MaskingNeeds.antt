@@ -153,9 +153,19 @@ pairs =
     ∷ pair noWhiteSpaceEnd (bytes "ab ") (bytes "a  ") Kinds.ColumnReference (tok Kinds.StringToken 0 3 done)
     ∷ []
 
--- a text that 4 refuses, where all else holds
+-- that 4 and 15 let both texts pass is needed: pairs of which one refuses a text, where all else holds. That 16 does follows from the others: it looks at
+-- words outside quotes, and a byte that differs there breaks `inQuotes`
 unfoldable pub refusedByFour : Pair
 refusedByFour = record { first = 39 ∷ 200 ∷ 39 ∷ []; second = bytes "'a'"; tape = tapeOf (root Kinds.ColumnReference 0 2 (tok Kinds.StringToken 0 3 done)) }
+
+-- a node begins within the quotes: at a character in one text, inside one in the other
+unfoldable pub refusedByFifteen : Pair
+refusedByFifteen =
+    record {
+      first = bytes "'ab'";
+      second = 39 ∷ 195 ∷ 169 ∷ 39 ∷ [];
+      tape = tapeOf (root Kinds.ColumnReference 0 2 (tok Kinds.StringToken 0 4 (nod Kinds.ColumnReference 2 2 done done)));
+    }
 
 abbrev pub passNeeded : Pair → Bool
 passNeeded x = ofTree (allHold (λ c. false) (x .first) (x .second) conditions) (readTree (length (x .first)) (x .tape)) && not (claimed x)

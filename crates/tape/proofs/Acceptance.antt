@@ -141,8 +141,3 @@ same-reading width case a b tape e u v =
     go false false false false n Nowhere (At q) k u v = absurd (false≢true v)
     go false false false false true Nowhere Nowhere k u v = refl
     go false false false false false Nowhere Nowhere k u v = length-alone (testsOf a) tape u ∙ ap (λ n. readTree n tape) e ∙ sym (length-alone (testsOf b) tape v)
-
--- so are two ASCII texts
-pub same-ascii-reading : (width case : ℕ) (a b tape : List ℕ) → length a ≡ length b → isAscii a ≡ true → isAscii b ≡ true
-    → readCall width case a tape ≡ readCall width case b tape
-same-ascii-reading width case a b tape e u v = same-reading width case a b tape e (ascii-passes a u width case tape) (ascii-passes b v width case tape)

@@ -190,8 +190,8 @@ fn is_in_case(keywords: &[u8; TABLE_LENGTH], text: &[u8], casing: Casing) -> boo
     }
 }
 
-// So many blanks and a text from offset `at` on, in upper or lower case where that is wanted. Where nothing is written any more the case does not
-// matter, and the list is not looked at. The answer is that of `put`. A text that is handed on as `&text[..]` stays in registers.
+// So many blanks and a text from offset `at` on, in upper or lower case where that is wanted. The answer is that of `put`. A text that is handed on as
+// `&text[..]` stays in registers.
 fn put_any(
     out: &mut [u8],
     at: usize,
@@ -204,16 +204,14 @@ fn put_any(
     requires { ⌜ (at + blanks < 2 ^ 64) × (now keywords ≡ table) ⌝ }
     ensures { λ r. ⌜ PutText at blanks (now (text .entry)) (inCase casing (now (text .entry))) uppercase (now (out .entry)) r (now (out .exit)) ⌝ }
 {
-    if out.len() <= at {
-        return trimmed_length(&text[..]);
-    }
     if is_in_case(keywords, &text[..], casing) {
         return put_in_case(out, at, blanks, uppercase, &text[..]);
     }
     put(out, at, blanks, &text[..])
 }
 
-// The same. Most texts are short and as typed, and are written or measured here, where few registers are needed and none is saved.
+// The same. Where nothing is written any more the case does not matter, and the list is not looked at. Most texts are short and as typed, and are written
+// or measured here, where few registers are needed and none is saved.
 fn put_text(
     out: &mut [u8],
     at: usize,

@@ -1,14 +1,7 @@
 -- `put_any` meets its contract.
-use Rattle.tokens.proofs.Runs.{full-put}
 use borrow.Author.Needs.{needs}
 use Rattle.tokens.proofs.put_any.Statement.{statement}
 use Rattle.tokens.proofs.put_any.Tie as tie
-
-trimmed-length-requires : tie.Need-trimmed-length-requires
-trimmed-length-requires c κs = search needs
-
-returns : tie.Need-returns
-returns c = record { left = c .trimmed-length .ensures; written = full-put _ _ _ _ _ (c .before .if1 .taken) }
 
 is-in-case-requires : tie.Need-is-in-case-requires
 is-in-case-requires c κs = search needs
@@ -19,8 +12,8 @@ put-in-case-requires c κs = search needs
 same-length : tie.Need-same-length
 same-length c = search needs
 
-returns-2 : tie.Need-returns-2
-returns-2 c = record { left = c .before .before .put-in-case .ensures .0; written = rw (← (c .before .before .before .before .before .is-in-case .ensures), c .before .before .before .before .if2 .taken) (c .before .before .put-in-case .ensures .1) }
+returns : tie.Need-returns
+returns c = record { left = c .before .before .put-in-case .ensures .0; written = rw (← (c .before .before .before .before .before .is-in-case .ensures), c .before .before .before .before .if1 .taken) (c .before .before .put-in-case .ensures .1) }
 
 put-requires : tie.Need-put-requires
 put-requires c κs = search needs
@@ -28,19 +21,17 @@ put-requires c κs = search needs
 same-length-2 : tie.Need-same-length-2
 same-length-2 c = search needs
 
-returns-3 : tie.Need-returns-3
-returns-3 c = record { left = c .before .before .put .ensures .0; written = rw (← (c .before .before .before .before .before .is-in-case .ensures), c .before .before .before .before .if2 .left) (c .before .before .put .ensures .1) }
+returns-2 : tie.Need-returns-2
+returns-2 c = record { left = c .before .before .put .ensures .0; written = rw (← (c .before .before .before .before .before .is-in-case .ensures), c .before .before .before .before .if1 .left) (c .before .before .put .ensures .1) }
 
 pub put-any-spec : {M : Type 1} → statement M
 put-any-spec =
     tie.close
     (tie.spec
-    trimmed-length-requires
-    returns
     is-in-case-requires
     put-in-case-requires
     same-length
-    returns-2
+    returns
     put-requires
     same-length-2
-    returns-3)
+    returns-2)
