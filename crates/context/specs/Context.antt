@@ -9,10 +9,11 @@ use Rattle.context.specs.Cells.{Cell, bytesOf, fresh, cellInCase, count}
 use Rattle.context.specs.declared.FormatConfig.{FormatConfig}
 use Rattle.context.specs.declared.State.{State}
 
--- what one call writes: what is put before its text, and the text
+-- what one call writes: what is put before its text, and the text; whether the text is a token's
 pub record Piece : Type 0 where
   pub lead : List Cell
   pub body : List Cell
+  pub token : Bool
 
 -- the next state, and what was written
 abbrev pub Step : Type 0
@@ -40,7 +41,7 @@ afterWrite lineStart s =
     }
 
 unfoldable pub writeNewline : State → Step
-writeNewline s = (afterWrite true s, record { lead = []; body = fresh 10 ∷ [] })
+writeNewline s = (afterWrite true s, record { lead = []; body = fresh 10 ∷ []; token = false })
 
 abbrev pub writeIndent : FormatConfig → State → List Cell
 writeIndent config s = replicate (s .«indent_level» * config .«indent_width») (fresh 32)
@@ -50,7 +51,7 @@ unfoldable pub lead : FormatConfig → State → List Cell
 lead config s = cond (s .«at_line_start») (writeIndent config s) (cond (s .«needs_space») (fresh 32 ∷ []) [])
 
 unfoldable pub writeToken : FormatConfig → List Cell → State → Step
-writeToken config text s = (afterWrite false s, record { lead = lead config s; body = text })
+writeToken config text s = (afterWrite false s, record { lead = lead config s; body = text; token = true })
 
 unfoldable pub writeKeyword : FormatConfig → List Cell → State → Step
 writeKeyword config text s = writeToken config (map (cellInCase (config .«uppercase_keywords»)) text) s
@@ -111,7 +112,7 @@ abbrev pub endsInNewline : List ℕ → Bool
 endsInNewline bs = eqb (lastByte bs) 10
 
 unfoldable pub writeRaw : List Cell → State → Step
-writeRaw text s = (afterWrite (endsInNewline (bytesOf text)) s, record { lead = []; body = text })
+writeRaw text s = (afterWrite (endsInNewline (bytesOf text)) s, record { lead = []; body = text; token = false })
 
 -- without the white-space characters at the end
 unfoldable pub trimEnd : List Cell → List Cell

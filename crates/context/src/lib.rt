@@ -3,6 +3,8 @@
 mod buffer;
 
 pub use buffer::copy;
+pub use buffer::is_plain;
+pub use buffer::is_short_plain;
 pub use buffer::put;
 pub use buffer::put_in_case;
 pub use buffer::put_short;
@@ -26,8 +28,8 @@ ghost use Rattle.context.specs.Context.{
   writeSpace,
   writeToken,
 };
-ghost use Rattle.utf8.specs.Trimming.{trimmedAfter};
-ghost use Rattle.context.specs.Store.{Changed, Room, Took, Wrote, advanced, afterText, new, stored};
+ghost use Rattle.utf8.specs.Trimming.{trimmedLength};
+ghost use Rattle.context.specs.Store.{Changed, Room, Took, Wrote, advanced, afterPlain, afterText, markOf, new, positionAfterPlain, stored};
 
 // What the caller sets.
 pub struct FormatConfig {
@@ -46,10 +48,15 @@ pub struct State {
     pub pending_blank_line: bool,
 }
 
-// How many bytes were written, and how many of them are left once the trailing white space is dropped.
+// How many bytes were written, and how many of them are left once the trailing white space is dropped. The line that the next byte stands on, counted
+// from 1, and the offset at which that line begins: a text without a newline changes neither, and the column is what lies between. Where the last
+// token's text began, counted from 1; 0 before the first.
 pub struct Position {
     pub length: usize,
     pub trimmed: usize,
+    pub line: usize,
+    pub line_start: usize,
+    pub token: usize,
 }
 
 pub struct FormatterContext {
@@ -73,7 +80,7 @@ pub fn token_text(source: &[u8], start: usize, end: usize) -> &[u8]
 
 impl State {
     // How many blanks stand before a token. A choice between two numbers, since the machine can't guess which way a test would go.
-    fn lead_blanks(self, config: FormatConfig) -> usize
+    pub fn lead_blanks(self, config: FormatConfig) -> usize
         requires { ⌜ (self .«indent_level» ≤ 2 ^ 20) × (config .«indent_width» ≤ 16) ⌝ }
         ensures { λ r. ⌜ (bytesOf (lead config self) ≡ replicate r 32) × (r ≤ 2 ^ 24) ⌝ }
     {
@@ -94,45 +101,78 @@ impl State {
 }
 
 impl Position {
-    // The position after so many blanks and a text.
-    fn after(self, blanks: usize, text: &[u8]) -> Position
-        requires { ⌜ self .length + blanks + length (now text) < 2 ^ 64 ⌝ }
-        ensures { λ r. ⌜ r ≡ advanced (replicate blanks 32 ++ now (text .entry)) self ⌝ }
+    // The position after so many blanks and a text, j bytes of which are left once its trailing white space is dropped. The last token began at `token`.
+    fn after(self, token: usize, blanks: usize, text: &[u8], j: usize) -> Position
+        requires { ⌜ (self .length + self .line + blanks + length (now text) < 2 ^ 63) × (j ≡ trimmedLength (now text)) ⌝ }
+        ensures { λ r. ⌜ r ≡ advanced token (replicate blanks 32 ++ now (text .entry)) self ⌝ }
     {
         let from = self.length + blanks;
         Position {
             length: from + text.len(),
-            trimmed: buffer::trimmed_after(from, self.trimmed, trimmed_length(text)),
-        }
-    }
-
-    // The same of a text of n bytes, j of which are left once its trailing white space is dropped.
-    fn after_text(self, blanks: usize, n: usize, j: usize) -> Position
-        requires { ⌜ (self .length + blanks + n < 2 ^ 64) × (j ≤ n) ⌝ }
-        ensures { λ r. ⌜ r ≡ record { length = self .length + blanks + n; trimmed = trimmedAfter (self .length + blanks) (self .trimmed) j } ⌝ }
-    {
-        let from = self.length + blanks;
-        Position {
-            length: from + n,
             trimmed: buffer::trimmed_after(from, self.trimmed, j),
+            line: self.line + buffer::count_newlines(text),
+            line_start: buffer::line_start_after(from, self.line_start, text),
+            token: token,
         }
     }
 
-    // The position after so many blanks and a byte.
-    fn after_byte(self, blanks: usize, b: u8) -> Position
+    // Where the last token's text began, after a text of n bytes behind so many blanks: a text of no bytes began nowhere.
+    fn mark(self, blanks: usize, n: usize) -> usize
         requires { ⌜ self .length + blanks + 1 < 2 ^ 64 ⌝ }
-        ensures { λ r. ⌜ r ≡ advanced (replicate blanks 32 ++ (b ∷ [])) self ⌝ }
+        ensures { λ r. ⌜ r ≡ markOf blanks n self ⌝ }
+    {
+        if n == 0 {
+            self.token
+        } else {
+            self.length + blanks + 1
+        }
+    }
+
+    // After a plain text of n bytes that began at `place`, counted from 1.
+    fn after_plain(self, place: usize, n: usize) -> Position
+        requires { ⌜ (0 < place) × (place + n < 2 ^ 64) ⌝ }
+        ensures { λ r. ⌜ r ≡ positionAfterPlain place n self ⌝ }
+    {
+        let end = place - 1 + n;
+        Position {
+            length: end,
+            trimmed: end,
+            line: self.line,
+            line_start: self.line_start,
+            token: place,
+        }
+    }
+
+    // After so many blanks and a byte.
+    fn after_byte(self, token: usize, blanks: usize, b: u8) -> Position
+        requires { ⌜ self .length + self .line + blanks + 1 < 2 ^ 63 ⌝ }
+        ensures { λ r. ⌜ r ≡ advanced token (replicate blanks 32 ++ (b ∷ [])) self ⌝ }
     {
         let end = self.length + blanks + 1;
+        if b == 10 {
+            return Position {
+                length: end,
+                trimmed: self.trimmed,
+                line: self.line + 1,
+                line_start: end,
+                token: token,
+            };
+        }
         if is_white_byte(b) {
             return Position {
                 length: end,
                 trimmed: self.trimmed,
+                line: self.line,
+                line_start: self.line_start,
+                token: token,
             };
         }
         Position {
             length: end,
             trimmed: end,
+            line: self.line,
+            line_start: self.line_start,
+            token: token,
         }
     }
 }
@@ -153,29 +193,39 @@ impl FormatterContext {
             position: Position {
                 length: 0,
                 trimmed: 0,
+                line: 1,
+                line_start: 0,
+                token: 0,
             },
         }
     }
 
-    // How many blanks stand before a token.
-    pub fn lead_blanks(self, config: FormatConfig) -> usize
-        requires { ⌜ (self .state .«indent_level» ≤ 2 ^ 20) × (config .«indent_width» ≤ 16) ⌝ }
-        ensures { λ r. ⌜ (bytesOf (lead config (self .state)) ≡ replicate r 32) × (r ≤ 2 ^ 24) ⌝ }
-    {
-        let s = self.state;
-        s.lead_blanks(config)
-    }
-
-    // What write_token hands back once `put` has written so many blanks and a text of n bytes, and has answered j.
-    pub fn after_text(self, blanks: usize, n: usize, j: usize) -> FormatterContext
-        requires { ⌜ (self .position .length + blanks + n < 2 ^ 64) × (j ≤ n) ⌝ }
-        ensures { λ r. ⌜ r ≡ afterText blanks n j self ⌝ }
+    // What write_token hands back once a plain text of n bytes was written at `place`, counted from 1.
+    pub fn after_plain(self, place: usize, n: usize) -> FormatterContext
+        requires { ⌜ (0 < place) × (place + n < 2 ^ 64) ⌝ }
+        ensures { λ r. ⌜ r ≡ afterPlain place n self ⌝ }
     {
         let s = self.state;
         let p = self.position;
         FormatterContext {
             state: s.after_write(false),
-            position: p.after_text(blanks, n, j),
+            position: p.after_plain(place, n),
+        }
+    }
+
+    // The same once any text was written.
+    pub fn after_text(self, config: FormatConfig, text: &[u8]) -> FormatterContext
+        requires { ⌜ Room 1 self ⌝ }
+        requires { ⌜ (config .«indent_width» ≤ 16) × (length (now text) ≤ 2 ^ 18) ⌝ }
+        ensures { λ r. ⌜ r ≡ afterText config (now (text .entry)) self ⌝ }
+    {
+        let s = self.state;
+        let p = self.position;
+        let blanks = s.lead_blanks(config);
+        let token = p.mark(blanks, text.len());
+        FormatterContext {
+            state: s.after_write(false),
+            position: p.after(token, blanks, text, trimmed_length(text)),
         }
     }
 
@@ -189,7 +239,7 @@ impl FormatterContext {
         buffer::fill_at(out, at, 1, 10);
         FormatterContext {
             state: s.after_write(true),
-            position: p.after_byte(0, 10),
+            position: p.after_byte(p.token, 0, 10),
         }
     }
 
@@ -204,10 +254,7 @@ impl FormatterContext {
         let blanks = s.lead_blanks(config);
         buffer::fill_at(out, at, blanks, 32);
         buffer::copy_at(out, at + blanks, text);
-        FormatterContext {
-            state: s.after_write(false),
-            position: p.after(blanks, text),
-        }
+        self.after_text(config, text)
     }
 
     // write_token of one byte, as of `","`.
@@ -224,7 +271,7 @@ impl FormatterContext {
         buffer::fill_at(out, at + blanks, 1, sign);
         FormatterContext {
             state: s.after_write(false),
-            position: p.after_byte(blanks, sign),
+            position: p.after_byte(at + blanks + 1, blanks, sign),
         }
     }
 
@@ -336,7 +383,7 @@ impl FormatterContext {
         buffer::copy_at(out, at, text);
         FormatterContext {
             state: s.after_write(buffer::ends_in_newline(text)),
-            position: p.after(0, text),
+            position: p.after(p.token, 0, text, trimmed_length(text)),
         }
     }
 }

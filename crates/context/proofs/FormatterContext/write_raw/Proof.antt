@@ -19,6 +19,9 @@ ends-in-newline-requires c κs = search needs
 after-write-requires : tie.Need-after-write-requires
 after-write-requires c κs = search needs
 
+trimmed-length-requires : tie.Need-trimmed-length-requires
+trimmed-length-requires c κs = search needs
+
 after-requires : tie.Need-after-requires
 after-requires c κs = search needs
 
@@ -28,12 +31,12 @@ same-length c = search needs
 returns : tie.Need-returns
 unfolding writeRaw
 returns c =
-    let a = c .before .before .before .before .before .before .before .before .before .before .before .args in
+    let a = c .before .before .before .before .before .before .before .before .before .before .before .before .args in
     let t = a .text .now in
     let s = a .self .state in
     wrote (writeRaw (fixed t) s) t (bytes-fixed t) (a .self) (a .out .now)
-    (c .before .after-write .ensures ∙ ap (λ (b : Bool). afterWrite b s) (c .before .before .ends-in-newline .ensures ∙ ap endsInNewline (sym (bytes-fixed t))))
-    refl (c .after .ensures) (omega arith) (c .before .before .before .before .before .copy-at .ensures)
+    (c .before .before .after-write .ensures ∙ ap (λ (b : Bool). afterWrite b s) (c .before .before .before .ends-in-newline .ensures ∙ ap endsInNewline (sym (bytes-fixed t))))
+    refl (c .after .ensures) (omega arith) (c .before .before .before .before .before .before .copy-at .ensures)
 
 pub write-raw-spec : {M : Type 1} → statement M
 write-raw-spec =
@@ -42,6 +45,7 @@ write-raw-spec =
     copy-at-requires
     ends-in-newline-requires
     after-write-requires
+    trimmed-length-requires
     after-requires
     same-length
     returns)

@@ -1,4 +1,4 @@
--- `context::FormatterContext::write_sign` meets its contract: the blanks and then the sign are one write.
+-- `context::FormatterContext::write_sign` meets its contract.
 use mathlib.Core.Path.{refl}
 use mathlib.Core.List.{[], _∷_}
 use native.Mathlib.Omega.{arith}
@@ -23,6 +23,12 @@ fill-at-requires-2 c κs = search needs
 after-write-requires : tie.Need-after-write-requires
 after-write-requires c κs = search needs
 
+add-after-byte : tie.Need-add-after-byte
+add-after-byte c = search needs
+
+add-after-byte-2 : tie.Need-add-after-byte-2
+add-after-byte-2 c = search needs
+
 after-byte-requires : tie.Need-after-byte-requires
 after-byte-requires c κs = search needs
 
@@ -45,6 +51,8 @@ write-sign-spec =
     add-fill-at
     fill-at-requires-2
     after-write-requires
+    add-after-byte
+    add-after-byte-2
     after-byte-requires
     same-length
     returns)

@@ -1,8 +1,9 @@
--- `context::FormatterContext::write_token` meets its contract: the blanks and then the text are one write.
-use native.Mathlib.Omega.{arith}
-use Rattle.context.specs.Cells.{fixed}
-use Rattle.context.proofs.Bytes.{bytes-fixed}
-use Rattle.context.proofs.Writes.{token-wrote}
+-- `context::FormatterContext::write_token` meets its contract.
+use mathlib.Core.Path.{ap, _∙_}
+use mathlib.Core.List.{List}
+use Prim.Native.Nat.{ℕ, _+_}
+use Rattle.context.specs.Splice.{splice}
+use Rattle.context.proofs.Writes.{token-put}
 use borrow.Author.Needs.{needs}
 use Rattle.context.proofs.FormatterContext.write_token.Statement.{statement}
 use Rattle.context.proofs.FormatterContext.write_token.Tie as tie
@@ -19,22 +20,18 @@ add-copy-at c = search needs
 copy-at-requires : tie.Need-copy-at-requires
 copy-at-requires c κs = search needs
 
-after-write-requires : tie.Need-after-write-requires
-after-write-requires c κs = search needs
-
-after-requires : tie.Need-after-requires
-after-requires c κs = search needs
+after-text-requires : tie.Need-after-text-requires
+after-text-requires c κs = search needs
 
 same-length : tie.Need-same-length
 same-length c = search needs
 
 returns : tie.Need-returns
 returns c =
-    let a = c .before .before .before .before .before .before .before .before .before .before .before .before .before .before .before .args in
-    let t = a .text .now in
-    let b = c .before .before .before .before .before .before .before .before .before .before .lead-blanks in
-    token-wrote (a .config) (fixed t) t (bytes-fixed t) (a .self) (b .result) (b .ensures .0) (a .out .now) (b .ensures .1) (omega arith)
-    (c .before .after-write .ensures) (c .after .ensures) (c .before .before .before .before .before .before .before .before .fill-at .ensures) (c .before .before .before .before .copy-at .ensures)
+    let a = c .before .before .before .before .before .before .before .before .before .before .before .before .before .before .args in
+    let l = c .before .before .before .before .before .before .before .before .before .lead-blanks in
+    token-put (a .config) (a .text .now) (a .self) (l .result) (l .ensures .0) (l .ensures .1) (c .before .before .before .before .before .before .before .before .before .before .before .before .before .before .pre .1 .1) (a .out .now) (c .after-text .ensures)
+    (c .before .before .before .copy-at .ensures ∙ ap (λ (ys : List ℕ). splice (a .self .position .length + l .result) (a .text .now) ys) (c .before .before .before .before .before .before .before .fill-at .ensures))
 
 pub write-token-spec : {M : Type 1} → statement M
 write-token-spec =
@@ -44,7 +41,6 @@ write-token-spec =
     fill-at-requires
     add-copy-at
     copy-at-requires
-    after-write-requires
-    after-requires
+    after-text-requires
     same-length
     returns)

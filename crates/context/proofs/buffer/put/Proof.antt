@@ -16,14 +16,11 @@ add-copy-at c = search needs
 copy-at-requires : tie.Need-copy-at-requires
 copy-at-requires c κs = search needs
 
-trimmed-length-requires : tie.Need-trimmed-length-requires
-trimmed-length-requires c κs = search needs
-
 same-length : tie.Need-same-length
 same-length c = search needs
 
 returns : tie.Need-returns
-returns c = let a = c .before .before .before .before .before .before .before .before .before .before .before .args in (c .trimmed-length .ensures, c .before .before .before .copy-at .ensures ∙ ap (λ (ys : List ℕ). splice (a .at + a .blanks) (a .text .now) ys) (c .before .before .before .before .before .before .before .fill-at .ensures))
+returns c = let a = c .before .before .before .before .before .before .before .before .before .before .args in c .before .before .copy-at .ensures ∙ ap (λ (ys : List ℕ). splice (a .at + a .blanks) (a .text .now) ys) (c .before .before .before .before .before .before .fill-at .ensures)
 
 pub put-spec : {M : Type 1} → statement M
 put-spec =
@@ -32,6 +29,5 @@ put-spec =
     fill-at-requires
     add-copy-at
     copy-at-requires
-    trimmed-length-requires
     same-length
     returns)

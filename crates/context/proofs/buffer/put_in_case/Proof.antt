@@ -17,14 +17,11 @@ add-copy-in-case-at c = search needs
 copy-in-case-at-requires : tie.Need-copy-in-case-at-requires
 copy-in-case-at-requires c κs = search needs
 
-trimmed-length-requires : tie.Need-trimmed-length-requires
-trimmed-length-requires c κs = search needs
-
 same-length : tie.Need-same-length
 same-length c = search needs
 
 returns : tie.Need-returns
-returns c = let a = c .before .before .before .before .before .before .before .before .before .before .before .args in (c .trimmed-length .ensures, c .before .before .before .copy-in-case-at .ensures ∙ ap (λ (ys : List ℕ). splice (a .at + a .blanks) (map (toCase (a .uppercase)) (a .text .now)) ys) (c .before .before .before .before .before .before .before .fill-at .ensures))
+returns c = let a = c .before .before .before .before .before .before .before .before .before .before .args in c .before .before .copy-in-case-at .ensures ∙ ap (λ (ys : List ℕ). splice (a .at + a .blanks) (map (toCase (a .uppercase)) (a .text .now)) ys) (c .before .before .before .before .before .before .fill-at .ensures)
 
 pub put-in-case-spec : {M : Type 1} → statement M
 put-in-case-spec =
@@ -33,6 +30,5 @@ put-in-case-spec =
     fill-at-requires
     add-copy-in-case-at
     copy-in-case-at-requires
-    trimmed-length-requires
     same-length
     returns)

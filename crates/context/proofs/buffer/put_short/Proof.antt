@@ -26,20 +26,15 @@ part-copy-short-end c = search needs
 copy-short-requires : tie.Need-copy-short-requires
 copy-short-requires c κs = search needs
 
-trimmed-length-requires : tie.Need-trimmed-length-requires
-trimmed-length-requires c κs = search needs
-
 same-length : tie.Need-same-length
 same-length c = search needs
 
 returns : tie.Need-returns
 returns c =
-    let a = c .before .before .before .before .before .before .before .before .before .before .before .args in
-    let filled = c .before .before .before .before .before .before .before .fill-at in (
-      c .trimmed-length .ensures,
-      part-back (a .at + a .blanks) (a .text .now) (filled .last .0) (c .before .before .before .copy-short .last .0) (c .before .before .before .copy-short .ensures)
-          ∙ ap (λ (ys : List ℕ). splice (a .at + a .blanks) (a .text .now) ys) (filled .ensures),
-    )
+    let a = c .before .before .before .before .before .before .before .before .before .before .args in
+    let filled = c .before .before .before .before .before .before .fill-at in
+    part-back (a .at + a .blanks) (a .text .now) (filled .last .0) (c .before .before .copy-short .last .0) (c .before .before .copy-short .ensures)
+    ∙ ap (λ (ys : List ℕ). splice (a .at + a .blanks) (a .text .now) ys) (filled .ensures)
 
 pub put-short-spec : {M : Type 1} → statement M
 put-short-spec =
@@ -51,6 +46,5 @@ put-short-spec =
     part-copy-short-start
     part-copy-short-end
     copy-short-requires
-    trimmed-length-requires
     same-length
     returns)
