@@ -40,9 +40,13 @@ module _ (config : FormatConfig) (source : Text) where
   after [] s = s
   after (c ∷ cs) s = after cs ((step config source c s) .0)
 
+  -- the place of the last token's text after calls
+  abbrev pub marked : List Call → Store → ℕ
+  marked cs w = run config source cs w .0 .position .token
+
   -- where each span begins at a character's bound, so that trimming piece by piece is trimming the whole
   pub run-appends : (cs : List Call) (w : Store) → Every (TokenStarts config source) (StartsAt config source) cs
-      → run config source cs w ≡ appended (after cs (w .0 .state)) (bytesOf (written (pieces config source cs (w .0 .state)))) w
+      → run config source cs w ≡ appended (after cs (w .0 .state)) (marked cs w) (bytesOf (written (pieces config source cs (w .0 .state)))) w
   unfolding after pieces written appended Every
   run-appends [] w h = appended-none (w .0 .state) (w .0) (w .1)
   run-appends (c ∷ cs) w h =
@@ -50,8 +54,8 @@ module _ (config : FormatConfig) (source : Text) where
       let s = after cs (r .0) in
       let x = written (pieces config source cs (r .0)) in
       run-appends cs (stored r w) (h .1)
-      ∙ appended-twice s (r .0) (bytesOf (r .1 .lead ++ r .1 .body)) (bytesOf x) w (written-starts config source cs (h .1) (r .0))
-      ∙ ap (λ (l : List ℕ). appended s l w)
+      ∙ appended-twice s (r .0) (marked (c ∷ cs) w) _ (bytesOf (r .1 .lead ++ r .1 .body)) (bytesOf x) w (written-starts config source cs (h .1) (r .0))
+      ∙ ap (λ (l : List ℕ). appended s (marked (c ∷ cs) w) l w)
       (sym (bytes-append (r .1 .lead ++ r .1 .body) x) ∙ ap bytesOf (append-assoc (r .1 .lead) (r .1 .body) x))
 
 -- ── finish

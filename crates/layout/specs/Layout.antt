@@ -1,6 +1,6 @@
 -- What the calls write, and the layout as a whole: `format` of mod.rs.
 use Prim.Native.Nat.{ℕ}
-use mathlib.Core.Bool.{Bool, cond, not, _&&_}
+use mathlib.Core.Bool.{Bool, false, cond, not, _&&_}
 use mathlib.Core.List.{List, [], _∷_, _++_}
 use Rattle.context.specs.Cells.{Text, Cell, fresh, spanCells}
 use Rattle.context.specs.Context.{Piece, Step, newState, writeNewline, writeToken, writeSpace, noteSkippedWhitespace, takePendingNewline, takePendingBlankLine, writeRaw, finish}
@@ -14,7 +14,7 @@ use Rattle.layout.specs.Calls.{Call, putSpacing, actAt, raw, calls}
 
 -- a state, and nothing written
 abbrev pub nothingWritten : State → Step
-nothingWritten s = (s, record { lead = []; body = [] })
+nothingWritten s = (s, record { lead = []; body = []; token = false })
 
 -- a newline where b holds
 abbrev pub newlineIf : Bool → State → Step

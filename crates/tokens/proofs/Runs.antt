@@ -1,26 +1,25 @@
 -- Writes as calls: what a method of the context did is what a call does, and calls in a row.
-use Prim.Native.Nat.{ℕ, _+_, _^_, _≤_, _<_}
+use Prim.Native.Nat.{ℕ, zero, suc, _+_, _^_, _≤_, _<_}
 use native.Mathlib.Omega.{arith}
 use mathlib.Core.Path.{_≡_, refl, sym, ap, _∙_}
-use mathlib.Core.Bool.{Bool, true, false, cond, not, _&&_, false≢true}
+use mathlib.Core.Bool.{Bool, true, false, cond, not, _&&_, _||_, false≢true}
 use mathlib.Core.List.{List, [], _∷_, _++_, map}
 use lib.ListN.{length, getD, replicate}
-use lib.Dec.{eqb}
-use borrow.Author.Tests.{eqb-true, ne-eqb, le-leb, lt-leb}
+use lib.Dec.{eqb, leb}
+use borrow.Author.Tests.{eq-eqb, eqb-true, ne-eqb, le-leb, lt-leb}
 use Rattle.keywords.specs.Words.{isKeyword, isValueKeyword}
 use Rattle.context.specs.Cells.{Text, count, fixed, fresh, bytesOf, tokenText, spanCells, toCase}
-use Rattle.utf8.specs.Trimming.{trimmedLength}
 use Rattle.context.specs.Splice.{splice}
 use Rattle.context.specs.Context.{Step, lead, writeNewline, writeToken, writeSpace, noteSkippedWhitespace, takePendingNewline, takePendingBlankLine, indent, dedent, writeRaw}
 use Rattle.context.specs.Context as context
-use Rattle.context.specs.Store.{Store, advanced, appended, stored, withState, afterText, Wrote, Changed}
+use Rattle.context.specs.Store.{Store, advanced, appended, stored, withState, afterText, afterPlain, Wrote, Changed}
 use Rattle.context.specs.declared.FormatConfig.{FormatConfig}
 use Rattle.context.specs.declared.FormatterContext.{FormatterContext}
 use Rattle.context.specs.declared.State.{State}
 use Rattle.context.proofs.Splicing.{splice-past}
 use Rattle.context.proofs.Bytes.{bytes-span, token-length}
-use Rattle.context.proofs.Writes.{appended-none, spent-none, spent-twice, stored-token, stored-keyword, stored-raw, token-put, keyword-put}
-use Rattle.tape.specs.Kinds.{Whitespace, BareWord}
+use Rattle.context.proofs.Writes.{appended-none, spent-none, spent-twice, stored-token, stored-keyword, stored-raw, plain-after, token-put, keyword-put}
+use Rattle.tape.specs.Kinds.{Whitespace, Comment, BareWord}
 use Rattle.tape.specs.declared.Head.{Head}
 use Rattle.layout.specs.Arms as arms
 use Rattle.layout.specs.Arms.{Spacing, Act, spacing, writeText, writeKeyword, writeSign, Sign, signByte, isRead, seen}
@@ -29,7 +28,7 @@ use Rattle.layout.specs.Calls.{Call, actAt, formatErrorVerbatim}
 use Rattle.layout.specs.Layout.{nothingWritten, doSpacing, step}
 use Rattle.layout.specs.Run.{runSpacing, run}
 use Rattle.layout.proofs.Running.{run-append}
-use Rattle.tokens.specs.TokenPromises.{Ran, SpacedUnwritten, Spaced, TokenReady, TextReady, PutText, Acted, ActedOn, casingOf, emitTrivia, inCase, isAsTyped}
+use Rattle.tokens.specs.TokenPromises.{Ran, SpacedUnwritten, Spaced, TokenReady, TextReady, PutReady, PutText, Acted, ActedOn, Apart, casingOf, emitTrivia, inCase, isAsTyped, isTrivia, roomFor}
 use Rattle.tokens.specs.declared.Casing.{Casing}
 use Rattle.tokens.specs.declared.Casing.the-variants.{AsTyped, Listed, Always}
 
@@ -123,6 +122,10 @@ module _ {config : FormatConfig} {source : Text} {token : Head} {c r : Formatter
         did = b .did ∙ ap (run config source (map (actAt token) y)) (a .did) ∙ sym (run-acts config source token x y (c, xs));
         spent = spent-twice (a .spent) (b .spent);
       }
+
+  -- the space before is told by another name
+  pub acted-from : {n : ℕ} {x : List Act} {zs : List ℕ} → xs ≡ zs → Acted n config source token x c xs r ys → Acted n config source token x c zs r ys
+  acted-from e a = rw (← e) a
 
   -- at most n is at most m; the acts are what the routine does
   pub acted : {n : ℕ} {x : List Act} (m : ℕ) (y : List Act) → n ≤ m → y ≡ x → Acted n config source token x c xs r ys → Acted m config source token y c xs r ys
@@ -242,6 +245,11 @@ as-typed AsTyped b e = refl
 as-typed Listed b e = absurd (false≢true e)
 as-typed Always b e = absurd (false≢true e)
 
+-- what is not only measured is as typed
+pub typed-there : (a : Bool) (m n : ℕ) → (a || leb m n) ≡ true → n < m → a ≡ true
+typed-there true m n e h = refl
+typed-there false m n e h = absurd (false≢true (sym (lt-leb m n h) ∙ e))
+
 pub token-acts : (source : Text) (token : Head) → (token .kind ≡ Whitespace → ⊥)
     → emitToken (seen source token) ≡ cond (changesCase (token .kind) (tokenText source (token .start) (token .end))) (writeKeyword ∷ []) (writeText ∷ [])
 unfolding emitToken seen
@@ -259,6 +267,19 @@ token-acts source token h =
     go true e = rw (eqb-true (token .kind) BareWord e)
     go false e = refl
 
+-- which kinds they are
+pub white-trivia : (k : ℕ) → k ≡ Whitespace → isTrivia k ≡ true
+white-trivia k e = rw (eq-eqb k Whitespace e)
+
+pub comment-trivia : (k : ℕ) → k ≡ Comment → isTrivia k ≡ true
+comment-trivia k e = ap isTrivia e
+
+pub no-trivia : (k : ℕ) → (k ≡ Whitespace → ⊥) → (k ≡ Comment → ⊥) → isTrivia k ≡ false
+no-trivia k w u = rw (ne-eqb k Whitespace w, ne-eqb k Comment u)
+
+pub not-white : (k : ℕ) → isTrivia k ≡ false → k ≡ Whitespace → ⊥
+not-white k e w = false≢true (sym e ∙ white-trivia k w)
+
 -- a token that is ready has a text that is, with room for fewer writes too
 pub text-ready : {m n : ℕ} {source bs : List ℕ} {config : FormatConfig} {token : Head} {c : FormatterContext} → n ≤ m → TokenReady m source config token c
     → bs ≡ tokenText source (token .start) (token .end) → TextReady n config bs c
@@ -268,6 +289,11 @@ text-ready l p e = record { text-fits = text-fits p e; width-fits = p .width-fit
 pub trivia-acted : (white : Bool) {config : FormatConfig} {source bs : List ℕ} {token : Head} {c r : FormatterContext} {xs ys : List ℕ} → bs ≡ tokenText source (token .start) (token .end)
     → ActedOn 3 config bs (emitTrivia white bs) c xs r ys → Acted 3 config source token (emitTrivia white (tokenText source (token .start) (token .end))) c xs r ys
 trivia-acted white {source = source} {token = token} e w = acted 3 _ (omega arith) (ap (emitTrivia white) (sym e)) (w .all source token e)
+
+-- white space, told by a kind
+pub white-acted : {config : FormatConfig} {source bs : List ℕ} {token : Head} {c r : FormatterContext} {xs ys : List ℕ} {kind : ℕ} → bs ≡ tokenText source (token .start) (token .end)
+    → kind ≡ Whitespace → Apart config bs kind c xs r ys → Acted 3 config source token (emitTrivia true (tokenText source (token .start) (token .end))) c xs r ys
+white-acted {config} {source} {bs} {token} {c} {r} {xs} {ys} e k a = trivia-acted true e (rw k at (a .trivia (white-trivia _ k)))
 
 -- one byte that is no newline
 pub one-byte : (bs : List ℕ) → length bs ≡ 1 → not (eqb (getD bs 0 0) 10) ≡ true → count 10 bs ≡ 0
@@ -292,31 +318,83 @@ blank-acted kind {bs = bs} {c = c} e z = rw (z .0) (as-note e (record { did = un
 pub full-put : (at blanks : ℕ) (bs us xs : List ℕ) → length xs ≤ at → xs ≡ splice (at + blanks) us (splice at bs xs)
 full-put at blanks bs us xs h = sym (rw (splice-past at bs xs h) (splice-past (at + blanks) us xs (omega arith)))
 
--- a token's text as `put_text` and `after_text` write it
-put-acted : {config : FormatConfig} {source : Text} {token : Head} {c r : FormatterContext} {xs ys : List ℕ} {j : ℕ} (bs : List ℕ) → bs ≡ tokenText source (token .start) (token .end) → length bs ≤ 2 ^ 18
-    → (n : ℕ) → (bytesOf (lead config (c .state)) ≡ replicate n 32) × (n ≤ 2 ^ 24) → (b : Bool) → j ≡ trimmedLength bs
-    → ys ≡ splice (c .position .length + n) (cond b (map (toCase (config .«uppercase_keywords»)) bs) bs) (splice (c .position .length) (replicate n 32) xs)
-    → r ≡ afterText n (length bs) j c → Acted 1 config source token (cond b (writeKeyword ∷ []) (writeText ∷ [])) c xs r ys
-put-acted {config} {c = c} {xs = xs} bs e k n l true p w a = did-keyword bs e (keyword-put config bs c n (l .0) (l .1) k xs p a w)
-put-acted {config} {c = c} {xs = xs} bs e k n l false p w a = did-text bs e (token-put config bs c n (l .0) (l .1) k xs p a w)
+-- a token's text as `put_text` writes it, with the context after it
+put-acted : {config : FormatConfig} {source : Text} {token : Head} {c r : FormatterContext} {xs ys : List ℕ} {place : ℕ} (bs : List ℕ) → bs ≡ tokenText source (token .start) (token .end) → length bs ≤ 2 ^ 18
+    → (b : Bool) → PutText config (c .state) (c .position .length) bs b xs place ys → r ≡ afterText config bs c
+    → Acted 1 config source token (cond b (writeKeyword ∷ []) (writeText ∷ [])) c xs r ys
+put-acted {config} {c = c} {xs = xs} bs e k true w a = did-keyword bs e (keyword-put config bs c (w .blanks) (w .before) (w .few) k xs a (w .written))
+put-acted {config} {c = c} {xs = xs} bs e k false w a = did-text bs e (token-put config bs c (w .blanks) (w .before) (w .few) k xs a (w .written))
 
-module _ {n : ℕ} {config : FormatConfig} {source : List ℕ} {token : Head} {c r : FormatterContext} {xs ys bs : List ℕ} {m j : ℕ} (p : TokenReady n source config token c)
-    (e : bs ≡ tokenText source (token .start) (token .end)) (l : (bytesOf (lead config (c .state)) ≡ replicate m 32) × (m ≤ 2 ^ 24)) (a : r ≡ afterText m (length bs) j c) where
+-- a place was answered: the text is plain
+pub plain-put : {config : FormatConfig} (c : FormatterContext) {r : FormatterContext} {bs xs ys : List ℕ} {place : ℕ} {b : Bool} → PutText config (c .state) (c .position .length) bs b xs place ys
+    → 0 < place → r ≡ afterPlain place (length bs) c → r ≡ afterText config bs c
+plain-put {config} c {bs = bs} {place = place} w h a =
+    let q = w .place (λ z. omega arith) in
+    a ∙ plain-after config bs c (w .blanks) (w .before) place (q .0) (q .1)
+
+pub place-fits : {config : FormatConfig} {s : State} {at : ℕ} {bs xs ys : List ℕ} {place : ℕ} {b : Bool} → PutReady config s at bs → PutText config s at bs b xs place ys
+    → 0 < place → (0 < place) × (place + length bs < 2 ^ 64)
+place-fits p w h =
+    let q = w .place (λ z. omega arith) in
+    (h, omega (arith, q .1, w .few, p .text-fits, p .place-fits))
+
+length-splice : (n : ℕ) (bs xs : List ℕ) → length (splice n bs xs) ≡ length xs
+unfolding splice
+length-splice n bs [] = refl
+length-splice (suc n) bs (x ∷ xs) = ap suc (length-splice n bs xs)
+length-splice zero [] (x ∷ xs) = refl
+length-splice zero (b ∷ bs) (x ∷ xs) = ap suc (length-splice zero bs xs)
+
+pub put-length : {config : FormatConfig} {s : State} {at : ℕ} {bs xs ys : List ℕ} {place : ℕ} {b : Bool} → PutText config s at bs b xs place ys → length ys ≡ length xs
+put-length {at = at} {xs = xs} w = ap length (w .written) ∙ length-splice _ _ (splice at (replicate (w .blanks) 32) xs) ∙ length-splice at _ xs
+
+-- nothing was written after it
+pub put-kept : {config : FormatConfig} {s : State} {at : ℕ} {bs xs ys zs : List ℕ} {place : ℕ} {b : Bool} → PutText config s at bs b xs place ys → zs ≡ ys → PutText config s at bs b xs place zs
+put-kept w e = record { blanks = w .blanks; before = w .before; few = w .few; place = w .place; written = e ∙ w .written }
+
+-- how many writes `emit_apart` makes
+pub text-room : (k : ℕ) → isTrivia k ≡ false → roomFor k ≤ 1
+text-room k e = rw e (omega arith)
+
+pub other-room : (k : ℕ) → 1 ≤ roomFor k
+other-room k = go (isTrivia k)
+  where
+    go : (t : Bool) → 1 ≤ cond t 3 1
+    go true = omega arith
+    go false = omega arith
+
+pub comment-room : (k : ℕ) → k ≡ Comment → 3 ≤ roomFor k
+comment-room k e = rw (comment-trivia k e) (omega arith)
+
+pub any-room : (k : ℕ) → roomFor k ≤ 3
+any-room k = go (isTrivia k)
+  where
+    go : (t : Bool) → cond t 3 1 ≤ 3
+    go true = omega arith
+    go false = omega arith
+
+-- a token is ready for its text to be put
+pub put-ready : {n : ℕ} {config : FormatConfig} {source bs : List ℕ} {token : Head} {c : FormatterContext} → TokenReady n source config token c
+    → bs ≡ tokenText source (token .start) (token .end) → PutReady config (c .state) (c .position .length) bs
+put-ready p e = record { level-fits = omega (arith, p .room .level); width-fits = p .width-fits; text-fits = text-fits p e; place-fits = omega (arith, p .room .length) }
+
+module _ {n : ℕ} {config : FormatConfig} {source : List ℕ} {token : Head} {c r : FormatterContext} {xs ys bs : List ℕ} {place : ℕ} (p : TokenReady n source config token c)
+    (e : bs ≡ tokenText source (token .start) (token .end)) (a : r ≡ afterText config bs c) where
   -- as it stands
-  pub put-typed : {u : Bool} → PutText (c .position .length) m bs false u xs j ys → Acted 1 config source token (writeText ∷ []) c xs r ys
-  put-typed w = put-acted bs e (text-fits p e) m l false (w .left) (w .written) a
+  pub put-typed : PutText config (c .state) (c .position .length) bs false xs place ys → Acted 1 config source token (writeText ∷ []) c xs r ys
+  put-typed w = put-acted bs e (text-fits p e) false w a
 
   -- in the case that is set
-  pub put-keyword : PutText (c .position .length) m bs true (config .«uppercase_keywords») xs j ys → Acted 1 config source token (writeKeyword ∷ []) c xs r ys
-  put-keyword w = put-acted bs e (text-fits p e) m l true (w .left) (w .written) a
+  pub put-keyword : PutText config (c .state) (c .position .length) bs true xs place ys → Acted 1 config source token (writeKeyword ∷ []) c xs r ys
+  put-keyword w = put-acted bs e (text-fits p e) true w a
 
   -- by the word list
   pub put-token : {g : Casing} → (token .kind ≡ Whitespace → ⊥) → g ≡ casingOf (token .kind)
-      → PutText (c .position .length) m bs (inCase g bs) (config .«uppercase_keywords») xs j ys → Acted 1 config source token (emitToken (seen source token)) c xs r ys
+      → PutText config (c .state) (c .position .length) bs (inCase g bs) xs place ys → Acted 1 config source token (emitToken (seen source token)) c xs r ys
   put-token {g} h q w =
       acted 1 _ (omega arith)
       (token-acts source token h ∙ ap (λ (b : Bool). cond b (writeKeyword ∷ []) (writeText ∷ [])) (ap (changesCase (token .kind)) (sym e) ∙ sym (ap (λ (k : Casing). inCase k bs) q ∙ casing-is (token .kind) bs)))
-      (put-acted bs e (text-fits p e) m l (inCase g bs) (w .left) (w .written) a)
+      (put-acted bs e (text-fits p e) (inCase g bs) w a)
 
 -- ── format_error_verbatim
 

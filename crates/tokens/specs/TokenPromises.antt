@@ -6,11 +6,13 @@ use mathlib.Core.List.{List, [], _∷_, map}
 use lib.ListN.{length, replicate}
 use lib.Dec.{eqb}
 use Rattle.basics.specs.Match.{match}
-use Rattle.utf8.specs.Trimming.{trimmedLength}
-use Rattle.context.specs.Cells.{Text, toCase, tokenText}
+use Rattle.context.specs.Cells.{Text, bytesOf, toCase, tokenText}
 use Rattle.context.specs.Splice.{splice}
-use Rattle.context.specs.Store.{Store, Room, Spent}
+use Rattle.context.specs.Lines.{Plain}
+use Rattle.context.specs.Context.{lead}
+use Rattle.context.specs.Store.{Store, Room, Spent, afterText}
 use Rattle.context.specs.declared.FormatConfig.{FormatConfig}
+use Rattle.context.specs.declared.State.{State}
 use Rattle.context.specs.declared.FormatterContext.{FormatterContext}
 use Rattle.keywords.specs.Words.{isKeyword, isValueKeyword}
 use Rattle.tape.specs.Kinds
@@ -69,10 +71,21 @@ isAsTyped Always = false
 abbrev pub casingOf : ℕ → Casing
 casingOf k = cond (eqb k Kinds.BareWord) Listed AsTyped
 
--- so many blanks and the text, or the text in another case, were written at a place: j is left of it once its trailing white space is dropped
-pub record PutText (at blanks : ℕ) (text : List ℕ) (cased uppercase : Bool) (xs : List ℕ) (j : ℕ) (ys : List ℕ) : Type 0 where
-  pub left : j ≡ trimmedLength text
-  pub written : ys ≡ splice (at + blanks) (cond cased (map (toCase uppercase) text) text) (splice at (replicate blanks 32) xs)
+-- limits that the entry tests, with room for the write of a text at a place
+pub record PutReady (config : FormatConfig) (s : State) (at : ℕ) (text : List ℕ) : Type 0 where
+  pub level-fits : s .«indent_level» ≤ 2 ^ 20
+  pub width-fits : config .«indent_width» ≤ 16
+  pub text-fits : length text ≤ 2 ^ 18
+  pub place-fits : at ≤ 2 ^ 56
+
+-- what stands before a token, so many blanks, and the text, or the text in another case, were written at a place. r is the text's place, from 1, and the
+-- text is plain; or r is 0
+pub record PutText (config : FormatConfig) (s : State) (at : ℕ) (text : List ℕ) (cased : Bool) (xs : List ℕ) (r : ℕ) (ys : List ℕ) : Type 0 where
+  pub blanks : ℕ
+  pub before : bytesOf (lead config s) ≡ replicate blanks 32
+  pub few : blanks ≤ 2 ^ 24
+  pub place : (r ≡ 0 → ⊥) → Plain text × (r ≡ at + blanks + 1)
+  pub written : ys ≡ splice (at + blanks) (cond cased (map (toCase (config .«uppercase_keywords»)) text) text) (splice at (replicate blanks 32) xs)
 
 -- the acts were done at the token
 pub record Acted (n : ℕ) (config : FormatConfig) (source : Text) (token : Head) (acts : List Act) (c : FormatterContext) (xs : List ℕ) (r : FormatterContext) (ys : List ℕ) : Type 0 where
@@ -103,3 +116,12 @@ isTrivia k = eqb k Kinds.Whitespace || eqb k Kinds.Comment
 -- white space, or a comment
 abbrev pub emitTrivia : Bool → List ℕ → List Act
 emitTrivia white b = cond white (noteSkippedWhitespace b) (emitComment b)
+
+-- white space or a comment was dealt with; or the context is the one after the text, of which nothing is written here
+pub record Apart (config : FormatConfig) (text : List ℕ) (kind : ℕ) (c : FormatterContext) (xs : List ℕ) (r : FormatterContext) (ys : List ℕ) : Type 0 where
+  pub trivia : isTrivia kind ≡ true → ActedOn 3 config text (emitTrivia (eqb kind Kinds.Whitespace) text) c xs r ys
+  pub other : isTrivia kind ≡ false → (r ≡ afterText config text c) × (ys ≡ xs)
+
+-- how many writes that takes at most
+abbrev pub roomFor : ℕ → ℕ
+roomFor kind = cond (isTrivia kind) 3 1

@@ -1,6 +1,9 @@
 // The token helpers of format_node.rs.
 use context::FormatConfig;
 use context::FormatterContext;
+use context::State;
+use context::is_plain;
+use context::is_short_plain;
 use context::put;
 use context::put_in_case;
 use context::put_short;
@@ -11,22 +14,22 @@ use layout::Local;
 use layout::PrevKind;
 use tape::Head;
 use tape::syntax_kind;
-use utf8::trimmed_length;
 ghost use mathlib.Core.Path.{_≡_};
-ghost use mathlib.Core.Bool.{not, true, _&&_};
-ghost use mathlib.Core.List.{[], _∷_};
+ghost use mathlib.Core.Bool.{cond, false, not, true, _&&_};
+ghost use mathlib.Core.List.{[], _∷_, map};
 ghost use Prim.Native.Nat.{_+_, _^_, _≤_, _<_};
-ghost use lib.ListN.{length};
+ghost use lib.ListN.{length, replicate};
 ghost use Rattle.context.specs.Store.{Room};
 ghost use lib.Dec.{eqb};
-ghost use Rattle.context.specs.Cells.{count, tokenText};
+ghost use Rattle.context.specs.Cells.{count, toCase, tokenText};
+ghost use Rattle.context.specs.Splice.{splice};
 ghost use Rattle.keywords.specs.Words.{isKeyword, isValueKeyword};
 ghost use Rattle.tape.specs.Kinds.{Whitespace};
 ghost use Rattle.layout.specs.Arms.{blankLine, blankLineBeforeComment, lineOrSpace, seen, writeKeyword, writeText};
 ghost use Rattle.layout.specs.Calls.{formatErrorVerbatim};
 ghost use Rattle.layout.specs.Routines.{nameBefore, spaceAfter, spaceIf};
 ghost use Rattle.layout.specs.Tokens.{emitComment, emitOther, emitToken, isLineComment, isOperator, noSpaceAfter, noSpaceBefore, noteSkippedWhitespace};
-ghost use Rattle.tokens.specs.TokenPromises.{Acted, ActedOn, PutText, Ran, Spaced, SpacedUnwritten, TextReady, TokenReady, TriviaDone, casingOf, emitTrivia, emitUncommented, inCase, isAsTyped, isTrivia};
+ghost use Rattle.tokens.specs.TokenPromises.{Acted, ActedOn, Apart, PutReady, PutText, Ran, Spaced, SpacedUnwritten, TextReady, TokenReady, TriviaDone, casingOf, emitUncommented, inCase, isAsTyped, isTrivia, roomFor};
 
 // After a token: the context, and the routine's local variables.
 pub struct Arm {
@@ -185,20 +188,13 @@ fn is_in_case(text: &[u8], casing: Casing) -> bool
 }
 
 // So many blanks and a text from offset `at` on, in upper or lower case where that is wanted. Where nothing is written any more the case does not
-// matter, and the list is not looked at. The answer is that of `put`. A text that is handed on as `&text[..]` stays in registers.
-fn put_any(
-    out: &mut [u8],
-    at: usize,
-    blanks: usize,
-    text: &[u8],
-    casing: Casing,
-    uppercase: bool,
-) -> usize
+// matter, and the list is not looked at. A text that is handed on as `&text[..]` stays in registers.
+fn put_cased(out: &mut [u8], at: usize, blanks: usize, text: &[u8], casing: Casing, uppercase: bool)
     requires { ⌜ at + blanks < 2 ^ 64 ⌝ }
-    ensures { λ r. ⌜ PutText at blanks (now (text .entry)) (inCase casing (now (text .entry))) uppercase (now (out .entry)) r (now (out .exit)) ⌝ }
+    ensures { λ _. ⌜ now (out .exit) ≡ splice (at + blanks) (cond (inCase casing (now (text .entry))) (map (toCase uppercase) (now (text .entry))) (now (text .entry))) (splice at (replicate blanks 32) (now (out .entry))) ⌝ }
 {
     if out.len() <= at {
-        return trimmed_length(&text[..]);
+        return;
     }
     if is_in_case(&text[..], casing) {
         return put_in_case(out, at, blanks, uppercase, &text[..]);
@@ -206,31 +202,78 @@ fn put_any(
     put(out, at, blanks, &text[..])
 }
 
-// The same. Most texts are short and as typed, and are written or measured here, where few registers are needed and none is saved.
+// What stands before a token, and its text. The answer is the place of the text, counted from 1, if the text is plain, so that the caller knows what it
+// does to the position; else 0.
+fn put_any(
+    out: &mut [u8],
+    at: usize,
+    state: State,
+    width: usize,
+    uppercase: bool,
+    text: &[u8],
+    casing: Casing,
+) -> usize
+    requires { ⌜ PutReady (record { «indent_width» = width; «uppercase_keywords» = uppercase }) state at (now text) ⌝ }
+    ensures { λ r. ⌜ PutText (record { «indent_width» = width; «uppercase_keywords» = uppercase }) state at (now (text .entry)) (inCase casing (now (text .entry))) (now (out .entry)) r (now (out .exit)) ⌝ }
+{
+    let config = FormatConfig {
+        indent_width: width,
+        uppercase_keywords: uppercase,
+    };
+    let blanks = state.lead_blanks(config);
+    put_cased(out, at, blanks, &text[..], casing, uppercase);
+    if is_plain(&text[..]) {
+        return at + blanks + 1;
+    }
+    0
+}
+
+// The same. Most texts are short, and those as typed are written here, where few registers are needed; so are all that are only measured.
 fn put_text(
     out: &mut [u8],
     at: usize,
-    blanks: usize,
+    state: State,
+    width: usize,
+    uppercase: bool,
     text: &[u8],
     casing: Casing,
-    uppercase: bool,
 ) -> usize
-    requires { ⌜ at + blanks + length (now text) < 2 ^ 64 ⌝ }
-    ensures { λ r. ⌜ PutText at blanks (now (text .entry)) (inCase casing (now (text .entry))) uppercase (now (out .entry)) r (now (out .exit)) ⌝ }
+    requires { ⌜ PutReady (record { «indent_width» = width; «uppercase_keywords» = uppercase }) state at (now text) ⌝ }
+    ensures { λ r. ⌜ PutText (record { «indent_width» = width; «uppercase_keywords» = uppercase }) state at (now (text .entry)) (inCase casing (now (text .entry))) (now (out .entry)) r (now (out .exit)) ⌝ }
 {
-    if out.len() <= at {
-        return trimmed_length(&text[..]);
-    }
-    if is_as_typed(casing) {
-        if blanks <= 1 {
-            if text.len() <= 16 {
-                if at + blanks + text.len() <= out.len() {
-                    return put_short(out, at, blanks, &text[..]);
+    if text.len() <= 16 {
+        if is_as_typed(casing) | (out.len() <= at) {
+            if is_short_plain(&text[..]) {
+                let config = FormatConfig {
+                    indent_width: width,
+                    uppercase_keywords: uppercase,
+                };
+                let blanks = state.lead_blanks(config);
+                let from = at + blanks;
+                if out.len() <= at {
+                    return from + 1;
+                }
+                if blanks <= 1 {
+                    if from + text.len() <= out.len() {
+                        put_short(out, at, blanks, &text[..]);
+                        return from + 1;
+                    }
                 }
             }
         }
     }
-    put_any(out, at, blanks, &text[..], casing, uppercase)
+    put_any(out, at, state, width, uppercase, &text[..], casing)
+}
+
+// A kind that is neither white space nor a comment: a token that is written as a text whatever it is. No constant, so that `emit_apart` stays on its own.
+fn text_kind(kind: u16) -> u16
+    ensures { λ r. ⌜ isTrivia r ≡ false ⌝ }
+{
+    if is_trivia(kind) {
+        syntax_kind::NUMBER
+    } else {
+        kind
+    }
 }
 
 // write_token of the token's text.
@@ -248,9 +291,29 @@ pub fn write_text(
     let end = token.end;
     let text = token_text(source, start, end);
     let p = ctx.position;
-    let blanks = ctx.lead_blanks(config);
-    let j = put_text(out, p.length, blanks, text, Casing::AsTyped, false);
-    ctx.after_text(blanks, text.len(), j)
+    let s = ctx.state;
+    let place = put_text(
+        out,
+        p.length,
+        s,
+        config.indent_width,
+        config.uppercase_keywords,
+        text,
+        Casing::AsTyped,
+    );
+    if 0 < place {
+        return ctx.after_plain(place, text.len());
+    }
+    let c = ctx;
+    let a = emit_apart(
+        config.indent_width,
+        config.uppercase_keywords,
+        out,
+        c,
+        text,
+        text_kind(token.kind),
+    );
+    a
 }
 
 // write_keyword of the token's text.
@@ -268,16 +331,29 @@ pub fn write_word(
     let end = token.end;
     let text = token_text(source, start, end);
     let p = ctx.position;
-    let blanks = ctx.lead_blanks(config);
-    let j = put_any(
+    let s = ctx.state;
+    let place = put_any(
         out,
         p.length,
-        blanks,
+        s,
+        config.indent_width,
+        config.uppercase_keywords,
         text,
         Casing::Always,
-        config.uppercase_keywords,
     );
-    ctx.after_text(blanks, text.len(), j)
+    if 0 < place {
+        return ctx.after_plain(place, text.len());
+    }
+    let c = ctx;
+    let a = emit_apart(
+        config.indent_width,
+        config.uppercase_keywords,
+        out,
+        c,
+        text,
+        text_kind(token.kind),
+    );
+    a
 }
 
 fn is_line_comment(text: &[u8]) -> bool
@@ -340,7 +416,7 @@ pub fn emit_comment(
     let end = token.end;
     let text = token_text(source, start, end);
     let kind = syntax_kind::COMMENT;
-    emit_trivia(
+    emit_apart(
         config.indent_width,
         config.uppercase_keywords,
         out,
@@ -367,21 +443,34 @@ pub fn emit_token(
     let end = token.end;
     let text = token_text(source, start, end);
     let p = ctx.position;
-    let blanks = ctx.lead_blanks(config);
-    let j = put_text(
+    let s = ctx.state;
+    let place = put_text(
         out,
         p.length,
-        blanks,
+        s,
+        config.indent_width,
+        config.uppercase_keywords,
         text,
         casing_of(token.kind),
-        config.uppercase_keywords,
     );
-    ctx.after_text(blanks, text.len(), j)
+    if 0 < place {
+        return ctx.after_plain(place, text.len());
+    }
+    let c = ctx;
+    let a = emit_apart(
+        config.indent_width,
+        config.uppercase_keywords,
+        out,
+        c,
+        text,
+        text_kind(token.kind),
+    );
+    a
 }
 
-// White space, else a comment. On its own, so that the two below stay small and a token costs one call; and the only caller of `write_comment`, so that
-// it is large enough to stay on its own. The settings are two numbers, which need no copy in memory.
-fn emit_trivia(
+// White space; a comment; what any other text that is written already does to the context. On its own, so that those below stay small and a token costs
+// one call; and the only caller of `write_comment`, so that it is large enough to stay on its own. The settings are two numbers, which need no copy in memory.
+fn emit_apart(
     width: usize,
     uppercase: bool,
     out: &mut [u8],
@@ -389,8 +478,8 @@ fn emit_trivia(
     text: &[u8],
     kind: u16,
 ) -> FormatterContext
-    requires { ⌜ TextReady 3 (record { «indent_width» = width; «uppercase_keywords» = uppercase }) (now text) ctx ⌝ }
-    ensures { λ r. ⌜ ActedOn 3 (record { «indent_width» = width; «uppercase_keywords» = uppercase }) (now (text .entry)) (emitTrivia (eqb kind Whitespace) (now (text .entry))) ctx (now (out .entry)) r (now (out .exit)) ⌝ }
+    requires { ⌜ TextReady (roomFor kind) (record { «indent_width» = width; «uppercase_keywords» = uppercase }) (now text) ctx ⌝ }
+    ensures { λ r. ⌜ Apart (record { «indent_width» = width; «uppercase_keywords» = uppercase }) (now (text .entry)) kind ctx (now (out .entry)) r (now (out .exit)) ⌝ }
 {
     if kind == syntax_kind::WHITESPACE {
         return ctx.note_skipped_whitespace(&text[..]);
@@ -399,7 +488,10 @@ fn emit_trivia(
         indent_width: width,
         uppercase_keywords: uppercase,
     };
-    write_comment(config, out, ctx, &text[..])
+    if kind == syntax_kind::COMMENT {
+        return write_comment(config, out, ctx, &text[..]);
+    }
+    ctx.after_text(config, &text[..])
 }
 
 // Whether it is white space of one byte that is no newline, as most of it is: nothing is to be noted of it.
@@ -438,7 +530,7 @@ pub fn trivia_token(
     let start = token.start;
     let end = token.end;
     let text = token_text(source, start, end);
-    let a = emit_trivia(
+    let a = emit_apart(
         config.indent_width,
         config.uppercase_keywords,
         out,
@@ -452,8 +544,8 @@ pub fn trivia_token(
     }
 }
 
-// The arms that most routines share: white space, comments, and any other token. The context that goes to `emit_trivia` is a copy made where it is called, so
-// that the one of any other token stays in registers.
+// The arms that most routines share: white space, comments, and any other token. One call of `emit_apart` for all that is not done at once: the context
+// that goes there is a copy, so that the one of other tokens stays in registers.
 pub fn emit_other(
     source: &[u8],
     config: FormatConfig,
@@ -464,25 +556,39 @@ pub fn emit_other(
     requires { ⌜ TokenReady 4 (now source) config token ctx ⌝ }
     ensures { λ r. ⌜ Acted 4 config (now (source .entry)) token (emitOther (seen (now (source .entry)) token)) ctx (now (out .entry)) r (now (out .exit)) ⌝ }
 {
+    let start = token.start;
+    let end = token.end;
+    let text = token_text(source, start, end);
     if is_trivia(token.kind) {
-        let start = token.start;
-        let end = token.end;
-        let text = token_text(source, start, end);
         if is_blank(token.kind, text) {
             return ctx;
         }
-        let c = ctx;
-        let a = emit_trivia(
+    } else {
+        let p = ctx.position;
+        let s = ctx.state;
+        let place = put_text(
+            out,
+            p.length,
+            s,
             config.indent_width,
             config.uppercase_keywords,
-            out,
-            c,
             text,
-            token.kind,
+            casing_of(token.kind),
         );
-        return a;
+        if 0 < place {
+            return ctx.after_plain(place, text.len());
+        }
     }
-    emit_token(source, config, out, ctx, token)
+    let c = ctx;
+    let a = emit_apart(
+        config.indent_width,
+        config.uppercase_keywords,
+        out,
+        c,
+        text,
+        token.kind,
+    );
+    a
 }
 
 // The same in a routine without a comment arm.
@@ -496,25 +602,41 @@ pub fn emit_uncommented(
     requires { ⌜ TokenReady 4 (now source) config token ctx ⌝ }
     ensures { λ r. ⌜ Acted 4 config (now (source .entry)) token (emitUncommented (seen (now (source .entry)) token)) ctx (now (out .entry)) r (now (out .exit)) ⌝ }
 {
+    let start = token.start;
+    let end = token.end;
+    let text = token_text(source, start, end);
+    let mut kind = syntax_kind::NUMBER;
     if token.kind == syntax_kind::WHITESPACE {
-        let start = token.start;
-        let end = token.end;
-        let text = token_text(source, start, end);
         if is_blank(token.kind, text) {
             return ctx;
         }
-        let c = ctx;
-        let a = emit_trivia(
+        kind = syntax_kind::WHITESPACE;
+    } else {
+        let p = ctx.position;
+        let s = ctx.state;
+        let place = put_text(
+            out,
+            p.length,
+            s,
             config.indent_width,
             config.uppercase_keywords,
-            out,
-            c,
             text,
-            token.kind,
+            casing_of(token.kind),
         );
-        return a;
+        if 0 < place {
+            return ctx.after_plain(place, text.len());
+        }
     }
-    emit_token(source, config, out, ctx, token)
+    let c = ctx;
+    let a = emit_apart(
+        config.indent_width,
+        config.uppercase_keywords,
+        out,
+        c,
+        text,
+        kind,
+    );
+    a
 }
 
 // The text of a node whose span, if it does not run backwards, lies within the text.

@@ -1,46 +1,46 @@
 -- `put_any` meets its contract.
-use Rattle.tokens.proofs.Runs.{full-put}
+use mathlib.Core.Path.{refl}
 use borrow.Author.Needs.{needs}
 use Rattle.tokens.proofs.put_any.Statement.{statement}
 use Rattle.tokens.proofs.put_any.Tie as tie
 
-trimmed-length-requires : tie.Need-trimmed-length-requires
-trimmed-length-requires c κs = search needs
+lead-blanks-requires : tie.Need-lead-blanks-requires
+lead-blanks-requires c κs = search needs
 
-returns : tie.Need-returns
-returns c = record { left = c .trimmed-length .ensures; written = full-put _ _ _ _ _ (c .before .if1 .taken) }
+put-cased-requires : tie.Need-put-cased-requires
+put-cased-requires c κs = search needs
 
-is-in-case-requires : tie.Need-is-in-case-requires
-is-in-case-requires c κs = search needs
+is-plain-requires : tie.Need-is-plain-requires
+is-plain-requires c κs = search needs
 
-put-in-case-requires : tie.Need-put-in-case-requires
-put-in-case-requires c κs = search needs
+add-result : tie.Need-add-result
+add-result c = search needs
+
+add-result-2 : tie.Need-add-result-2
+add-result-2 c = search needs
 
 same-length : tie.Need-same-length
 same-length c = search needs
 
-returns-2 : tie.Need-returns-2
-returns-2 c = record { left = c .before .before .put-in-case .ensures .0; written = rw (← (c .before .before .before .before .before .is-in-case .ensures), c .before .before .before .before .if2 .taken) (c .before .before .put-in-case .ensures .1) }
-
-put-requires : tie.Need-put-requires
-put-requires c κs = search needs
+returns : tie.Need-returns
+returns c = let l = c .before .before .before .before .before .before .lead-blanks in record { blanks = l .result; before = l .ensures .0; few = l .ensures .1; place = λ h. (c .before .is-plain .ensures (c .if1 .taken), refl); written = c .before .before .before .before .put-cased .ensures }
 
 same-length-2 : tie.Need-same-length-2
 same-length-2 c = search needs
 
-returns-3 : tie.Need-returns-3
-returns-3 c = record { left = c .before .before .put .ensures .0; written = rw (← (c .before .before .before .before .before .is-in-case .ensures), c .before .before .before .before .if2 .left) (c .before .before .put .ensures .1) }
+returns-2 : tie.Need-returns-2
+returns-2 c = let l = c .before .before .before .before .before .before .lead-blanks in record { blanks = l .result; before = l .ensures .0; few = l .ensures .1; place = λ h. absurd (h refl); written = c .before .before .before .before .put-cased .ensures }
 
 pub put-any-spec : {M : Type 1} → statement M
 put-any-spec =
     tie.close
     (tie.spec
-    trimmed-length-requires
-    returns
-    is-in-case-requires
-    put-in-case-requires
+    lead-blanks-requires
+    put-cased-requires
+    is-plain-requires
+    add-result
+    add-result-2
     same-length
-    returns-2
-    put-requires
+    returns
     same-length-2
-    returns-3)
+    returns-2)

@@ -1,7 +1,5 @@
 -- `write_text` meets its contract.
-use native.Mathlib.Omega.{arith}
-use Rattle.utf8.proofs.Trimming.{trimmed-le}
-use Rattle.tokens.proofs.Runs.{put-typed, text-fits}
+use Rattle.tokens.proofs.Runs.{place-fits, plain-put, put-kept, put-ready, put-typed, text-ready, text-room}
 use borrow.Author.Needs.{needs}
 use Rattle.tokens.proofs.write_text.Statement.{statement}
 use Rattle.tokens.proofs.write_text.Tie as tie
@@ -9,28 +7,40 @@ use Rattle.tokens.proofs.write_text.Tie as tie
 token-text-requires : tie.Need-token-text-requires
 token-text-requires c κs = search needs
 
-lead-blanks-requires : tie.Need-lead-blanks-requires
-lead-blanks-requires c κs = search needs
-
 put-text-requires : tie.Need-put-text-requires
-put-text-requires c κs = search needs
+put-text-requires c κs = put-ready (c .before .before .before .before .before .before .pre) (c .before .before .before .token-text .ensures)
 
-after-text-requires : tie.Need-after-text-requires
-after-text-requires c κs = let k = text-fits (c .before .before .before .before .before .before .before .before .before .pre) (c .before .before .before .before .before .before .token-text .ensures) in (omega (arith, k, c .before .before .before .before .lead-blanks .ensures .1, c .before .before .before .before .before .before .before .before .before .pre .room .length), omega (arith, c .before .before .put-text .ensures .left, trimmed-le (c .before .before .before .before .before .before .token-text .result .now)))
+after-plain-requires : tie.Need-after-plain-requires
+after-plain-requires c κs = place-fits (put-ready (c .before .before .before .before .before .before .before .before .before .before .pre) (c .before .before .before .before .before .before .before .token-text .ensures)) (c .before .before .before .put-text .ensures) (c .if1 .taken)
 
 same-length : tie.Need-same-length
 same-length c = search needs
 
 returns : tie.Need-returns
-returns c = put-typed (c .before .before .before .before .before .before .before .before .before .before .pre) (c .before .before .before .before .before .before .before .token-text .ensures) (c .before .before .before .before .before .lead-blanks .ensures) (c .after-text .ensures) (c .before .before .before .put-text .ensures)
+returns c = put-typed (c .before .before .before .before .before .before .before .before .before .before .before .pre) (c .before .before .before .before .before .before .before .before .token-text .ensures) (plain-put (c .before .before .before .before .before .before .before .before .before .before .before .args .ctx) (c .before .before .before .before .put-text .ensures) (c .before .if1 .taken) (c .after-plain .ensures)) (c .before .before .before .before .put-text .ensures)
+
+text-kind-requires : tie.Need-text-kind-requires
+text-kind-requires c κs = search needs
+
+emit-apart-requires : tie.Need-emit-apart-requires
+emit-apart-requires c κs = text-ready (text-room (c .text-kind .result) (c .text-kind .ensures)) (c .before .before .before .before .before .before .before .before .before .before .before .before .pre) (c .before .before .before .before .before .before .before .before .before .token-text .ensures)
+
+same-length-2 : tie.Need-same-length-2
+same-length-2 c = search needs
+
+returns-2 : tie.Need-returns-2
+returns-2 c = let a = c .before .before .emit-apart .ensures .other (c .before .before .before .text-kind .ensures) in put-typed (c .before .before .before .before .before .before .before .before .before .before .before .before .before .before .before .pre) (c .before .before .before .before .before .before .before .before .before .before .before .before .token-text .ensures) (a .0) (put-kept (c .before .before .before .before .before .before .before .before .put-text .ensures) (a .1))
 
 pub write-text-spec : {M : Type 1} → statement M
 write-text-spec =
     tie.close
     (tie.spec
     token-text-requires
-    lead-blanks-requires
     put-text-requires
-    after-text-requires
+    after-plain-requires
     same-length
-    returns)
+    returns
+    text-kind-requires
+    emit-apart-requires
+    same-length-2
+    returns-2)
