@@ -12,7 +12,7 @@ use Rattle.utf8.proofs.Trimming.{trimmed-le}
 use Rattle.context.specs.Cells.{Cell, bytesOf}
 use Rattle.context.specs.Splice.{splice}
 use Rattle.context.specs.Context.{newState, finish}
-use Rattle.context.specs.Store.{new, advanced, Store, appended}
+use Rattle.context.specs.Store.{new, advanced, extent, Store, appended}
 use Rattle.context.specs.declared.FormatConfig.{FormatConfig}
 use Rattle.context.specs.declared.FormatterContext.{FormatterContext}
 use Rattle.context.proofs.Splicing.{splice-covers}
@@ -37,7 +37,7 @@ use Rattle.layout.specs.Outcome.{Outcome, refusal, laid, ofRead, configOf, outc
 use Rattle.layout.specs.SpanStarts.{SpansStart}
 use Rattle.layout.proofs.EachCall.{each-call}
 use Rattle.layout.proofs.PieceStarts.{StartsAt, TokenStarts, spans-start}
-use Rattle.layout.proofs.Running.{after, run-appends, kept, finish-none, finish-length, finish-stored}
+use Rattle.layout.proofs.Running.{after, marked, run-appends, kept, finish-none, finish-length, finish-stored}
 use Rattle.formatter.specs.declared.Walk.{Walk}
 use Rattle.formatter.specs.RoutinePromises.{NodeReady, NodeDone}
 use Rattle.formatter.specs.Entry.{Ready, allCells, Trims, WalkedInto, Fills, Measures, LaysOut}
@@ -87,7 +87,7 @@ walked {text} {tape} {facts} {config} {c} {xs} {ys} {w} r e d t p q =
     let k : a .tree ≡ t = same-tree (sym (a .read) ∙ q) in
     let s : SpansStart text t = subst (SpansStart text) k (r .starts) in
     let X = allCells config text t in
-    let v : _≡_ {A = Store} (w .context, ys) (appended (after config text (calls formatNode text t) newState) (bytesOf X) (new, xs)) =
+    let v : _≡_ {A = Store} (w .context, ys) (appended (after config text (calls formatNode text t) newState) (marked config text (calls formatNode text t) (new, xs)) (bytesOf X) (new, xs)) =
     u .did
     ∙ ap (λ (h : Head). run config text (calls formatNode text (record { head = h; kids = a .tree .kids })) (c, xs)) (sym (a .root .head))
     ∙ ap (λ (z : Tree). run config text (calls formatNode text z) (c, xs)) k
@@ -96,7 +96,7 @@ walked {text} {tape} {facts} {config} {c} {xs} {ys} {w} r e d t p q =
     let n : w .context .position .trimmed ≡ trimmedLength (bytesOf X) =
     ap (λ (z : Store). z .0 .position .trimmed) v ∙ after-none (trimmedLength (bytesOf X)) in
     let l : w .context .position .length ≡ 0 + length (bytesOf X) = ap (λ (z : Store). z .0 .position .length) v in
-    let b = ap (λ (z : FormatterContext). z .position .length) e in
+    let b = ap (λ (z : FormatterContext). extent (z .position)) e in
     record {
       trimmed = n;
       bytes = ap (λ (z : Store). z .1) v;

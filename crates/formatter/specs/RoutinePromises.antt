@@ -5,7 +5,7 @@ use mathlib.Core.Logic.{_⊎_}
 use Prim.Native.Nat.{ℕ, _+_, _*_, _^_, _≤_, _<_}
 use lib.ListN.{length}
 use Rattle.context.specs.Cells.{Text}
-use Rattle.context.specs.Store.{Store}
+use Rattle.context.specs.Store.{Store, extent}
 use Rattle.context.specs.declared.FormatConfig.{FormatConfig}
 use Rattle.context.specs.declared.FormatterContext.{FormatterContext}
 use Rattle.tape.specs.Kinds.{GroupByList, OrderByList}
@@ -29,12 +29,12 @@ pub record Sizes (source tape facts : List ℕ) (config : FormatConfig) : Type 0
 -- what was written up to the place i is bounded by i + n
 pub record RoomAt (n i : ℕ) (c : FormatterContext) : Type 0 where
   pub level : c .state .«indent_level» ≤ i + n
-  pub length : c .position .length ≤ 2 ^ 32 * (i + n)
+  pub length : extent (c .position) ≤ 2 ^ 32 * (i + n)
 
 -- from c at i to r at j the state grew by no more than the place, less n
 pub record Grew (n i : ℕ) (c : FormatterContext) (j : ℕ) (r : FormatterContext) : Type 0 where
   pub level : r .state .«indent_level» + i + n ≤ c .state .«indent_level» + j
-  pub length : r .position .length + 2 ^ 32 * (i + n) ≤ c .position .length + 2 ^ 32 * j
+  pub length : extent (r .position) + 2 ^ 32 * (i + n) ≤ extent (c .position) + 2 ^ 32 * j
 
 -- a node opens at i, the tape spells its children after it, at most so many levels deep, and the check has noted what is true of each
 pub record NodeReady (source tape facts : List ℕ) (config : FormatConfig) (left i : ℕ) (c : FormatterContext) : Type 0 where
