@@ -13,15 +13,15 @@ use Rattle.utf8.proofs.Trimming.{trimmed-append, trimmed-nothing}
 use Rattle.context.specs.Cells.{Cell, toCase, bytesOf, count, fixed, cellInCase}
 use Rattle.context.specs.Splice.{splice}
 use Rattle.context.specs.Context.{Step, afterWrite, lead, writeToken, writeKeyword, writeRaw, endsInNewline}
-use Rattle.context.specs.Store.{advanced, markOf, markAfter, extent, Store, appended, stored, withState, afterText, afterPlain, Spent, Wrote}
-use Rattle.context.specs.Lines.{lineStartAfter, Plain}
+use Rattle.context.specs.Store.{advanced, spotOf, markOf, markAfter, extent, Store, appended, stored, withState, afterText, afterPlain, Spent, Wrote}
+use Rattle.context.specs.Lines.{lineStartAfter, spotAfter, Plain}
 use Rattle.context.specs.declared.FormatConfig.{FormatConfig}
 use Rattle.context.specs.declared.State.{State}
 use Rattle.context.specs.declared.Position.{Position}
 use Rattle.context.specs.declared.FormatterContext.{FormatterContext}
 use Rattle.context.proofs.Splicing.{splice-nil, splice-splice}
 use Rattle.context.proofs.Trimming.{trimmed-lead, after-after, after-some}
-use Rattle.context.proofs.Lines.{count-append, count-le, count-blanks, count-in-case, start-append, start-blanks, start-in-case, start-kept}
+use Rattle.context.proofs.Lines.{count-append, count-le, count-blanks, count-in-case, start-append, start-blanks, start-in-case, start-kept, start-le, spot-counted}
 use Rattle.context.proofs.Bytes.{bytes-append, bytes-fixed, bytes-in-case, trimmed-in-case}
 
 -- ── what writes use up of the room
@@ -55,6 +55,16 @@ advanced-in-case uppercase m n bs p =
     (trimmed-lead n bs (p .length) (p .trimmed) ∙ ap (trimmedAfter (p .length + n) (p .trimmed)) (sym (trimmed-in-case uppercase bs)))
     (ap (λ (q : ℕ). p .line + q) (count-blanks n bs ∙ sym (count-in-case uppercase bs)))
     (start-blanks n bs (p .length) (p .«line_start») ∙ sym (start-in-case uppercase bs (p .length + n) (p .«line_start»)))
+
+-- line and column agree with the bytes: those before, and then those that were written
+pub spot-advanced : (m : ℕ) (bs : List ℕ) (p : Position) → p .«line_start» ≤ p .length → spotOf (advanced m bs p) ≡ spotAfter bs (spotOf p)
+unfolding advanced
+spot-advanced m bs p h = spot-counted bs (p .length) (p .line) (p .«line_start») h
+
+-- the line begins at or before the next byte
+pub start-advanced : (m : ℕ) (bs : List ℕ) (p : Position) → p .«line_start» ≤ p .length → advanced m bs p .«line_start» ≤ advanced m bs p .length
+unfolding advanced
+start-advanced m bs p h = start-le bs (p .length) (p .«line_start») h
 
 -- a write of so many bytes adds at most twice as many
 pub extent-le : (m : ℕ) (bs : List ℕ) (p : Position) → extent (advanced m bs p) ≤ extent p + 2 * length bs

@@ -3,6 +3,7 @@ pub mod EachCall
 pub mod PieceStarts
 pub mod MaskedLayouts
 pub mod TwoCalls
+pub mod MapCalls
 pub mod AsciiPairs
 pub mod MaskingTests
 pub mod Origins
@@ -10,3 +11,4 @@ pub mod Tables
 pub mod CallLimits
 pub mod MaskingNeeds
 pub mod Running
+pub mod Agreement

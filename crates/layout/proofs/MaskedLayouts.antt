@@ -2,10 +2,10 @@
 -- alike.
 use Prim.Native.Nat.{ℕ, zero, suc, _+_, _-_, _≤_, _<_}
 use native.Mathlib.Omega.{arith}
-use mathlib.Core.Path.{_≡_, refl, sym, ap, _∙_, subst}
-use mathlib.Core.Bool.{Bool, true, false, cond}
+use mathlib.Core.Path.{_≡_, refl, sym, ap, ap₂, _∙_, subst}
+use mathlib.Core.Bool.{Bool, true, false, cond, _||_}
 use mathlib.Core.List.{List, [], _∷_, _++_, map}
-use lib.ListN.{length, getD, length-map}
+use lib.ListN.{length, getD, take, length-append, length-map}
 use lib.Dec.{T, eqb, leb, eqb→eq}
 use borrow.Author.Tests.{eqb-true, eqb-false, ne-eqb}
 use Rattle.utf8.specs.Pieces.{Starts}
@@ -14,10 +14,11 @@ use Rattle.utf8.specs.WhiteSpace.{isWhiteSpace}
 use Rattle.utf8.specs.Trimming.{trimmedLength, trimmedAfter}
 use Rattle.utf8.specs.Steps.{endWhite}
 use Rattle.utf8.proofs.Trimming.{trimmed-append, trimmed-whole}
-use Rattle.context.specs.Cells.{Text, Cell, tokenText, bytesOf, spanCells, copiedFrom, cellInCase}
+use Rattle.context.specs.Lines.{Spot, firstSpot, turned, spotAfter}
+use Rattle.context.specs.Cells.{Text, Cell, Origin, made, from, tokenText, bytesOf, spanCells, copiedFrom, cellInCase}
 use Rattle.context.specs.Context.{Piece, newState, writeToken}
 use Rattle.context.specs.Context as context
-use Rattle.context.specs.Alike.{Like}
+use Rattle.context.specs.Alike.{Like, LinesAgree}
 use Rattle.context.specs.declared.FormatConfig.{FormatConfig}
 use Rattle.context.specs.declared.State.{State}
 use Rattle.context.proofs.Bytes.{bytes-append, bytes-span, bytes-in-case, token-length-same, token-same, trimmed-in-case}
@@ -29,6 +30,8 @@ use Rattle.layout.specs.declared.Local.{Local}
 use Rattle.layout.specs.Arms.{Spacing, Act, spacing, writeText, writeKeyword, writeSign, isRead, seen, Arms}
 use Rattle.layout.specs.Calls.{Call, putSpacing, actAt, raw, formatErrorVerbatim, walk, calls}
 use Rattle.layout.specs.Layout.{step, pieces, written, Version, original, piecesOf, format}
+use Rattle.layout.specs.FormatNode.{formatNode}
+use Rattle.layout.specs.TokenMap.{tokens, Start, unwritten, begins, startOf, starts, startFor, noSpot, entry, entries, tokenMap}
 use Rattle.layout.proofs.EachCall.{Every, each-call, of-copy, reached-below}
 use Rattle.layout.specs.SpanStarts.{SpansStart}
 use Rattle.layout.proofs.PieceStarts.{PieceStarts, none-starts, starts-append, spacing-starts, lead-starts, sign-starts, step-starts}
@@ -118,6 +121,7 @@ module _ (a b : Text) (sameLength : length a ≡ length b) where
     pub leads : p .lead ≡ q .lead
     pub bodies : Like a b (p .body) (q .body)
     pub trims : trimmed (p .body) ≡ trimmed (q .body)
+    pub tokens : p .token ≡ q .token
     pub startsA : PieceStarts p
     pub startsB : PieceStarts q
 
@@ -126,7 +130,7 @@ module _ (a b : Text) (sameLength : length a ≡ length b) where
     next : {p q : Piece} {ps qs : List Piece} → PieceLike p q → PiecesLike ps qs → PiecesLike (p ∷ ps) (q ∷ qs)
 
   same-piece : (p : Piece) → PieceStarts p → PieceLike p p
-  same-piece p h = record { leads = refl; bodies = like-self a b (p .body); trims = refl; startsA = h; startsB = h }
+  same-piece p h = record { leads = refl; bodies = like-self a b (p .body); trims = refl; tokens = refl; startsA = h; startsB = h }
 
   -- a piece and what follows it
   from-here : (p : Piece) (rest : List Cell) → PieceStarts p → Starts (bytesOf rest) → Starts (bytesOf (p .body ++ rest))
@@ -189,6 +193,7 @@ module _ (a b : Text) (sameLength : length a ≡ length b) where
           leads = refl;
           bodies = span-like a b sameLength (h .start) (h .end);
           trims = w .trims;
+          tokens = refl;
           startsA = step-starts config a (actAt h writeText) (w .startsA, tt) s;
           startsB = step-starts config b (actAt h writeText) (w .startsB, tt) s;
         }
@@ -202,6 +207,7 @@ module _ (a b : Text) (sameLength : length a ≡ length b) where
           leads = refl;
           bodies = k .bodies;
           trims = in-case u (spanCells a (h .start) (h .end)) ∙ w .trims ∙ sym (in-case u (spanCells b (h .start) (h .end)));
+          tokens = refl;
           startsA = step-starts config a (actAt h writeKeyword) (w .startsA, tt) s;
           startsB = step-starts config b (actAt h writeKeyword) (w .startsB, tt) s;
         }
@@ -314,28 +320,85 @@ module _ (a b : Text) (sameLength : length a ≡ length b) where
   unfolding original
   original-keeps-alike ps qs k = k
 
-  same-pieces : (v : Version) → KeepsAlike v → (config : FormatConfig) (t : Tree) → TokenSpans (length a) (t .kids) → SpansStart a t → SpansStart b t → MaskedForLayout a b t
-      → PiecesLike (piecesOf v config a t) (piecesOf v config b t)
-  unfolding piecesOf
-  same-pieces v keeps config t s x y m =
-      subst (λ cs. PiecesLike (v .between (pieces config a (calls (v .pick) a t) newState)) (v .between (pieces config b cs newState)))
-      (calls-same (v .pick) t tokens)
-      (keeps _ _ (pieces-like config (calls (v .pick) a t) (each-call TokenAlike CopySpan (v .pick) a t tokens copies) newState))
-    where
-      tokens : EachToken TokenAlike (t .kids)
-      tokens = alike-tokens (t .kids) s (x .tokens) (y .tokens) (m .inQuotes) (m .noWhiteSpaceEnd)
+  module _ (t : Tree) (s : TokenSpans (length a) (t .kids)) (x : SpansStart a t) (y : SpansStart b t) (m : MaskedForLayout a b t) where
+    tokens-alike : EachToken TokenAlike (t .kids)
+    tokens-alike = alike-tokens (t .kids) s (x .tokens) (y .tokens) (m .inQuotes) (m .noWhiteSpaceEnd)
 
-      copies : EachReachedCopy CopyAlike t
-      copies = of-copied (copied (t .head .kind) (t .kids)) _ _ _ _ _ _ (x .copies) (m .notCopied) (alike-copy (t .head)) (alike-copies (t .kids))
+    each-alike : (pick : ℕ → Children → Arms) → EachAlike (calls pick a t)
+    each-alike pick =
+        each-call TokenAlike CopySpan pick a t tokens-alike
+        (of-copied (copied (t .head .kind) (t .kids)) _ _ _ _ _ _ (x .copies) (m .notCopied) (alike-copy (t .head)) (alike-copies (t .kids)))
+
+    same-pieces : (v : Version) → KeepsAlike v → (config : FormatConfig) → PiecesLike (piecesOf v config a t) (piecesOf v config b t)
+    unfolding piecesOf
+    same-pieces v keeps config =
+        subst (λ cs. PiecesLike (v .between (pieces config a (calls (v .pick) a t) newState)) (v .between (pieces config b cs newState)))
+        (calls-same (v .pick) t tokens-alike)
+        (keeps _ _ (pieces-like config (calls (v .pick) a t) (each-alike (v .pick)) newState))
 
   pub masking : (v : Version) → KeepsAlike v → (config : FormatConfig) (t : Tree) → TokenSpans (length a) (t .kids) → SpansStart a t → SpansStart b t → MaskedForLayout a b t
       → Like a b (format v config a t) (format v config b t)
   unfolding format
   masking v keeps config t s x y m =
-      let k = same-pieces v keeps config t s x y m in
+      let k = same-pieces t s x y m v keeps config in
       let ps = piecesOf v config a t in
       let qs = piecesOf v config b t in
       finish-like a b (written ps) (written qs) (written-like ps qs k) (written-trims ps qs k)
+
+  -- ── the token map
+
+  piece-start : (c : Call) {p q : Piece} (n : ℕ) → PieceLike p q → startOf c p n ≡ startOf c q n
+  piece-start (putSpacing x) n k = refl
+  piece-start (actAt h x) {p} {q} n k = rw (k .leads, k .tokens, like-length a b (p .body) (q .body) (k .bodies))
+  piece-start (raw s e) n k = refl
+
+  piece-length : {p q : Piece} → PieceLike p q → length (p .lead ++ p .body) ≡ length (q .lead ++ q .body)
+  piece-length {p} {q} k =
+      length-append (p .lead) (p .body) ∙ rw (k .leads, like-length a b (p .body) (q .body) (k .bodies)) (sym (length-append (q .lead) (q .body)))
+
+  starts-same : (config : FormatConfig) (cs : List Call) → EachAlike cs → (s : State) (n : ℕ) → starts config a cs s n ≡ starts config b cs s n
+  unfolding starts Every
+  starts-same config [] w s n = refl
+  starts-same config (c ∷ cs) w s n =
+      let k = step-piece config c (w .0, tt) s in
+      rw (piece-start c n k, piece-length k, step-state config c (w .0, tt) s, starts-same config cs (w .1) ((step config b c s) .0))
+
+  module _ (lines : SameLines a b) where
+    at : (o : Origin) → LinesAgree a b o
+    at made = tt
+    at (from p) = lines p
+
+    like-spot : (X Y : List Cell) → Like a b X Y → (n : ℕ) (p : Spot) → spotAfter (take n (bytesOf X)) p ≡ spotAfter (take n (bytesOf Y)) p
+    unfolding spotAfter
+    like-spot [] [] h n p = refl
+    like-spot [] (y ∷ ys) h n p = absurd h
+    like-spot (x ∷ xs) [] h n p = absurd h
+    like-spot (x ∷ xs) (y ∷ ys) h zero p = refl
+    like-spot (x ∷ xs) (y ∷ ys) h (suc n) p =
+        ap (λ (t : Bool). spotAfter (take n (bytesOf xs)) (cond t (record { line = suc (p .line); column = 1 }) (record { line = p .line; column = suc (p .column) }))) (h .0 .lines (at (x .origin)))
+        ∙ like-spot xs ys (h .1) n (turned (y .byte) p)
+
+    entries-same : (X Y : List Cell) → Like a b X Y → (k : ℕ) (es : List (ℕ × ℕ)) (hs : List Head) → entries k (bytesOf X) es hs ≡ entries k (bytesOf Y) es hs
+    entries-same X Y h k es [] = refl
+    entries-same X Y h k es (x ∷ hs) = ap₂ {C = List Spot} (λ u v. u ∷ v) (one (startFor (x .at) es)) (entries-same X Y h k es hs)
+      where
+        one : (z : Start) → entry k (bytesOf X) x z ≡ entry k (bytesOf Y) x z
+        one unwritten = refl
+        one (begins n) = ap (cond (eqb (x .start) (x .end) || leb k n) noSpot) (like-spot X Y h n firstSpot)
+
+    -- where newlines stand at the same places of both texts, the maps are equal
+    pub masking-map : (config : FormatConfig) (t : Tree) → TokenSpans (length a) (t .kids) → SpansStart a t → SpansStart b t → MaskedForLayout a b t
+        → tokenMap config a t ≡ tokenMap config b t
+    unfolding tokenMap
+    masking-map config t s x y m =
+        let k = same-pieces t s x y m original original-keeps-alike config in
+        let ps = piecesOf original config a t in
+        let qs = piecesOf original config b t in
+        let es = starts-same config (calls formatNode a t) (each-alike t s x y m formatNode) newState 0
+        ∙ ap (λ (cs : List Call). starts config b cs newState 0) (calls-same formatNode t (tokens-alike t s x y m)) in
+        entries-same (format original config a t) (format original config b t) (masking original original-keeps-alike config t s x y m) (trimmed (written ps)) (starts config a (calls formatNode a t) newState 0) (tokens (t .kids))
+        ∙ ap (λ (n : ℕ). entries n (bytesOf (format original config b t)) (starts config a (calls formatNode a t) newState 0) (tokens (t .kids))) (written-trims ps qs k)
+        ∙ ap (λ (l : List (ℕ × ℕ)). entries (trimmed (written qs)) (bytesOf (format original config b t)) l (tokens (t .kids))) es
 
 -- ── demand 3's own conditions ask for more
 

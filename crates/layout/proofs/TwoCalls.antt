@@ -49,7 +49,7 @@ module _ (a b : Text) where
   -- ── two outcomes
 
   -- refused alike, or laid out alike
-  abbrev OutcomesLike : Outcome → Outcome → Type 0
+  abbrev pub OutcomesLike : Outcome → Outcome → Type 0
   OutcomesLike (refusal f p) (refusal g q) = (f ≡ g) × (p ≡ q)
   OutcomesLike (refusal f p) (laid ds) = ⊥
   OutcomesLike (laid cs) (refusal g q) = ⊥
@@ -90,7 +90,7 @@ got-same e = cc
 
 module _ (width case : ℕ) (a b : Text) (tape : List ℕ) where
   module _ (m : MaskedPairForLayout width case a b tape) where
-    outcomes-like : (v : Version) → KeepsAlike a b (m .sameLength) v → OutcomesLike a b (outcome v width case a tape) (outcome v width case b tape)
+    pub outcomes-like : (v : Version) → KeepsAlike a b (m .sameLength) v → OutcomesLike a b (outcome v width case a tape) (outcome v width case b tape)
     unfolding outcome
     outcomes-like v keeps =
         rw (← (same-reading width case a b tape (m .sameLength) (m .passA) (m .passB))) (go (readCall width case a tape) refl)
