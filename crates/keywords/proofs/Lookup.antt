@@ -1,6 +1,6 @@
 -- The one entry that the index leads to is the only one that can be equal to a word.
 use mathlib.Core.Path.{_≡_, refl, sym, ap, _∙_, subst}
-use mathlib.Core.Bool.{Bool, true, false, cond, not, _&&_, _||_, false≢true}
+use mathlib.Core.Bool.{Bool, true, false, cond, _&&_, false≢true}
 use mathlib.Core.Logic.{_⊎_, inl, inr}
 use mathlib.Core.List.{List, [], _∷_, map}
 use Prim.Native.Nat.{ℕ, zero, suc, _+_, _-_, _/_, _%_, _≤_, _<_}
@@ -12,10 +12,9 @@ use lib.ListN.{length, getD, length-map}
 use Rattle.keywords.specs.Names.{names}
 use Rattle.basics.specs.Case.{toUppercase}
 use Rattle.basics.specs.Match.{match}
-use Rattle.keywords.specs.Words.{bytes, capitals, words, same, isValueKeyword, placeOf}
-use Rattle.keywords.specs.Table as table
-use Rattle.keywords.specs.Table.{words-rule}
-use Rattle.keywords.specs.Index.{shifts, key, index, noEntry, entryOf, candidate, unpacked, numbers, mayBeListed, offset, Stands}
+use Rattle.keywords.specs.Words.{capitals, words, same, placeOf}
+use Rattle.keywords.specs.Table.{capital, entry, entries, words-rule}
+use Rattle.keywords.specs.Index.{shifts, letterAt, key, index, noEntry, entryOf, candidate, unpacked, numbers, mayBeListed, offset, Stands}
 use Rattle.keywords.specs.declared.Candidate.{Candidate}
 use Rattle.keywords.specs.declared.Candidate.the-variants.{One, Nothing}
 use Rattle.keywords.specs.declared.Entry as declared
@@ -24,9 +23,6 @@ use Rattle.keywords.specs.declared.Place.the-variants.{At, Nowhere}
 use Rattle.basics.proofs.Same.{both, same-equal}
 use Rattle.keywords.proofs.Capitals.{capitals-at}
 use Rattle.keywords.proofs.Places.{Entry, placed-entry, entry-placed, same-self}
-
-abbrev letterAt : List ℕ → ℕ → ℕ
-letterAt w i = getD w i 0 % 32
 
 -- ── the index as numbers
 
@@ -91,16 +87,15 @@ stands k = go (match k (index 0 0 words) noEntry) (found-from k 0 0 words)
 
 -- ── each entry is led to
 
--- what is known of the entry at a place: the rule of entries, and the index leads to it, so that it stands there once
-known : ℕ → List (List ℕ) → List (ℕ × declared.Entry) → Bool
-known i [] t = true
-known i (e ∷ es) t =
-    (table.entry e && (eqb (match (key e) t noEntry .place) i && eqb (match (key e) t noEntry .first) (letterAt e 0))) && known (suc i) es t
+-- the index leads to the entry at each place, so that none stands there twice
+leads : ℕ → List (List ℕ) → List (ℕ × declared.Entry) → Bool
+leads i [] t = true
+leads i (e ∷ es) t = (eqb (match (key e) t noEntry .place) i && eqb (match (key e) t noEntry .first) (letterAt e 0)) && leads (suc i) es t
 
 -- of all entries: one computed test
-words-known : T (known 0 words (index 0 0 words))
-unfolding names words shifts key index known
-words-known = tt
+words-lead : T (leads 0 words (index 0 0 words))
+unfolding names words shifts key index leads
+words-lead = tt
 
 record Known (w : List ℕ) (i : ℕ) (t : List (ℕ × declared.Entry)) : Type 0 where
   long : 2 ≤ length w
@@ -108,30 +103,29 @@ record Known (w : List ℕ) (i : ℕ) (t : List (ℕ × declared.Entry)) : Type 
   led : match (key w) t noEntry .place ≡ i
   begins : match (key w) t noEntry .first ≡ letterAt w 0
 
-known-at : (i : ℕ) (es : List (List ℕ)) (t : List (ℕ × declared.Entry)) (j : ℕ) → T (known i es t) → j < length es → Known (getD es j []) (i + j) t
-unfolding known
-known-at i [] t j k h = absurd (not-suc-le-zero h)
-known-at i (e ∷ es) t zero k h =
-    let u = both (table.entry e && (eqb (match (key e) t noEntry .place) i && eqb (match (key e) t noEntry .first) (letterAt e 0))) (known (suc i) es t) k .0 in
-    let v = both (table.entry e) (eqb (match (key e) t noEntry .place) i && eqb (match (key e) t noEntry .first) (letterAt e 0)) u in
-    let l = both (leb 2 (length e)) (leb (length e) 12) (both (leb 2 (length e) && leb (length e) 12) (table.capital e) (v .0) .0) in
-    let x = both (eqb (match (key e) t noEntry .place) i) (eqb (match (key e) t noEntry .first) (letterAt e 0)) (v .1) in
+known-at : (i : ℕ) (es : List (List ℕ)) (t : List (ℕ × declared.Entry)) (j : ℕ) → T (entries es) → T (leads i es t) → j < length es → Known (getD es j []) (i + j) t
+unfolding leads
+known-at i [] t j r k h = absurd (not-suc-le-zero h)
+known-at i (e ∷ es) t zero r k h =
+    let l = both (leb 2 (length e)) (leb (length e) 12) (both (leb 2 (length e) && leb (length e) 12) (capital e) (both (entry e) (entries es) r .0) .0) in
+    let u = both (eqb (match (key e) t noEntry .place) i && eqb (match (key e) t noEntry .first) (letterAt e 0)) (leads (suc i) es t) k .0 in
+    let x = both (eqb (match (key e) t noEntry .place) i) (eqb (match (key e) t noEntry .first) (letterAt e 0)) u in
     record {
       long = leb→le 2 (length e) (l .0);
       short = leb→le (length e) 12 (l .1);
       led = eqb→eq (match (key e) t noEntry .place) i (x .0) ∙ omega arith;
       begins = eqb→eq (match (key e) t noEntry .first) (letterAt e 0) (x .1);
     }
-known-at i (e ∷ es) t (suc j) k h =
-    let u = both (table.entry e && (eqb (match (key e) t noEntry .place) i && eqb (match (key e) t noEntry .first) (letterAt e 0))) (known (suc i) es t) k .1 in
-    let r = known-at (suc i) es t j u (le-of-suc-le-suc h) in
+known-at i (e ∷ es) t (suc j) r k h =
+    let u = both (eqb (match (key e) t noEntry .place) i && eqb (match (key e) t noEntry .first) (letterAt e 0)) (leads (suc i) es t) k .1 in
+    let v = known-at (suc i) es t j (both (entry e) (entries es) r .1) u (le-of-suc-le-suc h) in
     let s : suc i + j ≡ i + suc j = omega arith in
-    rw (← s) r
+    rw (← s) v
 
 known-entry : (w : List ℕ) (i : ℕ) → Entry w words i → Known w i (index 0 0 words)
 known-entry w i x =
     let z : 0 + i ≡ i = omega arith in
-    let r = known-at 0 words (index 0 0 words) i words-known (x .inside) in
+    let r = known-at 0 words (index 0 0 words) i words-rule words-lead (x .inside) in
     subst (λ (v : List ℕ). Known v i (index 0 0 words)) (x .is) (subst (λ (n : ℕ). Known (getD words i []) n (index 0 0 words)) z r)
 
 -- ── a word's candidate does not depend on the case of its letters
@@ -161,7 +155,7 @@ key-capitals w h =
 -- what is known of a word that has a place
 record Led (w : List ℕ) (i : ℕ) : Type 0 where
   entry : Entry (capitals w) words i
-  leads : entryOf (key w) .place ≡ i
+  place : entryOf (key w) .place ≡ i
   passes : mayBeListed w ≡ true
 
 placed-led : (w : List ℕ) (i : ℕ) → placeOf (capitals w) words ≡ At i → Led w i
@@ -176,7 +170,7 @@ placed-led w i h =
     let f = ap (λ (e : declared.Entry). e .first) (sym c) ∙ k .begins ∙ letter-capitals w 0 (omega arith) in
     record {
       entry = x;
-      leads = ap (λ (e : declared.Entry). e .place) (sym c) ∙ k .led;
+      place = ap (λ (e : declared.Entry). e .place) (sym c) ∙ k .led;
       passes = rw (le-leb 2 (length w) long, le-leb (length w) 12 short) (eq-eqb _ _ f);
     }
 
@@ -199,7 +193,7 @@ module _ (w : List ℕ) where
   other-entry h =
       none (placeOf (capitals w) words) (λ i e.
       let x = placed-led w i e in
-      let y = ap (λ (j : ℕ). getD words j []) (x .leads) ∙ x .entry .is in
+      let y = ap (λ (j : ℕ). getD words j []) (x .place) ∙ x .entry .is in
       false≢true (sym h ∙ ap (λ (v : List ℕ). same (capitals w) v) y ∙ same-self (capitals w)))
 
   -- one that is has the entry's place
@@ -207,7 +201,7 @@ module _ (w : List ℕ) where
   this-entry h =
       let x : Entry (capitals w) words (entryOf (key w) .place) = record { inside = stands (key w) .inside; is = sym (same-equal (capitals w) (getD words (entryOf (key w) .place) []) h) } in
       let y = entry-placed (capitals w) words (entryOf (key w) .place) x in
-      y .is ∙ ap At (sym (placed-led w (y .place) (y .is) .leads))
+      y .is ∙ ap At (sym (placed-led w (y .place) (y .is) .place))
 
   -- the one entry that can be equal is the one with the word's key
   pub one-is : (e : declared.Entry) → candidate w ≡ One e → e ≡ entryOf (key w)

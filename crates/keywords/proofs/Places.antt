@@ -1,6 +1,6 @@
 -- The place of a word in a list.
-use mathlib.Core.Path.{_≡_, refl, sym, ap, _∙_}
-use mathlib.Core.Bool.{Bool, true, false, cond, not, _&&_, _||_, false≢true}
+use mathlib.Core.Path.{_≡_, refl, ap}
+use mathlib.Core.Bool.{Bool, true, false, cond, false≢true}
 use mathlib.Core.List.{List, [], _∷_}
 use Prim.Native.Nat.{ℕ, zero, suc, _+_, _<_}
 use native.Mathlib.Nat.{le-of-suc-le-suc, not-suc-le-zero}
@@ -8,11 +8,9 @@ use native.Mathlib.Omega.{arith}
 use borrow.Author.Tests.{eq-eqb}
 use lib.ListN.{length, getD}
 use Rattle.basics.proofs.Same.{same-equal}
-use Rattle.keywords.specs.Words.{words, same, listed, capitals, isKeyword, isValueKeyword, next, placeOf, sortOf, wordOf}
+use Rattle.keywords.specs.Words.{same, next, placeOf}
 use Rattle.keywords.specs.declared.Place.{Place}
 use Rattle.keywords.specs.declared.Place.the-variants.{At, Nowhere}
-use Rattle.keywords.specs.declared.Word.{Word}
-use Rattle.keywords.specs.declared.Word.the-variants.{Plain, Value, Keyword}
 
 pub same-self : (w : List ℕ) → same w w ≡ true
 unfolding same

@@ -64,7 +64,7 @@ other-keyword w = go (isValueKeyword w) (placeOf (capitals w) words) (listed-at 
 abbrev isValue : List ℕ → Bool
 isValue w = same w (bytes "TRUE") || (same w (bytes "FALSE") || same w (bytes "NULL"))
 
-abbrev pub atValue : ℕ → Bool
+abbrev atValue : ℕ → Bool
 atValue i = leb 97 i && leb i 99
 
 abbrev agree : Bool → Bool → Bool
@@ -97,7 +97,7 @@ value-at i (e ∷ es) (suc j) t h =
     value-at (suc i) es j (both (agree (isValue e) (atValue i)) (valuesFrom (suc i) es) t .1) (le-of-suc-le-suc h) ∙ ap (λ (n : ℕ). atValue n) s
 
 -- a listed word is a value word by its place
-pub value-place : (w : List ℕ) (i : ℕ) → placeOf (capitals w) words ≡ At i → isValueKeyword w ≡ atValue i
+value-place : (w : List ℕ) (i : ℕ) → placeOf (capitals w) words ≡ At i → isValueKeyword w ≡ atValue i
 value-place w i h =
     let x = placed-entry (capitals w) words i h in
     let z : 0 + i ≡ i = omega arith in

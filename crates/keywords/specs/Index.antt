@@ -20,7 +20,7 @@ shifts =
     ∷ (50, 6) ∷ (51, 3) ∷ (52, 200) ∷ (53, 37) ∷ (56, 3) ∷ (57, 31) ∷ (60, 98) ∷ []
 
 -- the number of a letter, in either case
-abbrev letterAt : List ℕ → ℕ → ℕ
+abbrev pub letterAt : List ℕ → ℕ → ℕ
 letterAt w i = getD w i 0 % 32
 
 -- a word's key
