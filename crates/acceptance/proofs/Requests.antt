@@ -89,8 +89,8 @@ module _ (width case : ℕ) (text : Text) (tape beforeA beforeB : List ℕ) (r :
       ∙ named (format original (configOf width case) text t) beforeA
       ∙ ap (λ (n : ℕ). answer (numberIn (length beforeA) n) n) (sym (as-long width case text tape beforeA (r .first) afterA (twice .first) t))
 
-  names : (room needed : ℕ) → T (namesLength (answer (numberIn room needed) needed))
-  names room needed = go (leb needed room)
+  is-named : (room needed : ℕ) → T (namesLength (answer (numberIn room needed) needed))
+  is-named room needed = go (leb needed room)
     where
       go : (fits : Bool) → T (namesLength (answer (cond fits 0 13) needed))
       go true = tt
@@ -103,7 +103,7 @@ module _ (width case : ℕ) (text : Text) (tape beforeA beforeB : List ℕ) (r :
         callB = twice .second;
         named =
             λ t p e. (
-              rw (first-named t p e) (names (length beforeA) (length (formatted width case text t))),
+              rw (first-named t p e) (is-named (length beforeA) (length (formatted width case text t))),
               ap (λ (a : Answer). a .value) (first-named t p e),
             );
         sameLength = λ m n. twice .oneValue;

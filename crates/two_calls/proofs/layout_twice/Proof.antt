@@ -17,7 +17,7 @@ same-length-2 : tie.Need-same-length-2
 same-length-2 c = search needs
 
 returns : tie.Need-returns
-returns c = let a = c .before .before .before .before .before .before .before .before .before .before .before .before .before .args in lays-out-twice (a .text .now) (a .tape .now) (a .width) (a .case) _ (a .out-a .now) (a .out-b .now) (c .before .before .before .before .before .before .layout .ensures) (c .before .before .layout2 .ensures)
+returns c = let a = c .before .before .before .before .before .before .before .before .before .before .before .before .args in lays-out-twice (a .text .now) (a .tape .now) (a .width) (a .case) _ (a .out-a .now) (a .out-b .now) (c .before .before .before .before .before .before .layout .ensures) (c .before .before .layout2 .ensures)
 
 pub layout-twice-spec : {M : Type 1} → statement M
 layout-twice-spec =
