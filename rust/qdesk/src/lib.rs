@@ -22,9 +22,8 @@
 //!
 //! Any bytes and any numbers may be passed: each call has one answer, for a layout a length or a refusal ([`Error`]), and which one is
 //! proved. The calls keep no state, so that any number of threads may make them at once; [`needed_length`], [`layout`] and [`word`] use no
-//! heap.
-//! Only a library of another version than this crate could answer with a number that is unknown here, and the call would end in a panic
-//! that says so.
+//! heap. Only a library of another version than this crate could answer with a number that is unknown here, and the call would end in a
+//! panic that says so.
 
 #![deny(unsafe_code)]
 #![warn(missing_docs)]
@@ -128,8 +127,8 @@ fn in_memory(length: u64) -> usize {
     usize::try_from(length).expect("a length fits 64 bits, which this machine has")
 }
 
-/// The layout in a vector of its length. Few layouts are more than twice as long as their text: such a one takes a second call of [`layout`],
-/// all others one.
+/// The layout in a vector of its length, by one call of [`layout`] in a space of twice the text's length and 64 bytes, or by a second one where
+/// the layout is longer.
 ///
 /// # Tapes from strangers
 ///
