@@ -36,6 +36,7 @@ pub fn compare(seed: u64, class: Class, index: u64) -> Result<(), String> {
         Made::Word(bytes) => same_word(&bytes),
         Made::Job(_) => panic!("a job is no call"),
         Made::MapCall(_) | Made::MapPair(_) => panic!("the library has no map call yet"),
+        Made::Book(_) | Made::BookPair(_) => panic!("a book is compared by compare::report"),
     }
     .map_err(differs)
 }

@@ -10,15 +10,16 @@ pub const HEADER: [u8; 3] = [0x10, 0x11, 0x12];
 
 /// What the program prints for a job.
 pub fn printed(job: &[u8]) -> Vec<u8> {
-    let case = match read(job) {
-        Ok(case) => case,
-        Err(refusal) => return refusal_line(refusal),
-    };
-    let answered = answer(&case);
-    if answered.laid_out.number != 0 {
-        return refusal_line(answered.laid_out);
+    layout(job).unwrap_or_else(refusal_line)
+}
+
+/// The layout of a job in the program's output buffer, or the refusal.
+pub fn layout(job: &[u8]) -> Result<Vec<u8>, Answer> {
+    let answered = answer(&read(job)?);
+    match answered.laid_out {
+        Answer { number: 0, second } => Ok(answered.space[..second as usize].to_vec()),
+        refusal => Err(refusal),
     }
-    answered.space[..answered.laid_out.second as usize].to_vec()
 }
 
 /// The call that a job asks for, or answer 14.
@@ -64,6 +65,7 @@ fn text_operand(bytes: &[u8]) -> Option<(&[u8], &[u8])> {
     Some(rest.split_at(length))
 }
 
-fn refusal_line(refusal: Answer) -> Vec<u8> {
+/// The line that a program prints for a refusal.
+pub fn refusal_line(refusal: Answer) -> Vec<u8> {
     format!("refused {} at {}\n", refusal.number, refusal.second).into_bytes()
 }
