@@ -113,17 +113,27 @@ impl Reported {
 }
 
 impl Tally {
+    /// The tally of these numbers, as they stand in memory.
+    pub fn of([jobs, refused, bytes, lines]: [u64; 4]) -> Tally {
+        Tally { jobs, refused, bytes, lines }
+    }
+
+    pub fn numbers(self) -> [u64; 4] {
+        [self.jobs, self.refused, self.bytes, self.lines]
+    }
+
     fn line(&self) -> String {
         let Tally { jobs, refused, bytes, lines } = self;
         format!("total jobs {jobs} refused {refused} bytes {bytes} lines {lines}\n")
     }
 }
 
-/// The library's call: a book, whether more follows it, and what is lent: a tally, the space in which jobs are laid out, the output space.
+/// The library's call: a book, whether more follows it (not 0), and what is lent: a tally, the space in which jobs are laid out, the output
+/// space.
 #[derive(Clone, Debug, PartialEq)]
 pub struct ReportCase {
     pub book: Vec<u8>,
-    pub more: bool,
+    pub more: u64,
     pub tally: Tally,
     pub work: Vec<u8>,
     pub space: Vec<u8>,
@@ -141,8 +151,8 @@ pub struct Called {
 /// The library's call. A book that more follows is too long.
 pub fn answer(case: &ReportCase) -> Called {
     let reported = match case.more {
-        true => refused(TOO_LONG, case.tally),
-        false => report(&case.book, case.tally),
+        0 => report(&case.book, case.tally),
+        _ => refused(TOO_LONG, case.tally),
     };
     called(&reported, &case.work, &case.space)
 }

@@ -120,9 +120,9 @@ fn limits_hold_every_refusal_of_a_job_and_layouts_about_the_buffer() {
     }
     let printed =
         |index| String::from_utf8(report(&book(Class::BooksLimits, index), Tally::default()).printed).unwrap();
-    assert!(printed(25).contains("2 bytes 65536 lines 1\n"));
-    assert!(printed(26).contains("2 refused 13 at 65537\n"));
-    assert!(printed(28).starts_with("1 bytes 60002 lines 60001\n2 bytes 3 lines 2\n3 bytes 2 lines 1\n"));
+    assert!(printed(22).contains("2 bytes 65536 lines 1\n"));
+    assert!(printed(23).contains("2 refused 13 at 65537\n"));
+    assert!(printed(24).starts_with("1 bytes 60002 lines 60001\n2 bytes 3 lines 2\n3 bytes 2 lines 1\n"));
 }
 
 /// A book of the class meets the conditions, and with its pair the claim.

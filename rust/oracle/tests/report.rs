@@ -242,7 +242,7 @@ fn the_tally_is_that_of_the_last_line_whatever_it_held() {
 // The library's call
 
 /// The call with this output space, a tally and a working space with something in them.
-fn lent(book: Vec<u8>, more: bool, space: usize) -> ReportCase {
+fn lent(book: Vec<u8>, more: u64, space: usize) -> ReportCase {
     ReportCase { book, more, tally: HELD, work: vec![0xEE; job::BUFFER], space: vec![0xAA; space] }
 }
 
@@ -252,7 +252,7 @@ fn as_much_is_put_as_there_is_room_for() {
     let book = write(&[job_b(), lone_close()]);
     let printed = printed(&book).into_bytes();
     for (space, put) in [(0, 0), (1, 1), (printed.len() - 1, printed.len() - 1), (printed.len() + 5, printed.len())] {
-        let called = answer(&lent(book.clone(), false, space));
+        let called = answer(&lent(book.clone(), 0, space));
         assert_eq!(called.put, put);
         assert_eq!(called.space, [&printed[..put], &vec![0xAA; space - put]].concat());
         assert_eq!(called.tally, Tally { jobs: 2, refused: 1, bytes: 27, lines: 4 });
@@ -262,7 +262,7 @@ fn as_much_is_put_as_there_is_room_for() {
 #[test]
 fn a_book_that_more_follows_is_too_long() {
     for book in [Vec::new(), vec![0], vec![0x20; MOST_BYTES + 1]] {
-        let case = lent(book, true, 40);
+        let case = lent(book, 1, 40);
         let called = answer(&case);
         assert_eq!(called.space[..called.put], *b"refused 18 at 65536\n");
         assert_eq!((called.tally, called.work), (HELD, case.work));
@@ -273,13 +273,13 @@ fn a_book_that_more_follows_is_too_long() {
 fn each_layout_stands_over_the_front_of_the_one_before_it() {
     needs_source!();
     let book = write(&[job_b(), lone_close(), with_token("Number", "12"), Vec::new()]);
-    let called = answer(&lent(book, false, 0));
+    let called = answer(&lent(book, 0, 0));
     assert_eq!(called.work[..28], *b"12\nECT\n    a,\n    b\nFROM t\n\xEE");
 }
 
 #[test]
 fn a_refused_book_leaves_what_is_lent_as_it_was() {
-    let case = lent([write(&[lone_close()]), vec![0]].concat(), false, 20);
+    let case = lent([write(&[lone_close()]), vec![0]].concat(), 0, 20);
     let called = answer(&case);
     assert_eq!(called.space, b"refused 18 at 15\n\xAA\xAA\xAA");
     assert_eq!((called.tally, called.work), (HELD, case.work));
