@@ -3,7 +3,7 @@
 //!
 //! The tree comes as a *tape*, a row of commands; [`TapeBuilder`] spells one. [`measure`] says how long the layout is, [`layout`] writes
 //! it into a lent space, [`layout_to_vec`] does both, and [`layout_to_string`] does so from a `&str` to a `String`. [`word`] tells
-//! keywords, value words (TRUE, FALSE, NULL) and all other words apart.
+//! keywords, value words (TRUE, FALSE, NULL) and all other words apart. [`report`] tells of each query of a [`book`] how long its layout is.
 //!
 //! ```
 //! use qdesk::{layout_to_string, Case, Kind, Settings, TapeBuilder};
@@ -33,12 +33,14 @@ mod error;
 #[allow(unsafe_code)]
 mod ffi;
 mod kind;
+mod report;
 mod tape;
 mod word;
 
 pub use command::{command_at, commands, span_bytes, Command, Operands};
 pub use error::{Error, Refusal};
 pub use kind::Kind;
+pub use report::{book, job, report, Tally, MOST_BOOK, MOST_JOBS, MOST_REPORT};
 pub use tape::{TapeBuilder, TapeError, TapeFault, MOST_BYTES, MOST_OPEN};
 pub use word::{word, Word};
 
