@@ -22,8 +22,13 @@ pub fn layout(job: &[u8]) -> Result<Vec<u8>, Answer> {
     }
 }
 
-/// The call that a job asks for, or answer 14.
+/// The call that a job asks for, lent the program's output buffer, or answer 14.
 pub fn read(job: &[u8]) -> Result<Case, Answer> {
+    call(job).map(|case| Case { space: vec![0; BUFFER], ..case })
+}
+
+/// The call that a job asks for, lent no space, or answer 14.
+pub fn call(job: &[u8]) -> Result<Case, Answer> {
     if job.len() > BUFFER {
         return Err(Answer { number: 14, second: BUFFER as u64 });
     }
@@ -35,7 +40,7 @@ pub fn read(job: &[u8]) -> Result<Case, Answer> {
         tape: tape.to_vec(),
         width: u64::from(width),
         case: u64::from(case),
-        space: vec![0; BUFFER],
+        space: Vec::new(),
     })
 }
 
