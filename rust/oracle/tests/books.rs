@@ -136,13 +136,21 @@ fn masked_books_meet_the_conditions_and_have_one_report() {
     }
 }
 
+/// The jobs of a book up to a fault.
+fn jobs_of(book: &[u8]) -> Vec<&[u8]> {
+    let (mut jobs, mut rest) = (Vec::new(), book);
+    while let Some((job, after)) = first_job(rest) {
+        jobs.push(job);
+        rest = after;
+    }
+    jobs
+}
+
 /// How many jobs of two books differ, are alike and accepted, and are alike and refused.
 fn sorts([first, second]: &[Vec<u8>; 2]) -> [usize; 3] {
-    let (mut first, mut second, mut counts) = (&first[..], &second[..], [0; 3]);
-    while let (Some((one, after_one)), Some((other, after_other))) = (first_job(first), first_job(second)) {
-        let sort = if one != other { 0 } else { 1 + usize::from(job::layout(one).is_err()) };
-        counts[sort] += 1;
-        (first, second) = (after_one, after_other);
+    let mut counts = [0; 3];
+    for (one, other) in jobs_of(first).into_iter().zip(jobs_of(second)) {
+        counts[if one != other { 0 } else { 1 + usize::from(job::layout(one).is_err()) }] += 1;
     }
     counts
 }
@@ -153,6 +161,10 @@ fn masked_books_hold_several_masked_jobs_beside_unchanged_and_refused_ones() {
     let pairs: Vec<[Vec<u8>; 2]> = (0..1_000).map(pair).collect();
     let all_sorts = |pair: &&[Vec<u8>; 2]| sorts(pair).iter().zip([2, 1, 1]).all(|(count, least)| *count >= least);
     assert!(pairs.iter().filter(all_sorts).count() > 50);
+    let is_13 = |job: &[u8]| job::layout(job).is_err_and(|refusal| refusal.number == 13);
+    let masked_13 =
+        pairs.iter().flat_map(|[first, second]| Vec::from_iter(jobs_of(first).into_iter().zip(jobs_of(second))));
+    assert!(masked_13.filter(|(one, other)| one != other && is_13(one) && is_13(other)).count() > 10);
     let is_masked = |pair: &&[Vec<u8>; 2]| pair[0] != pair[1];
     let refused: BTreeSet<(u64, bool)> = pairs
         .iter()
