@@ -123,11 +123,13 @@ impl<T: Clone + PartialEq> Lent<T> {
 
     /// The space afterwards; the error is that a margin was touched.
     fn returned(mut self, cells: &str) -> Result<Vec<T>, String> {
-        let space = self.cells().to_vec();
-        if self.memory.starts_with(&self.margin) && self.memory.ends_with(&self.margin) {
-            return Ok(space);
+        let is_kept = self.memory.starts_with(&self.margin) && self.memory.ends_with(&self.margin);
+        self.memory.truncate(self.memory.len() - self.margin.len());
+        self.memory.drain(..self.margin.len());
+        if is_kept {
+            return Ok(self.memory);
         }
-        Err(format!("the margins of a space of {} {cells}", space.len()))
+        Err(format!("the margins of a space of {} {cells}", self.memory.len()))
     }
 }
 

@@ -34,19 +34,22 @@ pub fn compare(seed: u64, class: Class, index: u64, port: &impl ReportCall) -> R
 /// The call in output spaces of the report's length, one less, five more and none; and as if more followed the book.
 fn call(book: &[u8], port: &impl ReportCall) -> Result<(), String> {
     let expected = report(book, Tally::of(HELD));
+    let mut case = lent(book);
     for length in about(expected.printed.len()) {
-        let case = lent(book, 0, length);
+        case.space = pattern(length);
         same(&case, &called(&expected, &case.work, &case.space), port)?;
     }
+    case.space = pattern(24);
     for more in [1, 1 << 63] {
-        let case = lent(book, more, 24);
+        case.more = more;
         same(&case, &answer(&case), port)?;
     }
     Ok(())
 }
 
-fn lent(book: &[u8], more: u64, space: usize) -> ReportCase {
-    ReportCase { book: book.to_vec(), more, tally: Tally::of(HELD), work: WORK.clone(), space: pattern(space) }
+/// The call with no output space.
+fn lent(book: &[u8]) -> ReportCase {
+    ReportCase { book: book.to_vec(), more: 0, tally: Tally::of(HELD), work: WORK.clone(), space: Vec::new() }
 }
 
 fn same(case: &ReportCase, expected: &Called, port: &impl ReportCall) -> Result<(), String> {
@@ -87,7 +90,8 @@ fn masked([first, second]: &[Vec<u8>; 2], port: &impl ReportCall) -> Result<(), 
     claim(first, second)?;
     call(first, port)?;
     call(second, port)?;
-    let [one, other] = [first, second].map(|book| reported(&lent(book, 0, BUFFER), port));
+    let in_full = |book| reported(&ReportCase { space: WORK.clone(), ..lent(book) }, port);
+    let [one, other] = [first, second].map(|book| in_full(book));
     let (one, other) = (one?, other?);
     if (one.put, one.tally, one.space) != (other.put, other.tally, other.space) {
         return Err("the reports of a pair".to_string());
