@@ -5,7 +5,6 @@
 #include "qdesk.h"
 #include "qdesk_kinds.h"
 
-#include <inttypes.h>
 #include <stdio.h>
 #include <string.h>
 
