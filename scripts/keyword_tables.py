@@ -85,8 +85,8 @@ def proof(function, argument, uses, unfolding, table, arms, answer):
         f"use Rattle.keywords.proofs.index.{function}.Tie as tie",
     ]
     value = f"(λ (k : ℕ). match k {table} 0)"
-    for i, ((key, number), need) in enumerate(zip(arms, needs), start=1):
-        arm = f"arm-is {value} {number} ({key} ∷ []) (c .before .args .{argument}) refl (c .match .keys{i})"
+    for i, ((key, _), need) in enumerate(zip(arms, needs), start=1):
+        arm = f"arm-is {value} _ ({key} ∷ []) (c .before .args .{argument}) refl (c .match .keys{i})"
         lines += ["", f"{need} : tie.Need-{need}", f"unfolding {unfolding}", f"{need} c = {answer(arm)}"]
     keys = listed(key for key, _ in reversed(arms))
     rest = f"other-is (map (λ k. k ∷ []) ({keys})) (c .before .args .{argument}) (c .match .rest) {table} 0 refl"

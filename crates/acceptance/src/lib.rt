@@ -3,8 +3,10 @@
 use desk_job::print_job;
 use formatter::layout;
 use formatter::measure;
+use keywords::Place;
 use keywords::Word;
 use keywords::is_word;
+use keywords::walk;
 use keywords::word_of;
 use layout::Answer;
 use qdesk::qdesk_layout;
@@ -20,7 +22,7 @@ ghost use Rattle.layout.specs.Outcome.{Result, laidOut, measured, outcome};
 ghost use Rattle.desk_job.specs.Job.{printed};
 ghost use Rattle.desk_job.specs.Written.{Written, written};
 ghost use Rattle.qdesk.specs.WordAnswer.{wordAnswer};
-ghost use Rattle.acceptance.specs.Requests.{SortOfWord};
+ghost use Rattle.acceptance.specs.Requests.{FirstEntry, SortOfWord};
 ghost use Rattle.acceptance.specs.Demands.{Demand1, Demand2, Demand3};
 
 // What one call of each sort answers.
@@ -113,6 +115,13 @@ pub fn request_2(word: &[u8]) -> Word
     ensures { λ r. ⌜ SortOfWord (now (word .entry)) r ⌝ }
 {
     word_of(word)
+}
+
+// E4: the first entry of the list that is equal to a length and bytes, whatever they are, or none.
+pub fn request_4(length: usize, bytes: &[u8]) -> Place
+    ensures { λ r. ⌜ FirstEntry length (now (bytes .entry)) r ⌝ }
+{
+    walk(length, bytes)
 }
 
 // A word in any case beside one in capitals.
