@@ -53,7 +53,7 @@ returns : tie.Need-returns
 returns c =
     let d = c .before .before .before in
     let x = in-table (unpacked (d .args .number)) (d .args .keywords .now) (d .pre .0) (d .pre .1) in
-    sym (other-length (d .args .length) (d .args .bytes .now) _ (λ e. c .if1 .taken (x .counts ∙ e)))
+    sym (other-length (d .args .length) (d .args .bytes .now) _ (λ e. omega (arith, c .if1 .taken, x .counts, e)))
 
 returns-2 : tie.Need-returns-2
 returns-2 c = simp (lt-leb _ _ (c .if2 .taken))
@@ -88,7 +88,7 @@ returns-3 : tie.Need-returns-3
 returns-3 c =
     let d = c .before .before .before .before .before .before .before .before in
     let x = in-table (unpacked (d .args .number)) (d .args .keywords .now) (d .pre .0) (d .pre .1) in
-    let n = sym (c .before .before .before .before .before .if1 .left) in
+    let n : d .args .length ≡ getD (d .args .keywords .now) (unpacked (d .args .number) .at) 0 = omega (arith, c .before .before .before .before .before .if1 .left) in
     c .is-same .ensures ∙ rw (le-leb _ _ (c .before .before .before .before .if2 .left)) (ap (λ (v : List ℕ). same (take (d .args .length) (d .args .bytes .now)) v) (part-is (unpacked (d .args .number)) (d .args .keywords .now) x (d .args .length) n))
 
 pub is-entry-spec : {M : Type 1} → statement M
