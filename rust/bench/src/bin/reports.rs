@@ -97,41 +97,29 @@ impl Books {
         Books { books, work: Box::new([0; BUFFER]), out: vec![0; BUFFER], tokens }
     }
 
-    /// All books on one side; the reports, one behind the other, if they are asked for.
-    fn run(&mut self, side: Side, kept: &mut Option<String>) {
-        for number in 0..self.books.len() {
-            let report = match side {
-                Side::ReadyTrees => ready_trees(&self.books[number].queries),
-                Side::FromBook => from_book(&self.books[number].bytes),
-                Side::Port => self.port(number, kept.is_some()),
-            };
-            match kept {
-                Some(kept) => *kept += &report,
-                None => drop(black_box(report)),
-            }
+    /// The report over a book by one side.
+    fn report(&mut self, side: Side, number: usize) -> String {
+        match side {
+            Side::ReadyTrees => ready_trees(&self.books[number].queries),
+            Side::FromBook => from_book(&self.books[number].bytes),
+            Side::Port => self.port(number),
         }
     }
 
     #[inline(never)]
-    fn port(&mut self, number: usize, is_kept: bool) -> String {
+    fn port(&mut self, number: usize) -> String {
         let put = bench::report(black_box(&self.books[number].bytes), 0, &mut [0; 4], &mut self.work, &mut self.out);
-        match is_kept {
-            true => String::from_utf8(self.out[..put].to_vec()).expect("a report is ASCII"),
-            false => String::new(),
-        }
+        String::from_utf8(self.out[..put].to_vec()).expect("a report is ASCII")
     }
 
-    /// The error says which side differs from the port.
+    /// The error names the first book on which the sides differ.
     fn compare(&mut self) -> Result<(), String> {
-        let [ready, book, port] = SIDES.map(|side| {
-            let mut kept = Some(String::new());
-            self.run(side, &mut kept);
-            kept.unwrap_or_default()
-        });
-        match (ready == port, book == port) {
-            (true, true) => Ok(()),
-            _ => Err("the port's reports are not the source's".to_string()),
-        }
+        let differs = |books: &mut Books, number| {
+            let [ready, book, port] = SIDES.map(|side| books.report(side, number));
+            ready != port || book != port
+        };
+        let found = (0..self.books.len()).find(|number| differs(self, *number));
+        found.map_or(Ok(()), |number| Err(format!("book {number}: the port's report is not the source's")))
     }
 }
 
@@ -178,18 +166,20 @@ fn from_book(book: &[u8]) -> String {
     lines.finished()
 }
 
-/// In each round each side takes its turn with all books; the least time of each.
+/// In each round each side takes its turn with all books. A side's time is the sum over the books of its least time for the book.
 fn print_times(books: &mut Books, out: &mut dyn Write) -> io::Result<()> {
-    let mut least = SIDES.map(|_| f64::INFINITY);
+    let mut least = SIDES.map(|_| vec![f64::INFINITY; books.books.len()]);
     for _ in 0..ROUNDS {
         for (side, least) in SIDES.into_iter().zip(&mut least) {
-            let start = Instant::now();
-            books.run(side, &mut None);
-            *least = least.min(start.elapsed().as_nanos() as f64 / books.tokens as f64);
+            for (number, least) in least.iter_mut().enumerate() {
+                let start = Instant::now();
+                black_box(books.report(side, number));
+                *least = least.min(start.elapsed().as_nanos() as f64);
+            }
         }
     }
     let jobs: usize = books.books.iter().map(|book| book.queries.len()).sum();
-    let [ready, book, port] = least;
+    let [ready, book, port] = least.map(|times| times.iter().sum::<f64>() / books.tokens as f64);
     writeln!(
         out,
         "{} books, {jobs} jobs, {} tokens; the source's time over the port's: ready trees {:.2}, from the book {:.2}",
