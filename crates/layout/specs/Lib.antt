@@ -7,6 +7,8 @@ pub mod Calls
 pub mod Layout
 pub mod Run
 pub mod Outcome
+pub mod Lines
+pub mod TokenMap
 pub mod CourseSheet
 pub mod CallInputs
 pub mod Origins
