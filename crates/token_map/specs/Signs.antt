@@ -1,6 +1,6 @@
 -- What a routine writes for a token, by the token's kind: nothing, its text, or a fixed sign.
 use Prim.Native.Nat.{ℕ, _+_, _-_}
-use mathlib.Core.Bool.{cond}
+use mathlib.Core.Bool.{cond, _||_}
 use mathlib.Core.List.{List, [], _∷_}
 use lib.ListN.{length}
 use lib.Dec.{eqb}
@@ -27,20 +27,14 @@ signKinds signs.CommaRoundBrackets = Kinds.Comma ∷ Kinds.OpeningRoundBracket �
 signKinds signs.CommaSquareBrackets = Kinds.Comma ∷ Kinds.OpeningSquareBracket ∷ Kinds.ClosingSquareBracket ∷ []
 signKinds signs.CommaColonCurlyBraces = Kinds.Comma ∷ Kinds.Colon ∷ Kinds.OpeningCurlyBrace ∷ Kinds.ClosingCurlyBrace ∷ []
 
--- the kinds for which nothing is written
+-- the kinds for which nothing is written, besides Whitespace
 abbrev pub droppedKinds : Signs → List ℕ
-droppedKinds signs.Nothing = Kinds.Whitespace ∷ []
-droppedKinds signs.Semicolon = Kinds.Whitespace ∷ []
-droppedKinds signs.NoSemicolon = Kinds.Whitespace ∷ Kinds.Semicolon ∷ []
-droppedKinds signs.Comma = Kinds.Whitespace ∷ []
-droppedKinds signs.Minus = Kinds.Whitespace ∷ []
-droppedKinds signs.RoundBrackets = Kinds.Whitespace ∷ []
-droppedKinds signs.CommaRoundBrackets = Kinds.Whitespace ∷ []
-droppedKinds signs.CommaSquareBrackets = Kinds.Whitespace ∷ []
-droppedKinds signs.CommaColonCurlyBraces = Kinds.Whitespace ∷ []
+droppedKinds signs.NoSemicolon = Kinds.Semicolon ∷ []
+droppedKinds s = []
 
 unfoldable pub writtenAs : Signs → ℕ → Written
-writtenAs s k = cond (among k (droppedKinds s)) written.Nothing (cond (among k (signKinds s)) written.Sign written.Text)
+writtenAs s k =
+    cond (eqb k Kinds.Whitespace || among k (droppedKinds s)) written.Nothing (cond (among k (signKinds s)) written.Sign written.Text)
 
 -- The place of what was written last, from the position after it. Only white space can have followed: a sign is the last byte that trimming leaves; so
 -- is the last byte of what trimming leaves of the text; after a text of white space nothing was written
