@@ -1,0 +1,251 @@
+// The token map: what the loops of the routines note while the tree is walked, and lines and columns of what was noted. A plain layout lends a map of
+// no numbers.
+use context::Position;
+use context::token_text;
+use tape::Head;
+use tape::syntax_kind;
+use utf8::trimmed_from_end;
+ghost use mathlib.Core.Path.{_≡_};
+ghost use mathlib.Core.Bool.{cond};
+ghost use Prim.Native.Nat.{min, _+_, _-_, _≤_, _<_, _^_};
+ghost use lib.ListN.{length, replicate};
+ghost use Rattle.token_map.specs.Signs.{placeAs, placeBy, writtenAs};
+ghost use Rattle.token_map.specs.Notes.{noteAll, noted};
+ghost use Rattle.layout.specs.Lines.{turned};
+ghost use Rattle.token_map.specs.Spots.{Counted, lineColumn, spots};
+
+// For which kinds a routine writes a fixed sign. One with NoSemicolon writes none, and nothing for a Semicolon.
+pub enum Signs {
+    Nothing,
+    Semicolon,
+    NoSemicolon,
+    Comma,
+    Minus,
+    RoundBrackets,
+    CommaRoundBrackets,
+    CommaSquareBrackets,
+    CommaColonCurlyBraces,
+}
+
+// What is written for a token.
+pub enum Written {
+    Nothing,
+    Text,
+    Sign,
+}
+
+// Line and column of the byte at an offset, both from 1. They always agree with the bytes before it.
+pub struct Spot {
+    pub at: usize,
+    pub line: u64,
+    pub column: u64,
+}
+
+fn sign_if(is_sign: bool) -> Written
+    ensures { λ r. ⌜ r ≡ cond «is_sign» Written.Sign Written.Text ⌝ }
+{
+    if is_sign {
+        return Written::Sign;
+    }
+    Written::Text
+}
+
+fn written_as(signs: Signs, kind: u16) -> Written
+    ensures { λ r. ⌜ r ≡ writtenAs signs kind ⌝ }
+{
+    if kind == syntax_kind::WHITESPACE {
+        return Written::Nothing;
+    }
+    let round = (kind == syntax_kind::OPENING_ROUND_BRACKET)
+        | (kind == syntax_kind::CLOSING_ROUND_BRACKET);
+    let square = (kind == syntax_kind::OPENING_SQUARE_BRACKET)
+        | (kind == syntax_kind::CLOSING_SQUARE_BRACKET);
+    let curly = (kind == syntax_kind::OPENING_CURLY_BRACE)
+        | (kind == syntax_kind::CLOSING_CURLY_BRACE);
+    match signs {
+        Signs::Nothing => Written::Text,
+        Signs::Semicolon => sign_if(kind == syntax_kind::SEMICOLON),
+        Signs::NoSemicolon => {
+            if kind == syntax_kind::SEMICOLON {
+                return Written::Nothing;
+            }
+            Written::Text
+        }
+        Signs::Comma => sign_if(kind == syntax_kind::COMMA),
+        Signs::Minus => sign_if(kind == syntax_kind::MINUS),
+        Signs::RoundBrackets => sign_if(round),
+        Signs::CommaRoundBrackets => sign_if((kind == syntax_kind::COMMA) | round),
+        Signs::CommaSquareBrackets => sign_if((kind == syntax_kind::COMMA) | square),
+        Signs::CommaColonCurlyBraces => {
+            sign_if((kind == syntax_kind::COMMA) | (kind == syntax_kind::COLON) | curly)
+        }
+    }
+}
+
+// The place of a text that was written last. A text of white space may not be the last that trimming leaves, so it is told by the length.
+fn place_of_text(text: &[u8], p: Position) -> usize
+    requires { ⌜ 0 < length (now text) ⌝ }
+    ensures { λ r. ⌜ r ≡ placeAs Written.Text (now (text .entry)) p ⌝ }
+{
+    let j = trimmed_from_end(text);
+    let mut end = p.trimmed;
+    let mut n = j;
+    if j == 0 {
+        end = p.length;
+        n = text.len();
+    }
+    if end < n {
+        return 1;
+    }
+    end - n + 1
+}
+
+// The place of the token for which an arm wrote, from the position after it.
+fn place_by(source: &[u8], token: Head, p: Position, signs: Signs) -> usize
+    requires { ⌜ (token .start ≤ token .end) × (token .end ≤ length (now source)) ⌝ }
+    ensures { λ r. ⌜ r ≡ placeBy signs (now (source .entry)) token p ⌝ }
+{
+    let start = token.start;
+    let end = token.end;
+    if start == end {
+        return 0;
+    }
+    let written = written_as(signs, token.kind);
+    match written {
+        Written::Nothing => 0,
+        Written::Sign => p.trimmed,
+        Written::Text => place_of_text(token_text(source, start, end), p),
+    }
+}
+
+// A place more.
+fn note_place(map: &mut [u64], place: usize)
+    ensures { λ _. ⌜ now (map .exit) ≡ noted place (now (map .entry)) ⌝ }
+{
+    let n = map.len();
+    if n == 0 {
+        return;
+    }
+    let last = n - 1;
+    let next = map[last] as usize;
+    if next < last {
+        map[next] = place as u64;
+        map[last] = next as u64 + 2;
+    }
+}
+
+fn note_written(map: &mut [u64], source: &[u8], token: Head, p: Position, signs: Signs)
+    requires { ⌜ (token .start ≤ token .end) × (token .end ≤ length (now source)) ⌝ }
+    ensures { λ _. ⌜ now (map .exit) ≡ noted (placeBy signs (now (source .entry)) token p) (now (map .entry)) ⌝ }
+{
+    let place = place_by(source, token, p, signs);
+    note_place(map, place);
+}
+
+// Notes a token, right after its arm: p is the position then. Only the test goes into the loops of the routines.
+pub fn note_token(map: &mut [u64], source: &[u8], token: Head, p: Position, signs: Signs)
+    requires { ⌜ (token .start ≤ token .end) × (token .end ≤ length (now source)) ⌝ }
+    ensures { λ _. ⌜ now (map .exit) ≡ noted (placeBy signs (now (source .entry)) token p) (now (map .entry)) ⌝ }
+{
+    if map.len() == 0 {
+        return;
+    }
+    note_written(map, source, token, p, signs);
+}
+
+// Notes so many tokens without a place.
+pub fn note_none(map: &mut [u64], tokens: usize)
+    ensures { λ _. ⌜ now (map .exit) ≡ noteAll (replicate tokens 0) (now (map .entry)) ⌝ }
+{
+    if map.len() == 0 {
+        return;
+    }
+    let mut left = tokens;
+    while 0 < left {
+        note_place(map, 0);
+        left -= 1;
+    }
+}
+
+// All numbers zero, before the walk.
+pub fn clear(map: &mut [u64])
+    ensures { λ _. ⌜ now (map .exit) ≡ replicate (length (now (map .entry))) 0 ⌝ }
+{
+    let mut i: usize = 0;
+    while i < map.len() {
+        map[i] = 0;
+        i += 1;
+    }
+}
+
+fn first_spot(out: &[u8]) -> Spot
+    ensures { λ r. ⌜ Counted (now (out .entry)) r × (r .at ≡ 0) ⌝ }
+{
+    Spot {
+        at: 0,
+        line: 1,
+        column: 1,
+    }
+}
+
+// The spot after one byte more: a newline ends its line.
+fn after_byte(spot: Spot, b: u8) -> Spot
+    requires { ⌜ (spot .at + 2 < 2 ^ 64) × (spot .line ≤ spot .at + 1) × (spot .column ≤ spot .at + 1) ⌝ }
+    ensures { λ r. ⌜ (r .at ≡ spot .at + 1) × (lineColumn r ≡ turned b (lineColumn spot)) ⌝ }
+{
+    if b == 10 {
+        return Spot {
+            at: spot.at + 1,
+            line: spot.line + 1,
+            column: 1,
+        };
+    }
+    Spot {
+        at: spot.at + 1,
+        line: spot.line,
+        column: spot.column + 1,
+    }
+}
+
+// The spot of the byte at an offset, or after the last byte. From a spot before it only the bytes between are counted.
+fn spot_at(out: &[u8], from: Spot, at: usize) -> Spot
+    requires { ⌜ Counted (now out) from × (at + 1 < 2 ^ 64) ⌝ }
+    ensures { λ r. ⌜ Counted (now (out .entry)) r × (r .at ≡ min at (length (now (out .entry)))) ⌝ }
+{
+    let mut spot = from;
+    if at < from.at {
+        spot = first_spot(out);
+    }
+    let mut i = spot.at;
+    while i < at {
+        if out.len() <= i {
+            return spot;
+        }
+        spot = after_byte(spot, out[i]);
+        i += 1;
+    }
+    spot
+}
+
+// The places that were noted become lines and columns of `out`, of which trimming leaves k bytes.
+pub fn place_tokens(map: &mut [u64], out: &[u8], k: usize)
+    ensures { λ _. ⌜ now (map .exit) ≡ spots k (now (out .entry)) (now (map .entry)) ⌝ }
+{
+    let mut spot = first_spot(out);
+    let mut i: usize = 0;
+    while 1 < map.len() - i {
+        let place = map[i] as usize;
+        let mut line: u64 = 0;
+        let mut column: u64 = 0;
+        if 0 < place {
+            if place <= k {
+                spot = spot_at(out, spot, place - 1);
+                line = spot.line;
+                column = spot.column;
+            }
+        }
+        map[i] = line;
+        map[i + 1] = column;
+        i += 2;
+    }
+}
