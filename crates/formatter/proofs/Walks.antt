@@ -27,7 +27,8 @@ use Rattle.layout.specs.Calls.{Call, putSpacing, actAt, formatErrorVerbatim, wa
 use Rattle.layout.specs.Run.{runSpacing, run}
 use Rattle.layout.specs.TokenMap.{Seat, seatAfter, placeOf, noPlaces, places, placesFrom}
 use Rattle.layout.proofs.Running.{run-append, run-spacing}
-use Rattle.token_map.specs.Notes.{noted, noteAll, placeBy}
+use Rattle.token_map.specs.Notes.{noted, noteAll}
+use Rattle.token_map.specs.Signs.{placeBy}
 use Rattle.token_map.specs.declared.Signs.{Signs}
 use Rattle.token_map.proofs.Laws.{note-append, seat-of-run, Signed, note-right}
 use Rattle.tokens.specs.TokenPromises.{Ran, Spaced, TokenReady, Acted}
@@ -375,7 +376,7 @@ node-copied {source} {tape} {config} {at = at} {c = c} {xs = xs} {ms = ms} p q e
             d .did ∙ ap (λ (x : Head). run config source (formatErrorVerbatim x) (c, xs)) e
             ∙ by-kind config source (headAt tape at) kids (c, xs) q (o kids z);
         notes =
-            n ∙ ap (λ (x : ℕ). noteAll (replicate x 0) ms) (s .count _ kids z)
+            n ∙ ap (λ (x : ℕ). noteAll (replicate x 0) ms) (s .counted _ kids z)
             ∙ by-kind-places config source (headAt tape at) kids (seat c) ms q (o kids z);
       };
     }

@@ -75,7 +75,7 @@ pub record RoutineDone (source tape : List ℕ) (config : FormatConfig) (i : ℕ
   pub forward : i < w .at
   pub inside : w .at ≤ length tape
   pub grew : Grew 8 i c (w .at) (w .context)
-  pub all : (kids : Children) → SpelledAt (length source) tape (i + 11) kids 
+  pub all : (kids : Children) → SpelledAt (length source) tape (i + 11) kids
       → WalkDone source config i (walk formatNode source (R kids) (R kids .begin) kids) (places config source formatNode (R kids) (R kids .begin) kids (seat c)) c xs ms w ys ns kids
 
 -- by the node's own routine, or copied as typed
@@ -83,5 +83,5 @@ pub record NodeDone (source tape : List ℕ) (config : FormatConfig) (i : ℕ) (
   pub forward : i < w .at
   pub inside : w .at ≤ length tape
   pub grew : Grew 8 i c (w .at) (w .context)
-  pub all : (kids : Children) → SpelledAt (length source) tape (i + 11) kids 
+  pub all : (kids : Children) → SpelledAt (length source) tape (i + 11) kids
       → WalkDone source config i (calls formatNode source (record { head = headAt tape i; kids = kids })) (placesFrom config source formatNode (record { head = headAt tape i; kids = kids }) (seat c)) c xs ms w ys ns kids

@@ -1,11 +1,13 @@
 // The C interface: every entry of the library, each thin over a proved function. `rt staticlib qdesk` makes the archive.
 use formatter::layout;
+use formatter::layout_map;
 use keywords::Word;
 use keywords::word_of;
 use layout::Answer;
 ghost use mathlib.Core.Path.{_≡_};
 ghost use Rattle.keywords.specs.Words.{wordOf};
 ghost use Rattle.layout.specs.Layout.{original};
+ghost use Rattle.layout.specs.MapCall.{Mapped, mapped};
 ghost use Rattle.layout.specs.Outcome.{Result, laidOut, outcome};
 ghost use Rattle.qdesk.specs.WordAnswer.{wordAnswer};
 
@@ -20,6 +22,20 @@ pub extern "C" fn qdesk_layout(
     ensures { λ r. ⌜ _≡_ {A = Result} (record { answer = r; space = now (out .exit) }) (laidOut (outcome original width case (now (text .entry)) (now (tape .entry))) (now (out .entry))) ⌝ }
 {
     layout(text, tape, width, case, out)
+}
+
+#[no_mangle]
+pub extern "C" fn qdesk_layout_map(
+    text: &[u8],
+    tape: &[u8],
+    width: u64,
+    case: u64,
+    out: &mut [u8],
+    map: &mut [u64],
+) -> Answer
+    ensures { λ r. ⌜ _≡_ {A = Mapped} (record { answer = r; space = now (out .exit); map = now (map .exit) }) (mapped width case (now (text .entry)) (now (tape .entry)) (now (out .entry)) (now (map .entry))) ⌝ }
+{
+    layout_map(text, tape, width, case, out, map)
 }
 
 #[no_mangle]
