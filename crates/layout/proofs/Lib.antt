@@ -2,7 +2,10 @@
 pub mod EachCall
 pub mod PieceStarts
 pub mod MaskedLayouts
+pub mod TokenMaps
+pub mod MaskedMaps
 pub mod TwoCalls
+pub mod MapCalls
 pub mod AsciiPairs
 pub mod MaskingTests
 pub mod Origins
