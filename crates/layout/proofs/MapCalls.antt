@@ -5,8 +5,9 @@ use mathlib.Core.Bool.{Bool, true, false, cond}
 use mathlib.Core.List.{List}
 use lib.ListN.{length}
 use lib.Dec.{leb}
-use Rattle.context.specs.Cells.{Text, Cell, fixed}
+use Rattle.context.specs.Cells.{Text, Cell, bytesOf, fixed}
 use Rattle.context.specs.Alike.{Like}
+use Rattle.context.proofs.Bytes.{bytes-fixed}
 use Rattle.context.proofs.AlikeWrites.{like-self, like-length}
 use Rattle.tape.specs.Tree.{Tree}
 use Rattle.tape.specs.Tape.{Read, refused, got}
@@ -15,11 +16,11 @@ use Rattle.layout.specs.Layout.{original}
 use Rattle.layout.specs.Outcome.{Outcome, refusal, laid, configOf, outcome, fitted, laidOut}
 use Rattle.layout.specs.TokenMap.{tokenMap}
 use Rattle.layout.specs.Masking.{MaskedPair, MaskedPairForLayout, SameLines, cellsAfter}
-use Rattle.layout.specs.MapCall.{flat, numbersOf, numbers, mapFitted, mappedAs, mapped, mapCellsAfter, MapsAlike}
+use Rattle.layout.specs.MapCall.{flat, numbersOf, numbers, mapFitted, mappedAs, mapped, mapCellsAfter, MapsAlike, MapsAlikeByLines}
 use Rattle.layout.proofs.MaskedLayouts.{original-keeps-alike, masked-lines}
 use Rattle.layout.proofs.TokenMaps.{map-count}
 use Rattle.layout.proofs.MaskedMaps.{masking-map}
-use Rattle.layout.proofs.TwoCalls.{OutcomesLike, alike, reading, read-both, outcomes-like, pair-for-layout}
+use Rattle.layout.proofs.TwoCalls.{cells-after, like-lines, OutcomesLike, alike, reading, read-both, outcomes-like, pair-for-layout}
 
 -- the output space is as after the layout call, unless the map does not fit
 mapped-space : (x : Outcome) (ns space map : List ℕ) → cond (leb (length ns) (length map)) ((laidOut x space) .space) space ≡ (mappedAs x ns space map) .space
@@ -36,6 +37,14 @@ mapped-space (laid cs) ns space map = go (leb (length cs) (length space)) (leb (
     go true false = refl
     go false true = refl
     go false false = refl
+
+-- the cells after a call are its output space
+pub map-cells-after : (x : Outcome) (ns space map : List ℕ) → bytesOf (mapCellsAfter x ns space map) ≡ (mappedAs x ns space map) .space
+map-cells-after x ns space map = go (leb (length ns) (length map)) ∙ mapped-space x ns space map
+  where
+    go : (t : Bool) → bytesOf (cond t (cellsAfter x space) (fixed space)) ≡ cond t ((laidOut x space) .space) space
+    go true = cells-after x space
+    go false = bytes-fixed space
 
 -- ── two outcomes that are alike, with as many numbers
 
@@ -70,10 +79,6 @@ module _ (a b : Text) where
   same-cells true X Y space h = h
   same-cells false X Y space h = like-self a b (fixed space)
 
-  same-lines : (t : Bool) (xs ys space : List ℕ) → SameLines xs ys → SameLines (cond t xs space) (cond t ys space)
-  same-lines true xs ys space h = h
-  same-lines false xs ys space h = λ i. refl
-
 -- ── the rule
 
 module _ (width case : ℕ) (a b : Text) (tape : List ℕ) where
@@ -106,26 +111,29 @@ module _ (width case : ℕ) (a b : Text) (tape : List ℕ) where
         let ns = numbers width case a tape in
         let ms = numbers width case b tape in
         let o = outcomes-like width case a b tape m original (original-keeps-alike a b (m .sameLength)) in
-        let k = alike a b x y o space in
+        let X = mapCellsAfter x ns space map in
+        let Y = mapCellsAfter y ms space map in
         let fits = leb (length ms) (length map) in
+        let k : Like a b X Y = rw numbers-length (same-cells a b fits (cellsAfter x space) (cellsAfter y space) space ((alike a b x y o space) .spaces)) in
         record {
           answers = same-answers a b x y ns ms o numbers-length space map;
-          spaces = rw numbers-length (same-cells a b fits (cellsAfter x space) (cellsAfter y space) space (k .spaces));
-          lines =
-              λ w.
-              subst₂ SameLines (mapped-space x ns space map) (mapped-space y ms space map)
-              (rw numbers-length (same-lines a b fits ((laidOut x space) .space) ((laidOut y space) .space) space (k .lines w)));
+          spaces = k;
+          lines = λ w. subst₂ SameLines (map-cells-after x ns space map) (map-cells-after y ms space map) (like-lines a b w X Y k);
           maps = λ w. same-maps a b x y ns ms o (numbers-same w) space map;
         }
 
-  -- under demand 3's own conditions no masked place holds a newline: the maps are equal
-  pub maps-masked : MaskedPair width case a b tape → (space map : List ℕ) → (mapped width case a tape space map) .map ≡ (mapped width case b tape space map) .map
+  -- where the call is refused nothing is written, and the texts need not have their newlines at the same places
+  pub maps-masked : MaskedPair width case a b tape → (space map : List ℕ) → MapsAlikeByLines width case a b tape space map
   unfolding mapped outcome numbers
-  maps-masked m space map = go (readCall width case a tape) refl
+  maps-masked m space map = let k = go (readCall width case a tape) refl in record { alike = all; lines = k .0; maps = k .1 }
     where
-      k : MapsAlike width case a b tape space map
-      k = masking-maps (pair-for-layout width case a b tape m) space map
+      forLayout : MaskedPairForLayout width case a b tape
+      forLayout = pair-for-layout width case a b tape m
 
-      go : (r : Read Tree) → readCall width case a tape ≡ r → (mapped width case a tape space map) .map ≡ (mapped width case b tape space map) .map
-      go (refused f p) e = rw (← (reading width case a b tape (pair-for-layout width case a b tape m)), e) refl
-      go (got t p) e = k .maps (masked-lines a b t (m .rule t p e))
+      all : MapsAlike width case a b tape space map
+      all = masking-maps forLayout space map
+
+      go : (r : Read Tree) → readCall width case a tape ≡ r
+          → SameLines ((mapped width case a tape space map) .space) ((mapped width case b tape space map) .space) × ((mapped width case a tape space map) .map ≡ (mapped width case b tape space map) .map)
+      go (refused f p) e = rw (← (reading width case a b tape forLayout), e) ((λ i. refl), refl)
+      go (got t p) e = let w = masked-lines a b t (m .rule t p e) in (all .lines w, all .maps w)

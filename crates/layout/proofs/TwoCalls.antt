@@ -35,7 +35,7 @@ cells-after (laid cs) space = go (leb (length cs) (length space))
 
 module _ (a b : Text) where
   -- line for line: where newlines stand at the same places of both texts, they do in both outputs
-  like-lines : SameLines a b → (X Y : List Cell) → Like a b X Y → SameLines (bytesOf X) (bytesOf Y)
+  pub like-lines : SameLines a b → (X Y : List Cell) → Like a b X Y → SameLines (bytesOf X) (bytesOf Y)
   like-lines w [] [] h i = refl
   like-lines w [] (y ∷ ys) h i = absurd h
   like-lines w (x ∷ xs) [] h i = absurd h

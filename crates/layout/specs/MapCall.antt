@@ -66,3 +66,9 @@ pub record MapsAlike (width case : ℕ) (a b : Text) (tape space map : List ℕ)
   -- line for line and number for number, where newlines stand at the same places of both texts
   pub lines : SameLines a b → SameLines ((mapped width case a tape space map) .space) ((mapped width case b tape space map) .space)
   pub maps : SameLines a b → (mapped width case a tape space map) .map ≡ (mapped width case b tape space map) .map
+
+-- the same under the rule's own conditions, which give the newlines of the texts
+pub record MapsAlikeByLines (width case : ℕ) (a b : Text) (tape space map : List ℕ) : Type 0 where
+  pub alike : MapsAlike width case a b tape space map
+  pub lines : SameLines ((mapped width case a tape space map) .space) ((mapped width case b tape space map) .space)
+  pub maps : (mapped width case a tape space map) .map ≡ (mapped width case b tape space map) .map
