@@ -13,6 +13,8 @@ pub mod CourseSheet
 pub mod CallInputs
 pub mod Origins
 pub mod Masking
+pub mod MapCall
+pub mod MapInputs
 pub mod SpanStarts
 pub mod MaskingTests
 pub mod MaskingNeeds
