@@ -47,13 +47,12 @@ module _ (len : ℕ) (tape : List ℕ) (e k : ℕ) where
       let t = spelled-token len tape i (s .0) (s .1) b in
       let m = length (tokens (t .0)) in
       let far : i + (11 + size (t .0)) ≡ i + 11 + size (t .0) = omega arith in
-      let more : n + suc m ≡ n + 1 + m = omega arith in
-      (
+      let more : n + suc m ≡ n + 1 + m = omega arith in (
         t .0,
         t .3,
         subst (λ x. Stacked len tape e k d x (n + 1 + m)) far
-        (subst (Stacked len tape e k d (i + (11 + size (t .0)))) more
-        (subst (λ x. Stacked len tape e k d (i + size x) (n + length (tokens x))) (t .1) (s .2))),
+            (subst (Stacked len tape e k d (i + (11 + size (t .0)))) more
+            (subst (λ x. Stacked len tape e k d (i + size x) (n + length (tokens x))) (t .1) (s .2))),
       )
 
   stacked-open : (d i n : ℕ) → 0 < d → Stacked len tape e k d i n → (getD tape i 0 ≡ 2 → ⊥) → (getD tape i 0 ≡ 3 → ⊥)
@@ -67,16 +66,15 @@ module _ (len : ℕ) (tape : List ℕ) (e k : ℕ) where
       let m = length (tokens (t .1)) in
       let far : i + (11 + size (t .0) + size (t .1)) ≡ i + 11 + size (t .0) + size (t .1) = omega arith in
       let more : n + length (tokens (node (headAt tape i) (t .0) (t .1))) ≡ n + l + m = rw length-append (omega arith) in
-      subst (λ x. Stacked len tape e k x (i + 11) n) (sym (add-one (suc d)))
-      (
+      subst (λ x. Stacked len tape e k x (i + 11) n) (sym (add-one (suc d))) (
         t .0,
         t .4,
         (
           t .1,
           t .5,
           subst (λ x. Stacked len tape e k d x (n + l + m)) far
-          (subst (Stacked len tape e k d (i + (11 + size (t .0) + size (t .1)))) more
-          (subst (λ x. Stacked len tape e k d (i + size x) (n + length (tokens x))) (t .2) (s .2))),
+              (subst (Stacked len tape e k d (i + (11 + size (t .0) + size (t .1)))) more
+              (subst (λ x. Stacked len tape e k d (i + size x) (n + length (tokens x))) (t .2) (s .2))),
         ),
       )
 
