@@ -29,8 +29,15 @@ signKinds signs.CommaColonCurlyBraces = Kinds.Comma ∷ Kinds.Colon ∷ Kinds.Op
 
 -- the kinds for which nothing is written, besides Whitespace
 abbrev pub droppedKinds : Signs → List ℕ
+droppedKinds signs.Nothing = []
+droppedKinds signs.Semicolon = []
 droppedKinds signs.NoSemicolon = Kinds.Semicolon ∷ []
-droppedKinds s = []
+droppedKinds signs.Comma = []
+droppedKinds signs.Minus = []
+droppedKinds signs.RoundBrackets = []
+droppedKinds signs.CommaRoundBrackets = []
+droppedKinds signs.CommaSquareBrackets = []
+droppedKinds signs.CommaColonCurlyBraces = []
 
 unfoldable pub writtenAs : Signs → ℕ → Written
 writtenAs s k =

@@ -7,6 +7,7 @@ use Rattle.layout.specs.Lines.{spotAt}
 use Rattle.layout.specs.Lines as lines
 use Rattle.layout.specs.TokenMap.{entry}
 use Rattle.token_map.specs.declared.Spot.{Spot}
+use Rattle.token_map.specs.declared.Entry.{Entry}
 
 -- the first number of each pair is a place; the pair becomes its line and column in bs, of which trimming leaves k
 unfoldable pub spots : ℕ → List ℕ → List ℕ → List ℕ
@@ -23,3 +24,9 @@ pub record Counted (bs : List ℕ) (s : Spot) : Type 0 where
   -- so that neither number wraps
   pub small : s .at + 1 < 2 ^ 64
   pub agrees : lineColumn s ≡ spotAt bs (s .at)
+
+-- the entry of a place, and a spot to go on from
+pub record Entered (k : ℕ) (bs : List ℕ) (place : ℕ) (e : Entry) : Type 0 where
+  pub counted : Counted bs (e .spot)
+  pub line : e .line ≡ entry k bs place .line
+  pub column : e .column ≡ entry k bs place .column

@@ -7,12 +7,12 @@ use tape::syntax_kind;
 use utf8::trimmed_from_end;
 ghost use mathlib.Core.Path.{_≡_};
 ghost use mathlib.Core.Bool.{cond};
-ghost use Prim.Native.Nat.{min, _+_, _-_, _≤_, _<_, _^_};
+ghost use Prim.Native.Nat.{_+_, _-_, _≤_, _<_, _^_};
 ghost use lib.ListN.{length, replicate};
 ghost use Rattle.token_map.specs.Signs.{placeAs, placeBy, writtenAs};
 ghost use Rattle.token_map.specs.Notes.{noteAll, noted};
-ghost use Rattle.layout.specs.Lines.{turned};
-ghost use Rattle.token_map.specs.Spots.{Counted, lineColumn, spots};
+ghost use Rattle.layout.specs.Lines.{spotAt, turned};
+ghost use Rattle.token_map.specs.Spots.{Counted, Entered, lineColumn, spots};
 
 // For which kinds a routine writes a fixed sign. One with NoSemicolon writes none, and nothing for a Semicolon.
 pub enum Signs {
@@ -39,6 +39,13 @@ pub struct Spot {
     pub at: usize,
     pub line: u64,
     pub column: u64,
+}
+
+// Line and column in the map, 0 and 0 for none, and the spot that was counted to.
+pub struct Entry {
+    pub line: u64,
+    pub column: u64,
+    pub spot: Spot,
 }
 
 fn sign_if(is_sign: bool) -> Written
@@ -82,22 +89,27 @@ fn written_as(signs: Signs, kind: u16) -> Written
     }
 }
 
-// The place of a text that was written last. A text of white space may not be the last that trimming leaves, so it is told by the length.
+// The place of the first of the n bytes that end at `end`.
+fn place_before(end: usize, n: usize) -> usize
+    requires { ⌜ 0 < n ⌝ }
+    ensures { λ r. ⌜ r ≡ end - n + 1 ⌝ }
+{
+    if end < n {
+        return 1;
+    }
+    end - n + 1
+}
+
+// The place of a text that was written last. A text of white space does not show in what trimming leaves.
 fn place_of_text(text: &[u8], p: Position) -> usize
     requires { ⌜ 0 < length (now text) ⌝ }
     ensures { λ r. ⌜ r ≡ placeAs Written.Text (now (text .entry)) p ⌝ }
 {
     let j = trimmed_from_end(text);
-    let mut end = p.trimmed;
-    let mut n = j;
     if j == 0 {
-        end = p.length;
-        n = text.len();
+        return place_before(p.length, text.len());
     }
-    if end < n {
-        return 1;
-    }
-    end - n + 1
+    place_before(p.trimmed, j)
 }
 
 // The place of the token for which an arm wrote, from the position after it.
@@ -207,15 +219,23 @@ fn after_byte(spot: Spot, b: u8) -> Spot
     }
 }
 
-// The spot of the byte at an offset, or after the last byte. From a spot before it only the bytes between are counted.
+// Where counting starts for an offset: at the spot, unless that is past it.
+fn spot_before(out: &[u8], spot: Spot, at: usize) -> Spot
+    requires { ⌜ Counted (now out) spot ⌝ }
+    ensures { λ r. ⌜ Counted (now (out .entry)) r × (r .at ≤ at) ⌝ }
+{
+    if at < spot.at {
+        return first_spot(out);
+    }
+    spot
+}
+
+// The spot of the byte at an offset; past the end, the one after the last byte. From a spot before it only the bytes between are counted.
 fn spot_at(out: &[u8], from: Spot, at: usize) -> Spot
     requires { ⌜ Counted (now out) from × (at + 1 < 2 ^ 64) ⌝ }
-    ensures { λ r. ⌜ Counted (now (out .entry)) r × (r .at ≡ min at (length (now (out .entry)))) ⌝ }
+    ensures { λ r. ⌜ Counted (now (out .entry)) r × (lineColumn r ≡ spotAt (now (out .entry)) at) ⌝ }
 {
-    let mut spot = from;
-    if at < from.at {
-        spot = first_spot(out);
-    }
+    let mut spot = spot_before(out, from, at);
     let mut i = spot.at;
     while i < at {
         if out.len() <= i {
@@ -227,6 +247,27 @@ fn spot_at(out: &[u8], from: Spot, at: usize) -> Spot
     spot
 }
 
+// What stands in the map for a place, and the spot to go on from.
+fn entry_of(out: &[u8], from: Spot, place: u64, k: usize) -> Entry
+    requires { ⌜ Counted (now out) from ⌝ }
+    ensures { λ r. ⌜ Entered k (now (out .entry)) place r ⌝ }
+{
+    let p = place as usize;
+    if (p == 0) | (k < p) {
+        return Entry {
+            line: 0,
+            column: 0,
+            spot: from,
+        };
+    }
+    let spot = spot_at(out, from, p - 1);
+    Entry {
+        line: spot.line,
+        column: spot.column,
+        spot: spot,
+    }
+}
+
 // The places that were noted become lines and columns of `out`, of which trimming leaves k bytes.
 pub fn place_tokens(map: &mut [u64], out: &[u8], k: usize)
     ensures { λ _. ⌜ now (map .exit) ≡ spots k (now (out .entry)) (now (map .entry)) ⌝ }
@@ -234,18 +275,10 @@ pub fn place_tokens(map: &mut [u64], out: &[u8], k: usize)
     let mut spot = first_spot(out);
     let mut i: usize = 0;
     while 1 < map.len() - i {
-        let place = map[i] as usize;
-        let mut line: u64 = 0;
-        let mut column: u64 = 0;
-        if 0 < place {
-            if place <= k {
-                spot = spot_at(out, spot, place - 1);
-                line = spot.line;
-                column = spot.column;
-            }
-        }
-        map[i] = line;
-        map[i + 1] = column;
+        let e = entry_of(out, spot, map[i], k);
+        map[i] = e.line;
+        map[i + 1] = e.column;
+        spot = e.spot;
         i += 2;
     }
 }
