@@ -2,3 +2,6 @@
 pub mod SignKinds
 pub mod Noting
 pub mod Counting
+pub mod NotedSpots
+pub mod Placing
+pub mod SignedRoutines
