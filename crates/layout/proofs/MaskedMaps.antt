@@ -91,6 +91,11 @@ module _ (a b : Text) (sameLength : length a ≡ length b) where
           let q = pick (t .head .kind) (t .kids) in
           inside-same (copied (t .head .kind) (t .kids)) (noPlaces config a (t .kids)) _ _ _ _ v (λ z. places-same (t .kids) u z q (q .begin) w)
 
+  -- the tokens have the same places in both outputs, wherever newlines stand
+  pub masking-places : (pick : ℕ → Children → Arms) (config : FormatConfig) (t : Tree) → TokenSpans (length a) (t .kids) → SpansStart a t → SpansStart b t → MaskedForLayout a b t
+      → placesFrom config a pick t (newState, 0) ≡ placesFrom config b pick t (newState, 0)
+  masking-places pick config t s x y m = from-same config pick t (tokens-alike a b sameLength t s x y m) (copies-alike a b sameLength t s x y m) (newState, 0)
+
   -- ── the map
 
   module _ (lines : SameLines a b) where
@@ -114,6 +119,6 @@ module _ (a b : Text) (sameLength : length a ≡ length b) where
         let qs = piecesOf v config b t in
         rw (
           written-trims a b sameLength ps qs (same-pieces a b sameLength t s x y m v keeps config),
-          from-same config (v .pick) t (tokens-alike a b sameLength t s x y m) (copies-alike a b sameLength t s x y m) (newState, 0),
+          masking-places (v .pick) config t s x y m,
         )
         (entries-same (format v config a t) (format v config b t) (masking a b sameLength t s x y m v keeps config) (trimmed a b sameLength (written qs)) (placesFrom config b (v .pick) t (newState, 0)))
