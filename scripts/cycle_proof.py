@@ -38,7 +38,7 @@ use mathlib.Core.Path.{_∙_, ap, refl, sym}
 use lib.Dec.{eqb}
 use lib.ListN.{length}
 use Rattle.tokens.proofs.Choices.{as-spaced}
-use Rattle.token_map.proofs.Signed.{USED}
+use Rattle.token_map.proofs.SignedRoutines.{USED}
 use Rattle.tokens.proofs.Runs.{no-spacing, spaced}
 use Rattle.formatter.proofs.RoutineLaws.{USED}
 use Rattle.formatter.proofs.Walks.{USED}
@@ -51,7 +51,7 @@ use Rattle.layout.specs.declared.Routine.the-variants as the-variants
 MODULES = {
     "RoutineLaws": "crates/formatter/proofs/RoutineLaws.antt",
     "Walks": "crates/formatter/proofs/Walks.antt",
-    "Signed": "crates/token_map/proofs/Signed.antt",
+    "SignedRoutines": "crates/token_map/proofs/SignedRoutines.antt",
     "Routines": "crates/layout/specs/Routines.antt",
 }
 

@@ -30,7 +30,9 @@ use Rattle.layout.proofs.Running.{run-append, run-spacing}
 use Rattle.token_map.specs.Notes.{noted, noteAll}
 use Rattle.token_map.specs.Signs.{placeBy}
 use Rattle.token_map.specs.declared.Signs.{Signs}
-use Rattle.token_map.proofs.Laws.{note-append, seat-of-run, Signed, note-right}
+use Rattle.token_map.proofs.Noting.{noteAll-append}
+use Rattle.token_map.specs.Signed.{Signed}
+use Rattle.token_map.proofs.Placing.{seat-of-run, note-right}
 use Rattle.tokens.specs.TokenPromises.{Ran, Spaced, TokenReady, Acted}
 use Rattle.formatter.specs.declared.Walk.{Walk}
 use Rattle.formatter.specs.RoutinePromises.{Grew, NodeReady, RoutineDone, NodeDone, seat}
@@ -105,7 +107,7 @@ module _ (config : FormatConfig) (source : Text) where
         ∙ ap (λ (u : Seat). noteAll (placesFrom config source formatNode t u ++ places config source formatNode r (N .0) rest (seatAfter config source (map putSpacing (N .2)) (seatAfter config source cs u))) ns) (seat-spaced (N .1) before)
         ∙ ap (λ (u : Seat). noteAll (placesFrom config source formatNode t (seated w) ++ places config source formatNode r (N .0) rest (seatAfter config source (map putSpacing (N .2)) u)) ns) (seat-made cs inside)
         ∙ ap (λ (u : Seat). noteAll (placesFrom config source formatNode t (seated w) ++ places config source formatNode r (N .0) rest u) ns) (seat-spaced (N .2) after)
-        ∙ note-append (placesFrom config source formatNode t (seated w)) _ ns
+        ∙ noteAll-append (placesFrom config source formatNode t (seated w)) _ ns
 
 -- ── the loop over a node's children; Q is the routine, once it is known
 

@@ -1,5 +1,5 @@
 -- The token map has two numbers for each token of the tree: what 17 counts.
-use Prim.Native.Nat.{ℕ, suc, _*_}
+use Prim.Native.Nat.{ℕ, suc, _*_, _≤_}
 use native.Mathlib.Omega.{arith}
 use mathlib.Core.Path.{_≡_, refl, sym, ap, _∙_}
 use mathlib.Core.Bool.{Bool, true, false, cond}
@@ -8,7 +8,7 @@ use lib.ListN.{length, length-append, length-map, length-replicate}
 use Rattle.context.specs.Cells.{Text}
 use Rattle.context.specs.Context.{newState}
 use Rattle.context.specs.declared.FormatConfig.{FormatConfig}
-use Rattle.tape.specs.Tree.{Children, done, token, node, Tree, tokens, countListItems, copied}
+use Rattle.tape.specs.Tree.{Children, done, token, node, Tree, size, tokens, countListItems, copied}
 use Rattle.layout.specs.declared.Local.{Local}
 use Rattle.layout.specs.Arms.{Arms}
 use Rattle.layout.specs.Calls.{putSpacing, formatErrorVerbatim, walk}
@@ -38,16 +38,25 @@ module _ (config : FormatConfig) (text : Text) (pick : ℕ → Children → Arms
       length-append (cond t (noPlaces config text kids) X) Y
       ∙ rw (below t kids X (places-length kids q (q .begin) inside), places-length rest r (n .0) after) (sym (length-append (tokens kids) (tokens rest)))
 
+  pub places-count : (t : Tree) (w : Seat) → length (placesFrom config text pick t w) ≡ length (tokens (t .kids))
+  unfolding placesFrom
+  places-count t w =
+      let q = pick (t .head .kind) (t .kids) in
+      below (copied (t .head .kind) (t .kids)) (t .kids) _ (places-length (t .kids) q (q .begin) w)
+
+-- a token takes eleven bytes of the tape
+pub tokens-size : (c : Children) → length (tokens c) ≤ size c
+unfolding tokens size
+tokens-size done = omega arith
+tokens-size (token h rest) = omega (arith, tokens-size rest)
+tokens-size (node h kids rest) = omega (arith, length-append (tokens kids) (tokens rest), tokens-size kids, tokens-size rest)
+
 flat-length : (ps : List Spot) → length (flat ps) ≡ 2 * length ps
 flat-length [] = refl
 flat-length (p ∷ ps) = omega (arith, flat-length ps)
 
 pub map-count : (v : Version) (config : FormatConfig) (text : Text) (t : Tree) → length (flat (tokenMap v config text t)) ≡ 2 * length (tokens (t .kids))
-unfolding tokenMap placesFrom
+unfolding tokenMap
 map-count v config text t =
-    let q = v .pick (t .head .kind) (t .kids) in
-    let X = places config text (v .pick) q (q .begin) (t .kids) (newState, 0) in
     flat-length (tokenMap v config text t)
-    ∙ ap (λ (n : ℕ). 2 * n)
-    (length-map (placesFrom config text (v .pick) t (newState, 0)) _
-    ∙ below config text (v .pick) (copied (t .head .kind) (t .kids)) (t .kids) X (places-length config text (v .pick) (t .kids) q (q .begin) (newState, 0)))
+    ∙ ap (λ (n : ℕ). 2 * n) (length-map (placesFrom config text (v .pick) t (newState, 0)) _ ∙ places-count config text (v .pick) t (newState, 0))
