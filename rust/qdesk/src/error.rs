@@ -8,7 +8,7 @@ use std::fmt;
 /// The refusals, each with its number.
 ///
 /// 1 to 5 are tried in that order. Then the tape is read from its start, and the first faulty command decides; within one, the order is
-/// 6, 7, 12, 8, 9, 10, 15, 16, 11. 13 comes last. 14 is the desk's program's own.
+/// 6, 7, 12, 8, 9, 10, 15, 16, 11. 13 comes last, and 17 of a map call after it. 14 is the desk's program's own.
 #[derive(Clone, Copy, Debug, PartialEq, Eq)]
 #[non_exhaustive]
 pub enum Refusal {
@@ -43,6 +43,8 @@ pub enum Refusal {
     SpanInsideCharacter = 15,
     /// A token of kind `BareWord` holds a byte above 127.
     WordNotAscii = 16,
+    /// The map space is below two numbers per token. In place of a place stands the count of numbers needed.
+    MapTooShort = 17,
 }
 
 impl Refusal {
@@ -63,6 +65,7 @@ impl Refusal {
         Refusal::SpaceTooShort,
         Refusal::SpanInsideCharacter,
         Refusal::WordNotAscii,
+        Refusal::MapTooShort,
     ];
 
     fn words(self) -> &'static str {
@@ -82,6 +85,7 @@ impl Refusal {
             Refusal::SpaceTooShort => "output space too short",
             Refusal::SpanInsideCharacter => "token or node starts or ends inside a character",
             Refusal::WordNotAscii => "bare word with a byte above 127",
+            Refusal::MapTooShort => "map space too short",
         }
     }
 }
@@ -121,7 +125,7 @@ impl Error {
         self.refusal
     }
 
-    /// The refusal's number, 1 to 13, 15 or 16.
+    /// The refusal's number, 1 to 13 or 15 to 17.
     pub fn number(self) -> u64 {
         self.refusal as u64
     }
@@ -135,7 +139,8 @@ impl Error {
         }
     }
 
-    /// An offset in the text for 4, the faulty command's offset in the tape for 6 to 12, 15 and 16, the needed length for 13, else 0.
+    /// An offset in the text for 4, the faulty command's offset in the tape for 6 to 12, 15 and 16, the needed length for 13, the count of
+    /// numbers needed for 17, else 0.
     pub fn place(self) -> u64 {
         self.place
     }
@@ -148,6 +153,7 @@ impl fmt::Display for Error {
             4 => write!(f, " at text offset {}", self.place),
             6..=12 | 15 | 16 => write!(f, " at tape offset {}", self.place),
             13 => write!(f, ": {} bytes are needed", self.place),
+            17 => write!(f, ": {} numbers are needed", self.place),
             _ => Ok(()),
         }
     }

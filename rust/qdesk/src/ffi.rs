@@ -28,6 +28,19 @@ extern "C" {
         out_length: usize,
     ) -> Answer;
 
+    fn qdesk_layout_map(
+        text: *const u8,
+        text_length: usize,
+        tape: *const u8,
+        tape_length: usize,
+        width: u64,
+        case: u64,
+        out: *mut u8,
+        out_length: usize,
+        map: *mut u64,
+        map_length: usize,
+    ) -> Answer;
+
     fn qdesk_word(word: *const u8, word_length: usize) -> Answer;
 }
 
@@ -43,6 +56,15 @@ pub fn layout(text: &[u8], tape: &[u8], width: u64, case: u64, out: &mut [u8]) -
     let (out, out_length) = (out.as_mut_ptr(), out.len());
     // SAFETY: as for measuring. `out` is valid for writes of its length, and a slice lent mutably overlaps no other.
     unsafe { qdesk_layout(text, text_length, tape, tape_length, width, case, out, out_length) }
+}
+
+pub fn layout_map(text: &[u8], tape: &[u8], width: u64, case: u64, out: &mut [u8], map: &mut [u64]) -> Answer {
+    let (text, text_length) = (text.as_ptr(), text.len());
+    let (tape, tape_length) = (tape.as_ptr(), tape.len());
+    let (out, out_length) = (out.as_mut_ptr(), out.len());
+    let (map, map_length) = (map.as_mut_ptr(), map.len());
+    // SAFETY: as for laying out. `map` is valid for writes of as many numbers as its length says.
+    unsafe { qdesk_layout_map(text, text_length, tape, tape_length, width, case, out, out_length, map, map_length) }
 }
 
 pub fn word(word: &[u8]) -> Answer {

@@ -18,6 +18,9 @@
 //! # Ok::<(), qdesk::Error>(())
 //! ```
 //!
+//! [`layout_map`] and [`layout_map_to_vec`] lay out, and say of every token on which line and in which column it stands;
+//! the first of them uses no heap.
+//!
 //! The text is UTF-8, and words outside of quotes are ASCII. All offsets and lengths count bytes.
 //!
 //! Any bytes and any numbers may be passed: each call has one answer, for a layout a length or a refusal ([`Error`]), and which one is
@@ -33,12 +36,14 @@ mod error;
 #[allow(unsafe_code)]
 mod ffi;
 mod kind;
+mod map;
 mod tape;
 mod word;
 
 pub use command::{command_at, commands, span_bytes, Command, Operands};
 pub use error::{Error, Refusal};
 pub use kind::Kind;
+pub use map::{layout_map, layout_map_to_vec, Mapped, Spot};
 pub use tape::{TapeBuilder, TapeError, TapeFault, MOST_BYTES, MOST_OPEN};
 pub use word::{word, Word};
 

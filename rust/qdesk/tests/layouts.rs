@@ -3,6 +3,7 @@
 mod common;
 
 use common::{example, nested_files, open, token, CLOSE, LAID_OUT, PLAIN};
+use qdesk::layout_map_to_vec;
 use qdesk::{layout, layout_to_string, layout_to_vec, measure, Case, Kind, Settings, MOST_BYTES, MOST_OPEN};
 
 #[test]
@@ -99,6 +100,7 @@ fn nodes_of_every_kind_64_deep_fit_the_stack_that_the_header_names() {
                 let tape = [opens, tokens.repeat(rounds), CLOSE.repeat(MOST_OPEN)].concat();
                 assert_eq!(tape.len() <= 8_206, is_short);
                 assert!(layout_to_vec(&text, &tape, PLAIN).is_ok(), "{kind:?}");
+                assert!(layout_map_to_vec(&text, &tape, PLAIN).is_ok(), "{kind:?}");
             }
         }
     };

@@ -168,5 +168,5 @@ fn b_in_26_bytes_is_13_with_the_needed_length() {
 #[test]
 fn the_list_of_refusals_is_in_the_order_of_the_numbers() {
     let numbers: Vec<u64> = Refusal::ALL.iter().map(|refusal| *refusal as u64).collect();
-    assert_eq!(numbers, (1..=13).chain(15..=16).collect::<Vec<u64>>());
+    assert_eq!(numbers, (1..=13).chain(15..=17).collect::<Vec<u64>>());
 }
