@@ -2,6 +2,7 @@
 
 pub mod map;
 
+use crate::layout_map;
 use crate::{layout, measure, word};
 use oracle::answers::{accepted_tree, answer, formatted, Answer, Answered, Case};
 use oracle::cases::{make, Class, Made};
@@ -9,7 +10,7 @@ use oracle::masking::{claim, Pair};
 use oracle::words;
 
 /// The classes whose cases are calls that the library has.
-pub const CLASSES: [Class; 12] = [
+pub const CLASSES: [Class; 16] = [
     Class::Parser,
     Class::Wild,
     Class::Damaged,
@@ -22,6 +23,10 @@ pub const CLASSES: [Class; 12] = [
     Class::Utf8Masked,
     Class::Utf8Limits,
     Class::Words,
+    Class::Map,
+    Class::MapDamaged,
+    Class::MapMasked,
+    Class::MapLimits,
 ];
 
 /// The cells before and after a space that no call may touch.
@@ -35,7 +40,8 @@ pub fn compare(seed: u64, class: Class, index: u64) -> Result<(), String> {
         Made::Pair(pair) => masked(&pair),
         Made::Word(bytes) => same_word(&bytes),
         Made::Job(_) => panic!("a job is no call"),
-        Made::MapCall(_) | Made::MapPair(_) => panic!("the library has no map call yet"),
+        Made::MapCall(case) => map::call(&case, &layout_map),
+        Made::MapPair(pair) => map::masked(&pair, &layout_map),
     }
     .map_err(differs)
 }

@@ -34,10 +34,12 @@ fn main() -> ExitCode {
 fn print_stack(out: &mut dyn Write) -> io::Result<()> {
     writeln!(out, "{:<8} {:>10} {:>14}", "call", "tape bytes", "bytes of stack")?;
     let mut space = vec![0; 1 << 20];
+    let mut map = vec![0; 1 << 12];
     for rounds in [1, 2] {
         let tapes = tapes(rounds);
         print_most(out, "measure", &tapes, |tape| bench::measure(TEXT, tape, 4, 1))?;
         print_most(out, "layout", &tapes, |tape| bench::layout(TEXT, tape, 4, 1, &mut space))?;
+        print_most(out, "map", &tapes, |tape| bench::layout_map(TEXT, tape, 4, 1, &mut space, &mut map))?;
     }
     Ok(())
 }
