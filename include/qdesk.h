@@ -14,22 +14,28 @@
  *                    number is its place in clickhouse-analyzer's SyntaxKind, from 0 (qdesk_kinds.h has them all by name)
  *   width            blanks for each level of indent, 0 to 16
  *   case_byte        the case of keywords, 0 lower or 1 upper
- *   out, out_len     the output space
+ *   out, out_len     the output space, of any length; with 0 bytes the call measures
  *
- * Nothing of this is asked beforehand: the calls check it, and what is wrong is refused. The caller answers for the memory alone:
+ * Nothing of this is asked beforehand: the call checks it, and what is wrong is refused. The caller answers for the memory alone:
  *
  *   - each pointer is valid for its length; at length 0 it may be null, since nothing is read or written through it
  *   - `out` overlaps neither `text` nor `tape`; during the call nobody else touches `out` or writes to the other two
  *
  * What comes out
  *
- * For each input there is one answer, and it is proved that the calls give it (docs/PROOFS.md): 0 and the length of the layout, or the
+ * For each input there is one answer, and it is proved that the call gives it (docs/PROOFS.md): 0 and the length of the layout, or the
  * number of a refusal and its place. The layout ends in a newline unless it is empty, and has no 0 byte after it.
  *
  *   - An accepted layout of length L is in the first L bytes of `out`. Later bytes stay as they were.
- *   - A refusal writes no byte. Measuring never writes.
+ *   - A refusal writes no byte.
+ *   - Where the space is too short, 13 gives the needed length: on one input it is the same whatever the space, and the same as that of an
+ *     accepted layout.
  *
- * Both calls take time in proportion to the lengths of text and tape where tokens do not overlap, as a parser's never do. Where they do, the
+ * How to measure: pass null and 0 for `out` and `out_len`. Then the answer is 13 and the needed length, or 0 and 0 for a layout that needs no
+ * byte, or another refusal. Nothing is written, which takes less time than laying out. Who has space at hand need not measure first: a call that
+ * is answered 13 is made again with as much as it asks for.
+ *
+ * A call takes time in proportion to the lengths of text and tape where tokens do not overlap, as a parser's never do. Where they do, the
  * lengths of the tokens and of the nodes copied as typed add up, to seconds at the limits, and a layout can ask for gigabytes. Who takes tapes from
  * strangers adds up the lengths of all spans first and refuses more than QDESK_MOST_OPEN + 1 times the text's length, which no tree
  * without overlapping siblings has; then measures, and refuses what is too long.
@@ -80,7 +86,7 @@ enum qdesk_number {
     QDESK_TOO_DEEP = 11,        /* a 65th node opened */
     QDESK_NOT_ONE_ROOT = 12,    /* token or close with no node open; any command after the root's close; tape ends with no finished
                                    root (value: the tape's length) */
-    QDESK_SPACE_TOO_SHORT = 13, /* output space below the needed length (laying out only); value: the needed length */
+    QDESK_SPACE_TOO_SHORT = 13, /* output space below the needed length; value: the needed length */
     QDESK_SPAN_INSIDE_CHARACTER = 15, /* token, or node with start not above end, that starts or ends inside a character */
     QDESK_WORD_NOT_ASCII = 16,  /* token of kind BareWord with a byte above 127 */
     QDESK_MAP_TOO_SHORT = 17    /* map space below two numbers per token (qdesk_layout_map only); value: the count of numbers needed */
@@ -116,11 +122,7 @@ static inline const char *qdesk_number_name(uint64_t number)
 #undef QDESK_NAME
 }
 
-/* The length of the layout, or a refusal other than 13. */
-struct qdesk_answer qdesk_measure(const uint8_t *text, size_t text_len, const uint8_t *tape, size_t tape_len, uint64_t width,
-                                  uint64_t case_byte);
-
-/* The same, and the layout in `out`; or a refusal. */
+/* The layout in `out`, and its length; or a refusal, of which 13 gives the length that is needed. */
 struct qdesk_answer qdesk_layout(const uint8_t *text, size_t text_len, const uint8_t *tape, size_t tape_len, uint64_t width,
                                  uint64_t case_byte, uint8_t *out, size_t out_len);
 

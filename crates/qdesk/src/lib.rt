@@ -1,21 +1,13 @@
 // The C interface: every entry of the library, each thin over a proved function. `rt staticlib qdesk` makes the archive.
 use formatter::layout;
-use formatter::measure;
 use keywords::Word;
 use keywords::word_of;
 use layout::Answer;
 ghost use mathlib.Core.Path.{_≡_};
 ghost use Rattle.keywords.specs.Words.{wordOf};
 ghost use Rattle.layout.specs.Layout.{original};
-ghost use Rattle.layout.specs.Outcome.{Result, laidOut, measured, outcome};
+ghost use Rattle.layout.specs.Outcome.{Result, laidOut, outcome};
 ghost use Rattle.qdesk.specs.WordAnswer.{wordAnswer};
-
-#[no_mangle]
-pub extern "C" fn qdesk_measure(text: &[u8], tape: &[u8], width: u64, case: u64) -> Answer
-    ensures { λ r. ⌜ r ≡ measured (outcome original width case (now (text .entry)) (now (tape .entry))) ⌝ }
-{
-    measure(text, tape, width, case)
-}
 
 #[no_mangle]
 pub extern "C" fn qdesk_layout(

@@ -1,9 +1,8 @@
-//! One call of the port held to the oracle: both numbers of both answers, and every byte of the output space and of the margins around it.
+//! One call of the port held to the oracle: both numbers of its answer, and every byte of the output space and of the margins around it.
 
 pub mod map;
 
-use crate::layout_map;
-use crate::{layout, measure, word};
+use crate::{layout, layout_map, word};
 use oracle::answers::{accepted_tree, answer, formatted, Answer, Answered, Case};
 use oracle::cases::{make, Class, Made};
 use oracle::masking::{claim, Pair};
@@ -46,10 +45,8 @@ pub fn compare(seed: u64, class: Class, index: u64) -> Result<(), String> {
     .map_err(differs)
 }
 
-/// Measuring, and laying out in the case's own space and in spaces of L, L-1, L+5 and 0 bytes.
+/// The call in the case's own space and in spaces of L, L-1, L+5 and 0 bytes.
 fn call(case: &Case) -> Result<(), String> {
-    let expected = answer(case).measured;
-    equal("measuring", measure(&case.text, &case.tape, case.width, case.case), expected)?;
     in_space(case)?;
     for length in about(needed_bytes(case)) {
         in_space(&Case { space: pattern(length), ..case.clone() })?;
@@ -80,25 +77,19 @@ fn pattern(length: usize) -> Vec<u8> {
 
 fn in_space(case: &Case) -> Result<(), String> {
     let expected = answer(case);
-    let (got, space) = laid_out(case)?;
-    equal("laying out", got, expected.laid_out)?;
-    if space != expected.space {
+    let got = answered(case)?;
+    equal(&format!("laying out in {} bytes", case.space.len()), got.laid_out, expected.laid_out)?;
+    if got.space != expected.space {
         return Err(format!("the space of {} bytes afterwards", case.space.len()));
     }
     Ok(())
 }
 
-/// What both calls of the port answer, and the space afterwards; the error is that a margin was touched.
+/// What the port answers, and the space afterwards; the error is that a margin was touched.
 pub fn answered(case: &Case) -> Result<Answered, String> {
-    let measured = measure(&case.text, &case.tape, case.width, case.case);
-    laid_out(case).map(|(laid_out, space)| Answered { measured, laid_out, space })
-}
-
-/// What laying out answers, and the space afterwards.
-fn laid_out(case: &Case) -> Result<(Answer, Vec<u8>), String> {
     let mut space = Lent::new(&case.space, pattern(MARGIN));
-    let got = layout(&case.text, &case.tape, case.width, case.case, space.cells());
-    space.returned("bytes").map(|space| (got, space))
+    let laid_out = layout(&case.text, &case.tape, case.width, case.case, space.cells());
+    space.returned("bytes").map(|space| Answered { laid_out, space })
 }
 
 /// A space that a call is lent, between two margins.

@@ -21,11 +21,6 @@ mod present {
     use super::library;
     use oracle::answers::Answer;
 
-    /// The port's measuring.
-    pub fn measure(text: &[u8], tape: &[u8], width: u64, case: u64) -> Answer {
-        answer(library::measure(text, tape, width, case))
-    }
-
     /// The port's laying out.
     pub fn layout(text: &[u8], tape: &[u8], width: u64, case: u64, out: &mut [u8]) -> Answer {
         answer(library::layout(text, tape, width, case, out))
@@ -54,10 +49,6 @@ pub use present::*;
 mod absent {
     use super::HINT;
     use oracle::answers::Answer;
-
-    pub fn measure(_text: &[u8], _tape: &[u8], _width: u64, _case: u64) -> Answer {
-        panic!("{HINT}")
-    }
 
     pub fn layout(_text: &[u8], _tape: &[u8], _width: u64, _case: u64, _out: &mut [u8]) -> Answer {
         panic!("{HINT}")

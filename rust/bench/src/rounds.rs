@@ -19,10 +19,10 @@ pub enum Side {
     ReadyTree,
     /// The oracle's reading of text and tape, with all refusals, then the source's `format`.
     FromTape,
-    /// The port's laying out: check, measuring and writing.
+    /// The port's laying out: check, finding the length, and writing.
     Layout,
-    /// The port's measuring alone, which no table has; for a profiler.
-    Measure,
+    /// The port's call with an output space of 0 bytes, which finds the length and writes nothing; no table has it; for a profiler.
+    NoSpace,
     /// The port's laying out with a map.
     Map,
     /// What gives a map without that call: the port's laying out, and a search of each token's text in the layout.
@@ -120,7 +120,7 @@ impl Queries {
             Side::ReadyTree => cases.iter().zip(&self.ready[queries]).for_each(|(case, ready)| ready_tree(case, ready)),
             Side::FromTape => cases.iter().for_each(from_tape),
             Side::Layout => cases.iter().for_each(|case| layout(case, &mut self.out)),
-            Side::Measure => cases.iter().for_each(measure),
+            Side::NoSpace => cases.iter().for_each(no_space),
             Side::Map => cases.iter().for_each(|case| layout_map(case, &mut self.out, &mut self.map)),
             Side::Searched => cases.iter().for_each(|case| layout_searched(case, &mut self.out)),
             Side::Recorded => cases.iter().zip(&self.ready[queries]).for_each(|(case, ready)| recorded(case, ready)),
@@ -177,8 +177,8 @@ fn layout(case: &Case, out: &mut [u8]) {
 }
 
 #[inline(never)]
-fn measure(case: &Case) {
-    black_box(crate::measure(black_box(&case.text), &case.tape, case.width, case.case));
+fn no_space(case: &Case) {
+    layout(case, &mut []);
 }
 
 #[inline(never)]

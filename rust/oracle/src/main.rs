@@ -134,7 +134,6 @@ fn vector(name: &str, case: &Case) -> String {
         hexadecimal(&case.text),
         hexadecimal(&case.tape),
         hexadecimal(&case.space),
-        numbers(answered.measured),
         numbers(answered.laid_out),
         hexadecimal(&answered.space),
         taken.join(";"),
@@ -171,9 +170,8 @@ fn print_arms() -> Result<String, String> {
 fn call_text(case: &Case) -> String {
     let answered = answer(case);
     format!(
-        "{}measured {}, laid out {}\nspace after: \"{}\"\n",
+        "{}laid out {}\nspace after: \"{}\"\n",
         input_text(case),
-        numbers(answered.measured),
         numbers(answered.laid_out),
         answered.space.escape_ascii()
     )

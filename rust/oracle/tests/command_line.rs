@@ -132,18 +132,18 @@ map after:
 fn each_class_prints_its_case_and_answer() {
     needs_source!();
     for (class, part) in [
-        ("parser", "measured "),
-        ("wild", "measured "),
-        ("damaged", "measured "),
-        ("limits", "measured "),
-        ("small", "measured "),
+        ("parser", "laid out "),
+        ("wild", "laid out "),
+        ("damaged", "laid out "),
+        ("limits", "laid out "),
+        ("small", "laid out "),
         ("jobs", "printed: "),
         ("masked", "claim: Ok"),
-        ("utf8", "measured "),
-        ("utf8-small", "measured "),
-        ("utf8-damaged", "measured "),
+        ("utf8", "laid out "),
+        ("utf8-small", "laid out "),
+        ("utf8-damaged", "laid out "),
         ("utf8-masked", "claim: Ok"),
-        ("utf8-limits", "measured "),
+        ("utf8-limits", "laid out "),
         ("words", "answered "),
         ("map", "mapped "),
         ("map-damaged", "mapped "),
@@ -214,11 +214,10 @@ fn a_vector_holds_the_call_and_its_answer() {
         let case = call(1, Class::Small, index as u64);
         let answered = answer(&case);
         let fields: Vec<&str> = line.split('\t').collect();
-        assert_eq!(fields.len(), 10);
+        assert_eq!(fields.len(), 9);
         assert_eq!(fields[1..3], [case.width.to_string(), case.case.to_string()]);
-        assert_eq!([3, 4, 5, 8].map(|field| bytes(fields[field])), [case.text, case.tape, case.space, answered.space]);
-        let answers = [answered.measured, answered.laid_out];
-        assert_eq!(fields[6..8], answers.map(|answer| format!("{} {}", answer.number, answer.second)));
-        assert_eq!(fields[9].is_empty(), answered.laid_out.number != 0, "only a layout that is written shows arms");
+        assert_eq!([3, 4, 5, 7].map(|field| bytes(fields[field])), [case.text, case.tape, case.space, answered.space]);
+        assert_eq!(fields[6], format!("{} {}", answered.laid_out.number, answered.laid_out.second));
+        assert_eq!(fields[8].is_empty(), answered.laid_out.number != 0, "only a layout that is written shows arms");
     }
 }

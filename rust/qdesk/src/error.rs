@@ -93,10 +93,10 @@ impl Refusal {
 /// A refused call: which refusal it was, and its place.
 ///
 /// ```
-/// use qdesk::{measure, Case, Refusal, Settings};
+/// use qdesk::{needed_length, Case, Refusal, Settings};
 ///
 /// let close_alone = [3];
-/// let error = measure(b"", &close_alone, Settings { indent_width: 4, case: Case::UPPER }).unwrap_err();
+/// let error = needed_length(b"", &close_alone, Settings { indent_width: 4, case: Case::UPPER }).unwrap_err();
 /// assert_eq!(error.refusal(), Refusal::NotOneRoot);
 /// assert_eq!((error.number(), error.place()), (12, 0));
 /// assert_eq!(error.to_string(), "command outside the root node, or root not closed (refusal 12) at tape offset 0");

@@ -1,9 +1,8 @@
 //! The layout with its token map: on which line and in which column each token stands.
 
 use crate::command::{commands, Command};
-use crate::error::{Error, Refusal};
-use crate::ffi;
-use crate::Settings;
+use crate::error::Error;
+use crate::{ffi, in_memory, to_vec, Settings};
 
 /// Where the first byte of a token stands in a layout.
 #[derive(Clone, Copy, Debug, PartialEq, Eq, PartialOrd, Ord, Hash)]
@@ -95,15 +94,7 @@ pub fn layout_map(
 /// Refusals 1 to 12, 15 and 16.
 pub fn layout_map_to_vec(text: &[u8], tape: &[u8], settings: Settings) -> Result<Mapped, Error> {
     let mut map = vec![0; 2 * tokens(tape)];
-    let mut layout = Vec::new();
-    // In no space the call says how much it needs, or it is done: the layout is empty.
-    if let Err(error) = layout_map(text, tape, settings, &mut layout, &mut map) {
-        if error.refusal() != Refusal::SpaceTooShort {
-            return Err(error);
-        }
-        layout = vec![0; in_memory(error.place())];
-        layout_map(text, tape, settings, &mut layout, &mut map)?;
-    }
+    let layout = to_vec(text, |out| layout_map(text, tape, settings, out, &mut map))?;
     let spots = map.chunks_exact(2).map(|numbers| Spot::of([numbers[0], numbers[1]])).collect();
     Ok(Mapped { layout, spots })
 }
@@ -111,8 +102,4 @@ pub fn layout_map_to_vec(text: &[u8], tape: &[u8], settings: Settings) -> Result
 /// The tokens of a tape, up to the first command that is unknown or cut; a tape with one is refused.
 fn tokens(tape: &[u8]) -> usize {
     commands(tape).filter(|(_, command)| matches!(command, Command::Token(_))).count()
-}
-
-fn in_memory(length: u64) -> usize {
-    usize::try_from(length).expect("a length fits 64 bits, which this machine has")
 }

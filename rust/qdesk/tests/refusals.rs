@@ -3,7 +3,7 @@
 mod common;
 
 use common::{example, nested_files, open, token, CLOSE, LAID_OUT, PLAIN};
-use qdesk::{layout, layout_to_vec, measure, Case, Error, Kind, Refusal, Settings, MOST_BYTES, MOST_OPEN};
+use qdesk::{layout, layout_to_vec, needed_length, Case, Error, Kind, Refusal, Settings, MOST_BYTES, MOST_OPEN};
 
 /// The number of the first kind past the last.
 const PAST_THE_LAST: u16 = 258;
@@ -18,7 +18,7 @@ fn assert_error(error: Error, refusal: Refusal, number: u64, place: u64, words: 
 fn assert_refused(call: (&[u8], &[u8], Settings), refusal: Refusal, number: u64, place: u64, words: &str) {
     let (text, tape, settings) = call;
     let mut space = [0xEE; 40];
-    assert_error(measure(text, tape, settings).unwrap_err(), refusal, number, place, words);
+    assert_error(needed_length(text, tape, settings).unwrap_err(), refusal, number, place, words);
     assert_error(layout(text, tape, settings, &mut space).unwrap_err(), refusal, number, place, words);
     assert_error(layout_to_vec(text, tape, settings).unwrap_err(), refusal, number, place, words);
     assert_eq!(space, [0xEE; 40], "a refusal writes no byte");
@@ -126,7 +126,7 @@ fn bare_word_beyond_ascii_is_16() {
 #[test]
 fn within_a_command_the_order_is_10_15_16_11() {
     let with = |command: Vec<u8>| [open(Kind::File, 0, 4), command].concat();
-    let refusal = |tape: Vec<u8>| measure("éé".as_bytes(), &tape, PLAIN).unwrap_err().refusal();
+    let refusal = |tape: Vec<u8>| needed_length("éé".as_bytes(), &tape, PLAIN).unwrap_err().refusal();
     assert_eq!(refusal(with(token(Kind::BareWord, 1, 5))), Refusal::SpanOutside);
     assert_eq!(refusal(with(token(Kind::BareWord, 1, 4))), Refusal::SpanInsideCharacter);
     assert_eq!(refusal(with(token(Kind::BareWord, 0, 4))), Refusal::WordNotAscii);
@@ -162,7 +162,7 @@ fn b_in_26_bytes_is_13_with_the_needed_length() {
     let words = "output space too short (refusal 13): 27 bytes are needed";
     assert_error(error, Refusal::SpaceTooShort, 13, 27, words);
     assert_eq!(space, [0xEE; 26], "a refusal writes no byte");
-    assert_eq!(measure(text, &tape, PLAIN), Ok(LAID_OUT.len()));
+    assert_eq!(needed_length(text, &tape, PLAIN), Ok(LAID_OUT.len()));
 }
 
 #[test]

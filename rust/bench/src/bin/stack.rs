@@ -1,4 +1,4 @@
-//! Prints how many bytes of stack the two calls take for trees of 64 levels.
+//! Prints how many bytes of stack the calls take for trees of 64 levels: laying out in no output space and in enough, and the map call.
 
 use command_line::{Failure, Program};
 use oracle::answers::Answer;
@@ -7,7 +7,7 @@ use oracle::tape::{push_close, push_open, push_token};
 use std::io::{self, Write};
 use std::process::ExitCode;
 
-const USAGE: &str = "usage: stack   prints the bytes of stack that the two calls take at 64 levels; takes no argument";
+const USAGE: &str = "usage: stack   prints the bytes of stack that laying out in no space and in enough and the map call take at 64 levels";
 
 const LEVELS: usize = 64;
 
@@ -37,7 +37,7 @@ fn print_stack(out: &mut dyn Write) -> io::Result<()> {
     let mut map = vec![0; 1 << 12];
     for rounds in [1, 2] {
         let tapes = tapes(rounds);
-        print_most(out, "measure", &tapes, |tape| bench::measure(TEXT, tape, 4, 1))?;
+        print_most(out, "no space", &tapes, |tape| bench::layout(TEXT, tape, 4, 1, &mut []))?;
         print_most(out, "layout", &tapes, |tape| bench::layout(TEXT, tape, 4, 1, &mut space))?;
         print_most(out, "map", &tapes, |tape| bench::layout_map(TEXT, tape, 4, 1, &mut space, &mut map))?;
     }
@@ -72,7 +72,7 @@ fn print_most(
     for tape in tapes {
         let mut answer = None;
         most = most.max(used(&mut || answer = Some(call(tape))));
-        assert_eq!(answer.map(|answer| answer.number), Some(0));
+        assert!(answer.is_some_and(|answer| [0, 13].contains(&answer.number)));
     }
     writeln!(out, "{name:<8} {:>10} {most:>14}", tapes[0].len())
 }
