@@ -1,6 +1,6 @@
 /*
- * Lays out a ClickHouse query, one clause to a line, from its text and its syntax tree, and tells the sorts of word apart: the C
- * interface of libqdesk.a, which `rt staticlib qdesk` writes to target/staticlib, for Linux on x86-64.
+ * Lays out a ClickHouse query, one clause to a line, from its text and its syntax tree, tells the sorts of word apart, and reports on
+ * books of saved queries: the C interface of libqdesk.a, which `rt staticlib qdesk` writes to target/staticlib, for Linux on x86-64.
  *
  * What goes in
  *
@@ -55,10 +55,16 @@ extern "C" {
 
 #define QDESK_VERSION "0.1.0"
 
-/* The limits: bytes of a text and of a tape, nodes open at once, blanks for each level. */
+/* The limits: bytes of a text and of a tape, nodes open at once, blanks for each level; bytes and jobs of a book. */
 #define QDESK_MOST_BYTES 262144
 #define QDESK_MOST_OPEN 64
 #define QDESK_MOST_WIDTH 16
+#define QDESK_MOST_BOOK 65536
+#define QDESK_MOST_JOBS 256
+
+/* Bytes of a report's working space; bytes that every report fits in (a line for a job has at most 39, the last one 57). */
+#define QDESK_WORK 65536
+#define QDESK_MOST_REPORT 16384
 
 struct qdesk_answer {
     uint64_t number; /* one of enum qdesk_number; of qdesk_word, one of enum qdesk_sort */
@@ -67,8 +73,8 @@ struct qdesk_answer {
 
 /*
  * 1 to 5 are tried in that order. Then the tape is read from its start, and the first faulty command decides; within one, the order is
- * 6, 7, 12, 8, 9, 10, 15, 16, 11. 13 comes last, and 17 after it. The value of 6 to 12, 15 and 16 is the faulty command's offset in the tape. 14 is the
- * desk's program's own: no call answers it.
+ * 6, 7, 12, 8, 9, 10, 15, 16, 11. 13 comes last, and 17 after it. The value of 6 to 12, 15 and 16 is the faulty command's offset in the
+ * tape. 14 is the desk's program's own: no call answers it. 18 and 19 are numbers of a report's line, and no call answers them.
  */
 enum qdesk_number {
     QDESK_ACCEPTED = 0,         /* value: the layout's length */
@@ -89,10 +95,14 @@ enum qdesk_number {
     QDESK_SPACE_TOO_SHORT = 13, /* output space below the needed length; value: the needed length */
     QDESK_SPAN_INSIDE_CHARACTER = 15, /* token, or node with start not above end, that starts or ends inside a character */
     QDESK_WORD_NOT_ASCII = 16,  /* token of kind BareWord with a byte above 127 */
-    QDESK_MAP_TOO_SHORT = 17    /* map space below two numbers per token (qdesk_layout_map only); value: the count of numbers needed */
+    QDESK_MAP_TOO_SHORT = 17,   /* map space below two numbers per token (qdesk_layout_map only);
+                                   value: the count of numbers needed */
+    QDESK_BOOK_COMMAND = 18,    /* book command wrong or cut short, a job's length past the book's end among them (place: its offset), or
+                                   book above 65,536 bytes (place: 65536) */
+    QDESK_TOO_MANY_JOBS = 19    /* a 257th job (place: its command's offset) */
 };
 
-/* The name of an answer's number, as "QDESK_SPAN_OUTSIDE" for 10; null for a number that no call answers. */
+/* The name of a number, as "QDESK_SPAN_OUTSIDE" for 10; null for one that has no name above. */
 static inline const char *qdesk_number_name(uint64_t number)
 {
 #define QDESK_NAME(name) \
@@ -116,6 +126,8 @@ static inline const char *qdesk_number_name(uint64_t number)
         QDESK_NAME(QDESK_SPAN_INSIDE_CHARACTER);
         QDESK_NAME(QDESK_WORD_NOT_ASCII);
         QDESK_NAME(QDESK_MAP_TOO_SHORT);
+        QDESK_NAME(QDESK_BOOK_COMMAND);
+        QDESK_NAME(QDESK_TOO_MANY_JOBS);
     default:
         return NULL;
     }
@@ -153,6 +165,36 @@ enum qdesk_sort {
  * length 0 it may be null.
  */
 struct qdesk_answer qdesk_word(const uint8_t *word, size_t word_len);
+
+/* What a report adds up. */
+struct qdesk_tally {
+    uint64_t jobs;    /* all jobs */
+    uint64_t refused; /* the jobs that are refused */
+    uint64_t bytes;   /* the bytes of all layouts */
+    uint64_t lines;   /* the newlines of all layouts */
+};
+
+/*
+ * The report over a book of saved queries. A book is command 20 (hexadecimal), a length in 4 bytes, low byte first, and a job of that length,
+ * over and over; a job is what the desk's program reads: 10 and the width (1 byte), 11 and the case (1 byte), 12 and the text's length (4
+ * bytes, low byte first), the text, and the tape to its end.
+ *
+ *   more     not 0: the book goes on after these bytes, so that it is too long
+ *   tally    set to zeros, whatever it held, and raised for each job; a refused book leaves it as it was
+ *   work     QDESK_WORK bytes, in which each job is laid out, an accepted one over the front of the one before it
+ *   out      gets the report, as far as there is room: QDESK_MOST_REPORT bytes are enough. Later bytes stay as they were
+ *
+ * The answer is how many bytes are put into `out`. Each line ends in a newline: for job N from 1 `N bytes B lines L` or `N refused R at P`, as the
+ * desk's program answers it (14 for a header that is not whole, 13 for a layout above 65,536 bytes); then
+ * `total jobs J refused K bytes S lines T`, the tally's numbers. A book that is refused has the one line `refused N at P`, N 18 or 19: first
+ * its length is tried, then its commands from the start, before any job is answered; the first faulty one decides, and there 18 comes
+ * before 19. Such a line begins with `r`, a report with a digit or `t`.
+ *
+ * The caller answers for the pointers as above: `book` and `out` are valid for their lengths, `tally` and `work` for what is said here, and
+ * none of the last three overlaps another or the book.
+ */
+size_t qdesk_report(const uint8_t *book, size_t book_len, uint64_t more, struct qdesk_tally *tally, uint8_t *work, uint8_t *out,
+                    size_t out_len);
 
 #ifdef __cplusplus
 }

@@ -48,9 +48,9 @@ static void check_kinds(void)
 static void check_names(void)
 {
     unsigned long number;
-    for (number = 0; number <= QDESK_MAP_TOO_SHORT + 1; number++) {
+    for (number = 0; number <= QDESK_TOO_MANY_JOBS + 1; number++) {
         const char *name = qdesk_number_name(number);
-        int known = number != 14 && number <= QDESK_MAP_TOO_SHORT;
+        int known = number != 14 && number <= QDESK_TOO_MANY_JOBS;
         check((name != NULL) == known, "a number has a name", number);
     }
     check(strcmp(qdesk_number_name(QDESK_SPAN_OUTSIDE), "QDESK_SPAN_OUTSIDE") == 0, "the name of 10", 10);

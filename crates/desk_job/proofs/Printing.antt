@@ -1,4 +1,4 @@
--- From what `layout` promises to what is printed.
+-- From what `layout` promises to how a job is answered, and from there to what is printed.
 use mathlib.Core.Path.{_≡_, refl, ap, subst, _∙_}
 use mathlib.Core.Bool.{Bool, true, false, cond}
 use mathlib.Core.List.{List, [], _∷_, _++_}
@@ -16,9 +16,10 @@ use Rattle.tape.specs.declared.Fault.the-variants.{IndentWidth, CaseByte, TextT
 use Rattle.tape.specs.Faults.{number}
 use Rattle.layout.specs.declared.Answer.{Answer}
 use Rattle.layout.specs.Layout.{original}
-use Rattle.layout.specs.Outcome.{Outcome, refusal, laid, Result, fitted, laidOut, outcome, answer}
-use Rattle.desk_job.specs.declared.Header.the-variants.{Accepted}
-use Rattle.desk_job.specs.Job.{readHeader, refusedLine, printedJob, printedOutcome}
+use Rattle.layout.specs.Outcome.{Outcome, refusal, laid, Result, fitted, laidOut, outcome}
+use Rattle.desk_job.specs.declared.Header.{Header}
+use Rattle.desk_job.specs.declared.Header.the-variants.{Refused, Accepted}
+use Rattle.desk_job.specs.Job.{Answered, refused, text, answeredOutcome, answeredJob, leaves, readHeader, refusedLine, printedAnswer}
 use Rattle.desk_job.proofs.Writing.{Wrote, wrote}
 
 -- no refusal has the number 0
@@ -45,46 +46,70 @@ splice-front [] (x ∷ xs) h = refl
 splice-front (b ∷ bs) [] h = absurd (not-suc-le-zero h)
 splice-front (b ∷ bs) (x ∷ xs) h = ap (λ (r : List ℕ). b ∷ r) (splice-front bs xs (le-of-suc-le-suc h))
 
-module _ (r : Answer) (xs out : List ℕ) where
-  -- an answer with the number 0: the layout is printed
-  fitted-printed : (b : Bool) (cs : List Cell) → leb (length cs) (length xs) ≡ b → _≡_ {A = Result} (record { answer = r; space = out }) (fitted b cs xs) → r .number ≡ 0
-      → Wrote (r .value) out 0 (cond b (bytesOf cs) (refusedLine 13 (length cs))) xs
-  fitted-printed true cs l h z =
-      let f = leb-true (length cs) (length xs) l in
-      let n = length-map cs (λ (c : Cell). c .byte) in
-      let v : r .value ≡ length cs = ap (λ (x : Result). x .answer .value) h in
-      wrote (r .value) 0 (bytesOf cs) xs out (omega (arith, v, n, f))
-      (ap (λ (x : Result). x .space) h ∙ rw (← n) (splice-front (bytesOf cs) xs (rw n f)))
-  fitted-printed false cs l h z =
-      let n : r .number ≡ 13 = ap (λ (x : Result). x .answer .number) h in absurd (omega (arith, n, z))
+-- ── how a job is answered
 
-  pub laid-printed : (o : Outcome) → _≡_ {A = Result} (record { answer = r; space = out }) (laidOut o xs) → r .number ≡ 0 → Wrote (r .value) out 0 (printedOutcome o (length xs)) xs
-  unfolding laidOut printedOutcome
-  laid-printed (refusal f p) h z =
-      let n : r .number ≡ number f = ap (λ (x : Result). x .answer .number) h in absurd (omega (arith, n, z, positive f))
-  laid-printed (laid cs) h z = fitted-printed (leb (length cs) (length xs)) cs refl h z
+bytes-leave : (cs : List Cell) (xs : List ℕ) → fitted true cs xs ≡ leaves (text (bytesOf cs)) xs
+unfolding leaves
+bytes-leave cs xs = rw (length-map cs (λ (c : Cell). c .byte))
 
-  -- any other answer: its line is printed, over a space that is as it was
-  module _ (s : ℕ) (end : List ℕ) (w : Wrote s end 0 (refusedLine (r .number) (r .value)) out) where
-    line-printed : (n p : ℕ) → _≡_ {A = Result} (record { answer = r; space = out }) (record { answer = answer n p; space = xs }) → Wrote s end 0 (refusedLine n p) xs
-    line-printed n p h = subst (λ (x : Result). Wrote s end 0 (refusedLine (x .answer .number) (x .answer .value)) (x .space)) h w
+fitted-leaves : (b : Bool) (cs : List Cell) (xs : List ℕ) → fitted b cs xs ≡ leaves (cond b (text (bytesOf cs)) (refused 13 (length cs))) xs
+unfolding leaves
+fitted-leaves true cs xs = bytes-leave cs xs
+fitted-leaves false cs xs = refl
 
-    short-printed : (b : Bool) (cs : List Cell) → _≡_ {A = Result} (record { answer = r; space = out }) (fitted b cs xs) → (r .number ≡ 0 → ⊥)
-        → Wrote s end 0 (cond b (bytesOf cs) (refusedLine 13 (length cs))) xs
-    short-printed true cs h z = absurd (z (ap (λ (x : Result). x .answer .number) h))
-    short-printed false cs h z = line-printed 13 (length cs) h
-
-    pub refused-printed : (o : Outcome) → _≡_ {A = Result} (record { answer = r; space = out }) (laidOut o xs) → (r .number ≡ 0 → ⊥) → Wrote s end 0 (printedOutcome o (length xs)) xs
-    unfolding laidOut printedOutcome
-    refused-printed (refusal f p) h z = line-printed (number f) p h
-    refused-printed (laid cs) h z = short-printed (leb (length cs) (length xs)) cs h z
+laid-leaves : (o : Outcome) (xs : List ℕ) → laidOut o xs ≡ leaves (answeredOutcome o (length xs)) xs
+unfolding laidOut answeredOutcome leaves
+laid-leaves (refusal f p) xs = refl
+laid-leaves (laid cs) xs = fitted-leaves (leb (length cs) (length xs)) cs xs
 
 -- an accepted job: its text and its tape are parts of the job
-pub job-printed : {s : ℕ} {end : List ℕ} (more : Bool) (job xs : List ℕ) (width case e : ℕ) → Accepted width case e ≡ readHeader more job
-    → Wrote s end 0 (printedOutcome (outcome original width case (take (e - 9) (drop 9 job)) (take (length job - e) (drop e job))) (length xs)) xs
-    → Wrote s end 0 (printedJob (readHeader more job) job (length xs)) xs
-unfolding printedJob
-job-printed {s} {end} more job xs width case e h w =
+pub job-leaves : {r : Result} (more : Bool) (job xs : List ℕ) (width case e : ℕ) → Accepted width case e ≡ readHeader more job
+    → r ≡ laidOut (outcome original width case (take (e - 9) (drop 9 job)) (take (length job - e) (drop e job))) xs
+    → r ≡ leaves (answeredJob (readHeader more job) job (length xs)) xs
+unfolding answeredJob
+job-leaves {r} more job xs width case e h w =
     let l = length-drop e job in
     let tape = take-all (length job - e) (drop e job) (omega (arith, l)) in
-    rw (← h) (subst (λ (t : List ℕ). Wrote s end 0 (printedOutcome (outcome original width case (take (e - 9) (drop 9 job)) t) (length xs)) xs) tape w)
+    let o = outcome original width case (take (e - 9) (drop 9 job)) (drop e job) in
+    rw (← h) (subst (λ (t : List ℕ). r ≡ laidOut (outcome original width case (take (e - 9) (drop 9 job)) t) xs) tape w ∙ laid-leaves o xs)
+
+-- a refusal has a number, and a text fits into so many bytes
+abbrev pub Fits : Answered → ℕ → Type 0
+Fits (refused n p) room = 1 ≤ n
+Fits (text bs) room = length bs ≤ room
+
+laid-fits : (b : Bool) (cs : List Cell) (room : ℕ) → leb (length cs) room ≡ b → Fits (cond b (text (bytesOf cs)) (refused 13 (length cs))) room
+laid-fits true cs room l = rw (length-map cs (λ (c : Cell). c .byte)) (leb-true (length cs) room l)
+laid-fits false cs room l = omega arith
+
+outcome-fits : (o : Outcome) (room : ℕ) → Fits (answeredOutcome o room) room
+unfolding answeredOutcome
+outcome-fits (refusal f p) room = positive f
+outcome-fits (laid cs) room = laid-fits (leb (length cs) room) cs room refl
+
+pub answer-fits : (h : Header) (job : List ℕ) (room : ℕ) → Fits (answeredJob h job room) room
+unfolding answeredJob
+answer-fits (Refused p) job room = omega arith
+answer-fits (Accepted width case e) job room =
+    outcome-fits (outcome original width case (take (e - 9) (drop 9 job)) (drop e job)) room
+
+-- ── what is printed
+
+module _ (r : Answer) (xs out : List ℕ) where
+  -- an answer with the number 0: the text is printed
+  pub text-printed : (a : Answered) → Fits a (length xs) → _≡_ {A = Result} (record { answer = r; space = out }) (leaves a xs) → r .number ≡ 0
+      → Wrote (r .value) out 0 (printedAnswer a) xs
+  unfolding leaves printedAnswer
+  text-printed (refused n p) f h z =
+      let e : r .number ≡ n = ap (λ (x : Result). x .answer .number) h in absurd (omega (arith, e, z, f))
+  text-printed (text bs) f h z =
+      let v : r .value ≡ length bs = ap (λ (x : Result). x .answer .value) h in
+      wrote (r .value) 0 bs xs out (omega (arith, v, f)) (ap (λ (x : Result). x .space) h ∙ splice-front bs xs f)
+
+  -- any other answer: its line is printed, over a space that is as it was
+  pub refusal-printed : (s : ℕ) (end : List ℕ) → Wrote s end 0 (refusedLine (r .number) (r .value)) out → (a : Answered)
+      → _≡_ {A = Result} (record { answer = r; space = out }) (leaves a xs) → (r .number ≡ 0 → ⊥) → Wrote s end 0 (printedAnswer a) xs
+  unfolding leaves printedAnswer
+  refusal-printed s end w (refused n p) h z =
+      subst (λ (x : Result). Wrote s end 0 (refusedLine (x .answer .number) (x .answer .value)) (x .space)) h w
+  refusal-printed s end w (text bs) h z = absurd (z (ap (λ (x : Result). x .answer .number) h))

@@ -2,15 +2,14 @@
 pub mod write;
 
 use formatter::layout;
+use layout::Answer;
 use tape::commands::u32_at;
-use write::put_all;
-use write::put_decimal;
+use write::put_pair;
 ghost use mathlib.Core.Path.{_≡_};
 ghost use Prim.Native.Nat.{_<_, _≤_};
 ghost use lib.ListN.{length};
-ghost use Rattle.layout.specs.Layout.{original};
-ghost use Rattle.layout.specs.Outcome.{outcome};
-ghost use Rattle.desk_job.specs.Job.{hasCommand, textEnd, readHeader, refusedLine, printedOutcome, printed};
+ghost use Rattle.layout.specs.Outcome.{Result};
+ghost use Rattle.desk_job.specs.Job.{hasCommand, textEnd, readHeader, answered, leaves, refusedLine, printed};
 ghost use Rattle.desk_job.specs.Written.{Written, written};
 
 // The three header commands: refused at a place; or width, case and where the text ends.
@@ -70,40 +69,34 @@ fn read_header(job: &[u8], more: bool) -> Header
     Header::Accepted(wide(job[1]), wide(job[3]), end)
 }
 
-// "refused N at P" and a newline.
-fn print_refusal(number: u64, place: u64, out: &mut [u8]) -> usize
-    ensures { λ r. ⌜ _≡_ {A = Written} (record { end = r; space = now (out .exit) }) (written 0 (refusedLine number place) (now (out .entry))) ⌝ }
+// How the program answers a job: 0 and the length of its layout, which then stands in `out`; else 14, or what `layout` refuses, and the place.
+pub fn answer_job(job: &[u8], more: bool, out: &mut [u8]) -> Answer
+    ensures { λ r. ⌜ _≡_ {A = Result} (record { answer = r; space = now (out .exit) }) (leaves (answered more (now (job .entry)) (length (now (out .entry)))) (now (out .entry))) ⌝ }
 {
-    let a = put_all(out, 0, b"refused ");
-    let b = put_decimal(out, a, 20, number);
-    let c = put_all(out, b, b" at ");
-    let d = put_decimal(out, c, 20, place);
-    put_all(out, d, b"\n")
+    let header = read_header(job, more);
+    match header {
+        Header::Refused(place) => Answer {
+            number: 14,
+            value: place,
+        },
+        Header::Accepted(width, case, end) => layout(&job[9..end], &job[end..], width, case, out),
+    }
 }
 
-fn print_layout(text: &[u8], tape: &[u8], width: u64, case: u64, out: &mut [u8]) -> usize
-    ensures { λ r. ⌜ _≡_ {A = Written} (record { end = r; space = now (out .exit) }) (written 0 (printedOutcome (outcome original width case (now (text .entry)) (now (tape .entry))) (length (now (out .entry)))) (now (out .entry))) ⌝ }
+// "refused N at P" and a newline.
+pub fn print_refusal(number: u64, place: u64, out: &mut [u8]) -> usize
+    ensures { λ r. ⌜ _≡_ {A = Written} (record { end = r; space = now (out .exit) }) (written 0 (refusedLine number place) (now (out .entry))) ⌝ }
 {
-    let answer = layout(text, tape, width, case, out);
-    if answer.number == 0 {
-        return answer.value as usize;
-    }
-    print_refusal(answer.number, answer.value, out)
+    put_pair(out, 0, b"refused ", number, b" at ", place)
 }
 
 // Puts what the job prints into `out`, as far as that goes, and answers how many bytes it has put.
 pub fn print_job(job: &[u8], more: bool, out: &mut [u8]) -> usize
     ensures { λ r. ⌜ _≡_ {A = Written} (record { end = r; space = now (out .exit) }) (written 0 (printed more (now (job .entry)) (length (now (out .entry)))) (now (out .entry))) ⌝ }
 {
-    let header = read_header(job, more);
-    match header {
-        Header::Refused(place) => print_refusal(14, place, out),
-        Header::Accepted(width, case, end) => print_layout(
-            &job[9..end],
-            &job[end..],
-            width,
-            case,
-            out,
-        ),
+    let answer = answer_job(job, more, out);
+    if answer.number == 0 {
+        return answer.value as usize;
     }
+    print_refusal(answer.number, answer.value, out)
 }

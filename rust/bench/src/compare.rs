@@ -1,6 +1,7 @@
 //! One call of the port held to the oracle: both numbers of its answer, and every byte of the output space and of the margins around it.
 
 pub mod map;
+pub mod report;
 
 use crate::{layout, layout_map, word};
 use oracle::answers::{accepted_tree, answer, formatted, Answer, Answered, Case};
@@ -8,8 +9,8 @@ use oracle::cases::{make, Class, Made};
 use oracle::masking::{claim, Pair};
 use oracle::words;
 
-/// The classes whose cases are calls that the library has.
-pub const CLASSES: [Class; 16] = [
+/// The classes whose cases are calls that the library has, or books for it.
+pub const CLASSES: [Class; 20] = [
     Class::Parser,
     Class::Wild,
     Class::Damaged,
@@ -26,6 +27,10 @@ pub const CLASSES: [Class; 16] = [
     Class::MapDamaged,
     Class::MapMasked,
     Class::MapLimits,
+    Class::Books,
+    Class::BooksDamaged,
+    Class::BooksMasked,
+    Class::BooksLimits,
 ];
 
 /// The cells before and after a space that no call may touch.
@@ -33,6 +38,9 @@ const MARGIN: usize = 16;
 
 /// The case of this seed, class and index on both sides; the error says what differs.
 pub fn compare(seed: u64, class: Class, index: u64) -> Result<(), String> {
+    if report::CLASSES.contains(&class) {
+        return report::compare(seed, class, index, &crate::report);
+    }
     let differs = |what| format!("seed {seed}, class {class:?}, index {index}: {what}");
     match make(seed, class, index) {
         Made::Call(case) => call(&case),
@@ -41,6 +49,7 @@ pub fn compare(seed: u64, class: Class, index: u64) -> Result<(), String> {
         Made::Job(_) => panic!("a job is no call"),
         Made::MapCall(case) => map::call(&case, &layout_map),
         Made::MapPair(pair) => map::masked(&pair, &layout_map),
+        Made::Book(_) | Made::BookPair(_) => panic!("a book is no call"),
     }
     .map_err(differs)
 }
@@ -111,11 +120,13 @@ impl<T: Clone + PartialEq> Lent<T> {
 
     /// The space afterwards; the error is that a margin was touched.
     fn returned(mut self, cells: &str) -> Result<Vec<T>, String> {
-        let space = self.cells().to_vec();
-        if self.memory.starts_with(&self.margin) && self.memory.ends_with(&self.margin) {
-            return Ok(space);
+        let is_kept = self.memory.starts_with(&self.margin) && self.memory.ends_with(&self.margin);
+        self.memory.truncate(self.memory.len() - self.margin.len());
+        self.memory.drain(..self.margin.len());
+        if is_kept {
+            return Ok(self.memory);
         }
-        Err(format!("the margins of a space of {} {cells}", space.len()))
+        Err(format!("the margins of a space of {} {cells}", self.memory.len()))
     }
 }
 

@@ -20,6 +20,7 @@ mod library;
 mod present {
     use super::library;
     use oracle::answers::Answer;
+    use oracle::job::BUFFER;
 
     /// The port's laying out.
     pub fn layout(text: &[u8], tape: &[u8], width: u64, case: u64, out: &mut [u8]) -> Answer {
@@ -36,6 +37,11 @@ mod present {
         answer(library::word(word))
     }
 
+    /// The port's report over a book.
+    pub fn report(book: &[u8], more: u64, tally: &mut [u64; 4], work: &mut [u8; BUFFER], out: &mut [u8]) -> usize {
+        library::report(book, more, tally, work, out)
+    }
+
     fn answer(given: library::Answer) -> Answer {
         Answer { number: given.number, second: given.value }
     }
@@ -49,6 +55,7 @@ pub use present::*;
 mod absent {
     use super::HINT;
     use oracle::answers::Answer;
+    use oracle::job::BUFFER;
 
     pub fn layout(_text: &[u8], _tape: &[u8], _width: u64, _case: u64, _out: &mut [u8]) -> Answer {
         panic!("{HINT}")
@@ -59,6 +66,10 @@ mod absent {
     }
 
     pub fn word(_word: &[u8]) -> Answer {
+        panic!("{HINT}")
+    }
+
+    pub fn report(_book: &[u8], _more: u64, _tally: &mut [u64; 4], _work: &mut [u8; BUFFER], _out: &mut [u8]) -> usize {
         panic!("{HINT}")
     }
 }

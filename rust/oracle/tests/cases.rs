@@ -323,6 +323,10 @@ fn the_first_cases_are_the_ones_they_always_were() {
         3_950_505_699_754_599_138,
         9_951_125_735_200_283_694,
         4_758_170_455_706_926_525,
+        9_571_150_574_409_404_053,
+        2_895_821_372_374_533_533,
+        16_491_176_761_014_964_357,
+        11_968_279_579_285_853_167,
     ];
     assert_eq!(sums, expected);
 }
@@ -330,11 +334,12 @@ fn the_first_cases_are_the_ones_they_always_were() {
 /// All bytes of a case in a row.
 fn bytes_of(made: Made) -> Vec<u8> {
     match made {
-        Made::Job(bytes) | Made::Word(bytes) => bytes,
+        Made::Job(bytes) | Made::Word(bytes) | Made::Book(bytes) => bytes,
         Made::Call(case) => call_bytes(&case),
         Made::Pair(pair) => [call_bytes(&pair.case(0)), call_bytes(&pair.case(1))].concat(),
         Made::MapCall(case) => map_call_bytes(&case),
         Made::MapPair(pair) => [map_call_bytes(&pair.case(0)), map_call_bytes(&pair.case(1))].concat(),
+        Made::BookPair(books) => books.concat(),
     }
 }
 

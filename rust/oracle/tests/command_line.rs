@@ -39,6 +39,7 @@ fn a_bad_call_gets_a_message_and_status_2() {
     assert_bad_call(&["stored", "file"], "usage: oracle");
     assert_bad_call(&["words", "file"], "usage: oracle");
     assert_bad_call(&["map", "file"], "usage: oracle");
+    assert_bad_call(&["report", "file"], "usage: oracle");
     assert_bad_call(&["source", "file"], "usage: oracle");
 }
 
@@ -105,6 +106,17 @@ fn a_job_is_answered_on_standard_output() {
 }
 
 #[test]
+fn a_book_is_reported_on() {
+    needs_source!();
+    let book = [0x20, 0, 0, 0, 0];
+    let output = oracle(&["report"], &book);
+    assert!(output.status.success());
+    assert_eq!(output.stdout, b"1 refused 14 at 0\ntotal jobs 1 refused 1 bytes 0 lines 0\n");
+    assert_eq!(oracle(&["report"], &book[1..]).stdout, b"refused 18 at 0\n");
+    assert_eq!(oracle(&["report"], &[0; 70_000]).stdout, b"refused 18 at 65536\n");
+}
+
+#[test]
 fn a_job_is_mapped_token_by_token() {
     needs_source!();
     let output = oracle(&["map"], &job::write(&common::call(common::sheet_b)));
@@ -149,6 +161,10 @@ fn each_class_prints_its_case_and_answer() {
         ("map-damaged", "mapped "),
         ("map-masked", "claim of the map: Ok"),
         ("map-limits", "mapped "),
+        ("books", "printed: "),
+        ("books-damaged", "printed: "),
+        ("books-masked", "differ as masked: true\nclaim: Ok"),
+        ("books-limits", "printed: "),
     ] {
         let output = oracle(&["case", "1", class, "10"], b"");
         assert!(output.status.success(), "{class}");

@@ -8,7 +8,9 @@ use std::fmt;
 /// The refusals, each with its number.
 ///
 /// 1 to 5 are tried in that order. Then the tape is read from its start, and the first faulty command decides; within one, the order is
-/// 6, 7, 12, 8, 9, 10, 15, 16, 11. 13 comes last, and 17 of a map call after it. 14 is the desk's program's own.
+/// 6, 7, 12, 8, 9, 10, 15, 16, 11. 13 comes last, and 17 of a map call after it. 14 is the desk's program's own. 18 and 19 refuse a book: first
+/// its length is tried, then its commands from the start, before any job is answered; the first faulty one decides, and there 18 comes
+/// before 19.
 #[derive(Clone, Copy, Debug, PartialEq, Eq)]
 #[non_exhaustive]
 pub enum Refusal {
@@ -45,6 +47,10 @@ pub enum Refusal {
     WordNotAscii = 16,
     /// The map space is below two numbers per token. In place of a place stands the count of numbers needed.
     MapTooShort = 17,
+    /// A command of a book is wrong or cut short; or the book is longer than [`MOST_BOOK`](crate::MOST_BOOK), and the place is 65536.
+    BookCommand = 18,
+    /// A 257th job.
+    TooManyJobs = 19,
 }
 
 impl Refusal {
@@ -66,6 +72,8 @@ impl Refusal {
         Refusal::SpanInsideCharacter,
         Refusal::WordNotAscii,
         Refusal::MapTooShort,
+        Refusal::BookCommand,
+        Refusal::TooManyJobs,
     ];
 
     fn words(self) -> &'static str {
@@ -86,6 +94,8 @@ impl Refusal {
             Refusal::SpanInsideCharacter => "token or node starts or ends inside a character",
             Refusal::WordNotAscii => "bare word with a byte above 127",
             Refusal::MapTooShort => "map space too short",
+            Refusal::BookCommand => "book command wrong or cut short, or book longer than 65,536 bytes",
+            Refusal::TooManyJobs => "257th job",
         }
     }
 }
@@ -125,7 +135,7 @@ impl Error {
         self.refusal
     }
 
-    /// The refusal's number, 1 to 13 or 15 to 17.
+    /// The refusal's number: 1 to 13 or 15 to 19.
     pub fn number(self) -> u64 {
         self.refusal as u64
     }
@@ -139,8 +149,8 @@ impl Error {
         }
     }
 
-    /// An offset in the text for 4, the faulty command's offset in the tape for 6 to 12, 15 and 16, the needed length for 13, the count of
-    /// numbers needed for 17, else 0.
+    /// An offset in the text for 4, the faulty command's offset in the tape for 6 to 12, 15 and 16, in the book for 18 and 19, the needed
+    /// length for 13, the count of numbers needed for 17, else 0.
     pub fn place(self) -> u64 {
         self.place
     }
@@ -154,6 +164,7 @@ impl fmt::Display for Error {
             6..=12 | 15 | 16 => write!(f, " at tape offset {}", self.place),
             13 => write!(f, ": {} bytes are needed", self.place),
             17 => write!(f, ": {} numbers are needed", self.place),
+            18 | 19 => write!(f, " at book offset {}", self.place),
             _ => Ok(()),
         }
     }

@@ -33,7 +33,20 @@ extern "C" {
     ) -> Answer;
 
     fn qdesk_word(word: *const u8, word_length: usize) -> Answer;
+
+    fn qdesk_report(
+        book: *const u8,
+        book_length: usize,
+        more: u64,
+        tally: *mut [u64; 4],
+        work: *mut [u8; WORK],
+        out: *mut u8,
+        out_length: usize,
+    ) -> usize;
 }
+
+/// Bytes of the space in which a report lays out each job.
+pub const WORK: usize = 65_536;
 
 pub fn layout(text: &[u8], tape: &[u8], width: u64, case: u64, out: &mut [u8]) -> Answer {
     let (text, text_length) = (text.as_ptr(), text.len());
@@ -56,4 +69,12 @@ pub fn layout_map(text: &[u8], tape: &[u8], width: u64, case: u64, out: &mut [u8
 pub fn word(word: &[u8]) -> Answer {
     // SAFETY: as for laying out.
     unsafe { qdesk_word(word.as_ptr(), word.len()) }
+}
+
+pub fn report(book: &[u8], more: u64, tally: &mut [u64; 4], work: &mut [u8; WORK], out: &mut [u8]) -> usize {
+    let (book, book_length) = (book.as_ptr(), book.len());
+    let (out, out_length) = (out.as_mut_ptr(), out.len());
+    // SAFETY: as for laying out. The tally and the working space are valid for reads and writes of their four numbers and 65,536 bytes,
+    // which is what the function takes through the two pointers that come without a length.
+    unsafe { qdesk_report(book, book_length, more, tally, work, out, out_length) }
 }

@@ -3,7 +3,8 @@
 //!
 //! The tree comes as a *tape*, a row of commands; [`TapeBuilder`] spells one. [`layout`] writes the layout into a lent space, or says how
 //! long one is needed, [`layout_to_vec`] brings the space itself, and [`layout_to_string`] does so from a `&str` to a `String`.
-//! [`needed_length`] is the length alone. [`word`] tells keywords, value words (TRUE, FALSE, NULL) and all other words apart.
+//! [`needed_length`] is the length alone. [`word`] tells keywords, value words (TRUE, FALSE, NULL) and all other words apart. [`report`]
+//! tells of each query of a [`book`] how long its layout is.
 //!
 //! ```
 //! use qdesk::{layout_to_string, Case, Kind, Settings, TapeBuilder};
@@ -37,6 +38,7 @@ mod error;
 mod ffi;
 mod kind;
 mod map;
+mod report;
 mod tape;
 mod word;
 
@@ -44,6 +46,7 @@ pub use command::{command_at, commands, span_bytes, Command, Operands};
 pub use error::{Error, Refusal};
 pub use kind::Kind;
 pub use map::{layout_map, layout_map_to_vec, Mapped, Spot};
+pub use report::{book, job, report, Tally, MOST_BOOK, MOST_JOBS, MOST_REPORT};
 pub use tape::{TapeBuilder, TapeError, TapeFault, MOST_BYTES, MOST_OPEN};
 pub use word::{word, Word};
 

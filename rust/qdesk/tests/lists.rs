@@ -2,7 +2,7 @@
 
 mod common;
 
-use qdesk::{needed_length, Kind, Refusal, Word, MOST_BYTES, MOST_OPEN};
+use qdesk::{needed_length, Kind, Refusal, Word, MOST_BOOK, MOST_BYTES, MOST_JOBS, MOST_OPEN, MOST_REPORT};
 use std::fs;
 use std::path::PathBuf;
 
@@ -113,4 +113,7 @@ fn version_and_limits_are_those_of_the_header() {
     defined(format!("#define QDESK_VERSION \"{}\"", env!("CARGO_PKG_VERSION")));
     defined(format!("#define QDESK_MOST_BYTES {MOST_BYTES}"));
     defined(format!("#define QDESK_MOST_OPEN {MOST_OPEN}"));
+    defined(format!("#define QDESK_MOST_BOOK {MOST_BOOK}"));
+    defined(format!("#define QDESK_MOST_JOBS {MOST_JOBS}"));
+    defined(format!("#define QDESK_MOST_REPORT {MOST_REPORT}"));
 }

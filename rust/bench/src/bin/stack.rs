@@ -1,13 +1,17 @@
-//! Prints how many bytes of stack the calls take for trees of 64 levels: laying out in no output space and in enough, and the map call.
+//! Prints how many bytes of stack the calls take for trees of 64 levels: laying out in no output space and in enough, the map call, and the
+//! report over a book of one job.
 
 use command_line::{Failure, Program};
-use oracle::answers::Answer;
+use oracle::answers::{Answer, Case};
+use oracle::job::{self, BUFFER};
 use oracle::kinds::{self, COUNT};
+use oracle::report::write;
 use oracle::tape::{push_close, push_open, push_token};
 use std::io::{self, Write};
 use std::process::ExitCode;
 
-const USAGE: &str = "usage: stack   prints the bytes of stack that laying out in no space and in enough and the map call take at 64 levels";
+const USAGE: &str = "usage: stack   prints the bytes of stack that laying out, in no space and in enough, the map call and the report take at
+               64 levels; takes no argument";
 
 const LEVELS: usize = 64;
 
@@ -40,8 +44,18 @@ fn print_stack(out: &mut dyn Write) -> io::Result<()> {
         print_most(out, "no space", &tapes, |tape| bench::layout(TEXT, tape, 4, 1, &mut []))?;
         print_most(out, "layout", &tapes, |tape| bench::layout(TEXT, tape, 4, 1, &mut space))?;
         print_most(out, "map", &tapes, |tape| bench::layout_map(TEXT, tape, 4, 1, &mut space, &mut map))?;
+        let mut work = Box::new([0; BUFFER]);
+        print_most(out, "report", &tapes, |tape| reported(tape, &mut work, &mut space))?;
     }
     Ok(())
+}
+
+/// The report over a book of one job: how many are refused, and how many bytes are put.
+fn reported(tape: &[u8], work: &mut [u8; BUFFER], space: &mut [u8]) -> Answer {
+    let call = Case { text: TEXT.to_vec(), tape: tape.to_vec(), width: 4, case: 1, space: Vec::new() };
+    let mut tally = [0; 4];
+    let put = bench::report(&write(&[job::write(&call)]), 0, &mut tally, work, space);
+    Answer { number: tally[1], second: put as u64 }
 }
 
 /// For each carried kind, 64 levels of it, and 63 levels of QueryList around one. The innermost node has tokens of every kind, so many times.

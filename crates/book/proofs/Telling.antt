@@ -1,0 +1,107 @@
+-- Laws of what is told of a job: the count of newlines, and from the program's answer to what is told.
+use mathlib.Core.Path.{_≡_, refl, ap, _∙_}
+use mathlib.Core.Bool.{Bool, true, false, cond}
+use mathlib.Core.List.{List, [], _∷_, _++_}
+use Prim.Native.Nat.{ℕ, suc, _+_, _≤_, _<_}
+use native.Mathlib.Numerals.{add-one}
+use native.Mathlib.Omega.{arith}
+use lib.ListN.{length, getD, take, drop, drop-of-length-le, length-append}
+use lib.Seq.{drop-cons}
+use lib.Dec.{eqb}
+use borrow.Author.Tests.{eq-eqb, ne-eqb}
+use Rattle.context.specs.Cells.{count}
+use Rattle.layout.specs.declared.Answer.{Answer}
+use Rattle.layout.specs.Outcome.{Result}
+use Rattle.desk_job.specs.Job.{Answered, refused, text, answered, leaves, readHeader}
+use Rattle.desk_job.proofs.Printing.{Fits, answer-fits}
+use Rattle.book.specs.declared.told.Told.{Told}
+use Rattle.book.specs.declared.told.Told.the-variants.{Refused, LaidOut}
+use Rattle.book.specs.Told.{Telling, telling, toldOf, toldJob, answeredJob}
+use Rattle.book.specs.Tally.{bytesTold, linesTold}
+
+-- ── the count's loop: a newline, another byte, the end
+
+newline-first : (bs : List ℕ) (b : ℕ) → b ≡ 10 → count 10 (b ∷ bs) ≡ 1 + count 10 bs
+newline-first bs b e = simp (eq-eqb b 10 e)
+
+other-first : (bs : List ℕ) (b : ℕ) → (b ≡ 10 → ⊥) → count 10 (b ∷ bs) ≡ 0 + count 10 bs
+other-first bs b e = simp (ne-eqb b 10 e)
+
+module _ (text : List ℕ) (i n : ℕ) where
+  pub count-newline : i < length text → getD text i 0 ≡ 10 → n + count 10 (drop i text) ≡ count 10 text → n + 1 + count 10 (drop (i + 1) text) ≡ count 10 text
+  count-newline l e h =
+      let s : count 10 (drop i text) ≡ 1 + count 10 (drop (suc i) text) = rw (drop-cons text i 0) (newline-first (drop (suc i) text) (getD text i 0) e) in
+      rw (add-one i) (omega (arith, h, s))
+
+  pub count-other : i < length text → (getD text i 0 ≡ 10 → ⊥) → n + count 10 (drop i text) ≡ count 10 text → n + count 10 (drop (i + 1) text) ≡ count 10 text
+  count-other l e h =
+      let s : count 10 (drop i text) ≡ 0 + count 10 (drop (suc i) text) = rw (drop-cons text i 0) (other-first (drop (suc i) text) (getD text i 0) e) in
+      rw (add-one i) (omega (arith, h, s))
+
+  pub count-all : length text ≤ i → n + count 10 (drop i text) ≡ count 10 text → n ≡ count 10 text
+  count-all l h = let s : count 10 (drop i text) ≡ 0 = ap (count 10) (drop-of-length-le text l) in omega (arith, h, s)
+
+count-step : (b : Bool) (k m : ℕ) → k ≤ m → cond b 1 0 + k ≤ suc m
+count-step true k m h = omega (arith, h)
+count-step false k m h = omega (arith, h)
+
+count-few : (bs : List ℕ) → count 10 bs ≤ length bs
+count-few [] = omega arith
+count-few (b ∷ bs) = count-step (eqb b 10) (count 10 bs) (length bs) (count-few bs)
+
+-- ── no more bytes and lines are told than the buffer has bytes
+
+job-fits : (job : List ℕ) → Fits (answeredJob job) 65536
+unfolding answeredJob
+job-fits job = answer-fits (readHeader false job) job 65536
+
+few-bytes : (a : Answered) → Fits a 65536 → bytesTold (toldOf a) ≤ 65536
+unfolding toldOf bytesTold
+few-bytes (refused n p) f = omega arith
+few-bytes (text bs) f = f
+
+few-lines : (a : Answered) → Fits a 65536 → linesTold (toldOf a) ≤ 65536
+unfolding toldOf linesTold
+few-lines (refused n p) f = omega arith
+few-lines (text bs) f = omega (arith, f, count-few bs)
+
+pub told-bytes : (job : List ℕ) → bytesTold (toldJob job) ≤ 65536
+told-bytes job = few-bytes (answeredJob job) (job-fits job)
+
+pub told-lines : (job : List ℕ) → linesTold (toldJob job) ≤ 65536
+told-lines job = few-lines (answeredJob job) (job-fits job)
+
+-- ── from the answer to what is told
+
+front : (bs rest : List ℕ) → take (length bs) (bs ++ rest) ≡ bs
+front [] rest = refl
+front (b ∷ bs) rest = ap (λ (r : List ℕ). b ∷ r) (front bs rest)
+
+module _ (r : Answer) (work out : List ℕ) where
+  pub told-refusal : (a : Answered) → _≡_ {A = Result} (record { answer = r; space = out }) (leaves a work) → (r .number ≡ 0 → ⊥)
+      → _≡_ {A = Telling} (record { told = Refused (r .number) (r .value); work = out }) (telling a work)
+  unfolding leaves toldOf telling
+  told-refusal (refused n p) h z = ap (λ (x : Result). record { told = Refused (x .answer .number) (x .answer .value); work = x .space }) h
+  told-refusal (text bs) h z = absurd (z (ap (λ (x : Result). x .answer .number) h))
+
+  pub told-text : (room : ℕ) (a : Answered) → Fits a room → _≡_ {A = Result} (record { answer = r; space = out }) (leaves a work) → r .number ≡ 0 → (n : ℕ) → n ≡ count 10 (take (r .value) out)
+      → _≡_ {A = Telling} (record { told = LaidOut (r .value) n; work = out }) (telling a work)
+  unfolding leaves toldOf telling
+  told-text room (refused n p) f h z m e = let k : r .number ≡ n = ap (λ (x : Result). x .answer .number) h in absurd (omega (arith, k, z, f))
+  told-text room (text bs) f h z m e =
+      let c = e ∙ ap (λ (x : Result). count 10 (take (x .answer .value) (x .space))) h ∙ ap (count 10) (front bs (drop (length bs) work)) in
+      λ i. record { told = LaidOut (h i .answer .value) (c i); work = h i .space }
+
+  -- what is laid out ends within the space
+  pub text-within : (room : ℕ) (a : Answered) → Fits a room → _≡_ {A = Result} (record { answer = r; space = out }) (leaves a work) → r .number ≡ 0 → r .value ≤ length out
+  unfolding leaves
+  text-within room (refused n p) f h z = let k : r .number ≡ n = ap (λ (x : Result). x .answer .number) h in absurd (omega (arith, k, z, f))
+  text-within room (text bs) f h z =
+      let v : r .value ≡ length bs = ap (λ (x : Result). x .answer .value) h in
+      let l : length out ≡ length (bs ++ drop (length bs) work) = ap (λ (x : Result). length (x .space)) h in
+      omega (arith, v, l, length-append bs (drop (length bs) work))
+
+-- a job in the working space, which has 65,536 bytes
+pub told-job : {x : Telling} (job work : List ℕ) → length work ≡ 65536 → x ≡ telling (answered false job (length work)) work → x ≡ telling (answeredJob job) work
+unfolding answeredJob
+told-job job work l h = h ∙ ap (λ (n : ℕ). telling (answered false job n) work) l
