@@ -2,21 +2,22 @@
 use mathlib.Core.Path.{_≡_, refl, sym, ap, _∙_}
 use mathlib.Core.Bool.{Bool, true, false, cond, false≢true}
 use mathlib.Core.List.{List, [], _∷_}
-use Prim.Native.Nat.{ℕ, zero, suc, _<_}
+use Prim.Native.Nat.{ℕ, zero, suc, _≤_, _<_}
 use native.Mathlib.Nat.{le-of-suc-le-suc, not-suc-le-zero}
 use native.Mathlib.Omega.{arith}
-use lib.ListN.{length, getD}
-use lib.Dec.{T, leb}
+use lib.ListN.{length, getD, take}
+use lib.Dec.{T, leb, leb→le}
 use borrow.Author.Tests.{le-leb}
 use Rattle.basics.specs.Case.{toUppercase}
 use Rattle.basics.proofs.Same.{same-equal}
 use Rattle.keywords.specs.Names.{names}
 use Rattle.keywords.specs.Words.{bytes, capitals, isKeyword, isValueKeyword, next, placeOf, same, sortOf, wordOf, words}
+use Rattle.keywords.specs.Walk.{firstEqual}
 use Rattle.keywords.specs.declared.Place.{Place}
 use Rattle.keywords.specs.declared.Place.the-variants.{At, Nowhere}
 use Rattle.keywords.specs.declared.Word.{Word}
 use Rattle.keywords.specs.declared.Word.the-variants.{Plain, Value, Keyword}
-use Rattle.keywords.proofs.Places.{same-self}
+use Rattle.keywords.proofs.Places.{placed-entry, same-self}
 use Rattle.keywords.proofs.Sorts.{isListed, keyword-listed}
 use Rattle.context.specs.Cells.{Text}
 use Rattle.tape.specs.Tree.{Tree}
@@ -29,7 +30,7 @@ use Rattle.layout.proofs.OneLength.{named}
 use Rattle.two_calls.specs.declared.Answers.{Answers}
 use Rattle.two_calls.specs.Both.{LaysOutTwice}
 use Rattle.acceptance.specs.Demands.{formatted}
-use Rattle.acceptance.specs.Requests.{FirstAt, SortOfWord, OneCall}
+use Rattle.acceptance.specs.Requests.{FirstAt, FirstEntry, SortOfWord, OneCall}
 use Rattle.acceptance.proofs.Demands.{was-laid, laid-answer, as-long}
 
 first-placed : (w : List ℕ) (list : List (List ℕ)) (i : ℕ) → FirstAt w list i → placeOf w list ≡ At i
@@ -55,6 +56,19 @@ sort-of-word w r e =
     unlisted Plain h = refl
     unlisted (Value i) h = absurd (false≢true (sym h))
     unlisted (Keyword i) h = absurd (false≢true (sym h))
+
+pub first-entry : (n : ℕ) (bytes : List ℕ) (r : Place) → r ≡ firstEqual n bytes words → FirstEntry n bytes r
+first-entry n bytes r e =
+    record {
+      first = λ l i x. e ∙ rw (le-leb n (length bytes) l) (first-placed (take n bytes) words i x);
+      none = λ h. e ∙ go (leb n (length bytes)) (placeOf (take n bytes) words) refl refl h;
+    }
+  where
+    go : (b : Bool) (p : Place) → leb n (length bytes) ≡ b → placeOf (take n bytes) words ≡ p
+        → (n ≤ length bytes → (i : ℕ) → i < length words → getD words i [] ≡ take n bytes → ⊥) → cond b p Nowhere ≡ Nowhere
+    go false p l q h = refl
+    go true Nowhere l q h = refl
+    go true (At i) l q h = let x = placed-entry (take n bytes) words i q in absurd (h (leb→le n (length bytes) (rw l tt)) i (x .inside) (x .is))
 
 -- ── words of each sort, and an entry that stands in a list twice
 

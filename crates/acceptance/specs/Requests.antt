@@ -2,10 +2,12 @@
 use mathlib.Core.Path.{_≡_}
 use mathlib.Core.Bool.{true, false}
 use mathlib.Core.List.{List, []}
-use Prim.Native.Nat.{ℕ, _<_}
-use lib.ListN.{length, getD}
+use Prim.Native.Nat.{ℕ, _≤_, _<_}
+use lib.ListN.{length, getD, take}
 use lib.Dec.{T}
 use Rattle.keywords.specs.Words.{capitals, isKeyword, isValueKeyword, words}
+use Rattle.keywords.specs.declared.Place.{Place}
+use Rattle.keywords.specs.declared.Place.the-variants.{At, Nowhere}
 use Rattle.keywords.specs.declared.Word.{Word}
 use Rattle.keywords.specs.declared.Word.the-variants.{Plain, Value, Keyword}
 use Rattle.context.specs.Cells.{Text}
@@ -28,6 +30,12 @@ pub record SortOfWord (w : List ℕ) (r : Word) : Type 0 where
   pub plain : isKeyword w ≡ false → r ≡ Plain
   pub value : (i : ℕ) → FirstAt (capitals w) words i → isValueKeyword w ≡ true → r ≡ Value i
   pub keyword : (i : ℕ) → FirstAt (capitals w) words i → isValueKeyword w ≡ false → r ≡ Keyword i
+
+-- E4: "for any length and bytes it is handed, it answers the first entry equal to them, or none". Equal to them is an entry that is so many of the
+-- bytes; where there are fewer none is.
+pub record FirstEntry (n : ℕ) (bytes : List ℕ) (r : Place) : Type 0 where
+  pub first : n ≤ length bytes → (i : ℕ) → FirstAt (take n bytes) words i → r ≡ At i
+  pub none : (n ≤ length bytes → (i : ℕ) → i < length words → getD words i [] ≡ take n bytes → ⊥) → r ≡ Nowhere
 
 -- E5, for two calls on one input; the output spaces hold beforeA and beforeB, and then afterA and afterB
 pub record OneCall (width case : ℕ) (text : Text) (tape beforeA beforeB : List ℕ) (r : Answers) (afterA afterB : List ℕ) : Type 0 where

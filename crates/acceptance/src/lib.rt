@@ -2,8 +2,10 @@
 // the demand says. Nobody calls these functions. They are the page to read first, and a promise that is weakened below fails here.
 use desk_job::print_job;
 use formatter::layout;
+use keywords::Place;
 use keywords::Word;
 use keywords::is_word;
+use keywords::walk;
 use keywords::word_of;
 use layout::Answer;
 use qdesk::qdesk_layout;
@@ -19,7 +21,7 @@ ghost use Rattle.layout.specs.Outcome.{Result, laidOut, outcome};
 ghost use Rattle.desk_job.specs.Job.{printed};
 ghost use Rattle.desk_job.specs.Written.{Written, written};
 ghost use Rattle.qdesk.specs.WordAnswer.{wordAnswer};
-ghost use Rattle.acceptance.specs.Requests.{OneCall, SortOfWord};
+ghost use Rattle.acceptance.specs.Requests.{FirstEntry, OneCall, SortOfWord};
 ghost use Rattle.acceptance.specs.Demands.{Demand1, Demand2, Demand3};
 
 // Demand 1: bad input is refused with its number and place, nothing is written, and nothing else is refused.
@@ -70,6 +72,13 @@ pub fn request_2(word: &[u8]) -> Word
     ensures { λ r. ⌜ SortOfWord (now (word .entry)) r ⌝ }
 {
     word_of(word)
+}
+
+// E4: the first entry of the list that is equal to a length and bytes, whatever they are, or none.
+pub fn request_4(length: usize, bytes: &[u8]) -> Place
+    ensures { λ r. ⌜ FirstEntry length (now (bytes .entry)) r ⌝ }
+{
+    walk(length, bytes)
 }
 
 // E5: one call for length and text, here in two spaces.
