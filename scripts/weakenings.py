@@ -38,13 +38,6 @@ WEAKENINGS = {
         ),
         LENGTH,
     ],
-    "the walk asks for a length of one": [
-        (
-            "keywords/src/lib.rt",
-            "pub fn walk(length: usize, bytes: &[u8]) -> Place\n",
-            "pub fn walk(length: usize, bytes: &[u8]) -> Place\n    requires { ⌜ length ≡ 1 ⌝ }\n",
-        )
-    ],
     "one text in two spaces asks for a narrow indent": [
         (
             "two_calls/src/lib.rt",

@@ -1,3 +1,4 @@
 -- From what the calls promise to the demands.
 pub mod Demands
 pub mod Requests
+pub mod Reports

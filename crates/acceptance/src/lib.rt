@@ -1,5 +1,8 @@
 // What the customer is promised, one function for each demand: it makes the calls that the demand speaks of, asks nothing, and promises what
 // the demand says. Nobody calls these functions. They are the page to read first, and a promise that is weakened below fails here.
+use book::Reported;
+use book::Tally;
+use book::report_from;
 use desk_job::print_job;
 use formatter::layout;
 use keywords::Place;
@@ -9,19 +12,23 @@ use keywords::walk;
 use keywords::word_of;
 use layout::Answer;
 use qdesk::qdesk_layout;
+use qdesk::qdesk_report;
 use qdesk::qdesk_word;
 use two_calls::Answers;
 use two_calls::layout_both;
 use two_calls::layout_twice;
 ghost use mathlib.Core.Path.{_≡_};
+ghost use lib.Dec.{ltb};
 ghost use lib.ListN.{length};
 ghost use Rattle.keywords.specs.Words.{capitals, same, wordOf};
 ghost use Rattle.layout.specs.Layout.{original};
 ghost use Rattle.layout.specs.Outcome.{Result, laidOut, outcome};
+ghost use Rattle.book.specs.Report.{Called, reported};
 ghost use Rattle.desk_job.specs.Job.{printed};
 ghost use Rattle.desk_job.specs.Written.{Written, written};
+ghost use Rattle.qdesk.specs.TallyNumbers.{tallyOf};
 ghost use Rattle.qdesk.specs.WordAnswer.{wordAnswer};
-ghost use Rattle.acceptance.specs.Requests.{FirstEntry, OneCall, SortOfWord};
+ghost use Rattle.acceptance.specs.Requests.{FirstEntry, OneCall, ReportOver, SortOfWord};
 ghost use Rattle.acceptance.specs.Demands.{Demand1, Demand2, Demand3};
 
 // Demand 1: bad input is refused with its number and place, nothing is written, and nothing else is refused.
@@ -107,4 +114,30 @@ pub fn c_word(word: &[u8]) -> Answer
     ensures { λ r. ⌜ r ≡ wordAnswer (wordOf (now (word .entry))) ⌝ }
 {
     qdesk_word(word)
+}
+
+// E6: a report over a book of saved queries. The call itself, which is lent the tally, is `book::report`; this is the one that takes it by value.
+pub fn request_6(
+    book: &[u8],
+    more: bool,
+    tally: Tally,
+    work: &mut [u8; 65536],
+    out: &mut [u8],
+) -> Reported
+    ensures { λ r. ⌜ ReportOver more (now (book .entry)) tally (now (out .entry)) r (now (out .exit)) ⌝ }
+{
+    report_from(book, more, tally, work, out)
+}
+
+// The C interface: a report.
+pub fn c_report(
+    book: &[u8],
+    more: u64,
+    tally: &mut [u64; 4],
+    work: &mut [u8; 65536],
+    out: &mut [u8],
+) -> usize
+    ensures { λ r. ⌜ _≡_ {A = Called} (record { end = r; space = now (out .exit); work = now (work .exit); tally = tallyOf (now (tally .exit)) }) (reported (ltb 0 more) (now (book .entry)) (tallyOf (now (tally .entry))) (now (work .entry)) (now (out .entry))) ⌝ }
+{
+    qdesk_report(book, more, tally, work, out)
 }

@@ -4,4 +4,6 @@ pub mod Telling
 pub mod Stepping
 pub mod Reporting
 pub mod Looping
+pub mod Totals
+pub mod SmallBooks
 pub mod Again

@@ -10,7 +10,7 @@ use lib.Dec.{leb, ltb}
 use borrow.Author.Tests.{ltb-false}
 use Rattle.desk_job.specs.Written.{Written}
 use Rattle.desk_job.proofs.Writing.{within, same-length-of}
-use Rattle.book.specs.declared.tally.Tally.{Tally}
+use Rattle.book.specs.declared.Tally.{Tally}
 use Rattle.book.specs.declared.Run.{Run}
 use Rattle.book.specs.declared.open.Opened.{Opened}
 use Rattle.book.specs.declared.open.Opened.the-variants.{Fault, Jobs}

@@ -8,7 +8,7 @@ use lib.ListN.{length}
 use Rattle.desk_job.specs.Written.{Written, written}
 use Rattle.desk_job.proofs.Writing.{Wrote, within, wrote-then, wrote-nothing}
 use Rattle.book.specs.declared.Run.{Run}
-use Rattle.book.specs.declared.tally.Tally.{Tally}
+use Rattle.book.specs.declared.Tally.{Tally}
 use Rattle.book.specs.declared.told.Told.{Told}
 use Rattle.book.specs.declared.open.Opened.{Opened}
 use Rattle.book.specs.declared.open.Opened.the-variants.{Fault, Jobs}

@@ -8,7 +8,7 @@ use native.Mathlib.Omega.{arith}
 use lib.ListN.{length, take, drop}
 use Rattle.desk_job.specs.Written.{Written, written}
 use Rattle.desk_job.proofs.Writing.{Wrote, within, same-length-of}
-use Rattle.book.specs.declared.tally.Tally.{Tally}
+use Rattle.book.specs.declared.Tally.{Tally}
 use Rattle.book.specs.declared.told.Told.{Told}
 use Rattle.book.specs.declared.told.Told.the-variants.{Refused, LaidOut}
 use Rattle.book.specs.Tally.{zeros, withJob, bytesTold, linesTold, Room}
@@ -35,12 +35,12 @@ module _ (t : Tally) where
   refused-with (Refused n p) = omega arith
   refused-with (LaidOut b l) = omega arith
 
-  bytes-with : (o : Told) → withJob t o .bytes ≡ t .bytes + bytesTold o
+  pub bytes-with : (o : Told) → withJob t o .bytes ≡ t .bytes + bytesTold o
   unfolding withJob bytesTold
   bytes-with (Refused n p) = omega arith
   bytes-with (LaidOut b l) = refl
 
-  lines-with : (o : Told) → withJob t o .lines ≡ t .lines + linesTold o
+  pub lines-with : (o : Told) → withJob t o .lines ≡ t .lines + linesTold o
   unfolding withJob linesTold
   lines-with (Refused n p) = omega arith
   lines-with (LaidOut b l) = refl

@@ -3,4 +3,6 @@ pub mod Book
 pub mod Told
 pub mod Tally
 pub mod Report
+pub mod Totals
+pub mod SmallBooks
 pub mod Steps

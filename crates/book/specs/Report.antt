@@ -5,7 +5,7 @@ use mathlib.Core.List.{List, [], _∷_, _++_, map}
 use Rattle.keywords.specs.Words.{bytes}
 use Rattle.desk_job.specs.Job.{decimal, field, pair, refusedLine}
 use Rattle.desk_job.specs.Written.{written}
-use Rattle.book.specs.declared.tally.Tally.{Tally}
+use Rattle.book.specs.declared.Tally.{Tally}
 use Rattle.book.specs.declared.told.Told.{Told}
 use Rattle.book.specs.declared.told.Told.the-variants.{Refused, LaidOut}
 use Rattle.book.specs.declared.open.Opened.{Opened}

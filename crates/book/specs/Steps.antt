@@ -7,7 +7,7 @@ use lib.ListN.{length}
 use Rattle.desk_job.specs.Job.{refusedLine}
 use Rattle.desk_job.specs.Written.{Written, written}
 use Rattle.book.specs.declared.Run.{Run}
-use Rattle.book.specs.declared.tally.Tally.{Tally}
+use Rattle.book.specs.declared.Tally.{Tally}
 use Rattle.book.specs.declared.open.Opened.{Opened}
 use Rattle.book.specs.declared.open.Opened.the-variants.{Fault, Jobs}
 use Rattle.book.specs.Book.{jobEnd, jobAt, isWhole}

@@ -1,7 +1,7 @@
 -- The running tally of a report, and what a job adds to it.
 use Prim.Native.Nat.{ℕ, _+_, _<_, _^_}
 use mathlib.Core.List.{List, [], _∷_}
-use Rattle.book.specs.declared.tally.Tally.{Tally}
+use Rattle.book.specs.declared.Tally.{Tally}
 use Rattle.book.specs.declared.told.Told.{Told}
 use Rattle.book.specs.declared.told.Told.the-variants.{Refused, LaidOut}
 

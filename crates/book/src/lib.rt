@@ -1,8 +1,7 @@
 // A report over a book of saved queries: the book is walked first, and then each job is answered as the desk's program does it, and told on a line.
-pub mod open;
-pub mod print;
-pub mod tally;
-pub mod told;
+mod open;
+mod print;
+mod told;
 
 use desk_job::print_refusal;
 use open::Opened;
@@ -10,7 +9,6 @@ use open::job_end;
 use open::open_book;
 use print::put_job;
 use print::put_total;
-use tally::Tally;
 use told::Told;
 use told::tell;
 ghost use mathlib.Core.Path.{_≡_};
@@ -18,11 +16,54 @@ ghost use Prim.Native.Nat.{_≤_};
 ghost use lib.ListN.{length};
 ghost use Rattle.desk_job.specs.Written.{Written};
 ghost use Rattle.book.specs.Book.{opened};
+ghost use Rattle.book.specs.Tally.{zeros, withJob, Room};
 ghost use Rattle.book.specs.Report.{Called, reported};
 ghost use Rattle.book.specs.Steps.{Begun, begun, Step, stepped, finished, Ready};
 
+// What a report counts: a record that is lent to the call and raised in place for each job. By value one job is one step.
+pub struct Tally {
+    pub jobs: u64,
+    pub refused: u64,
+    pub bytes: u64,
+    pub lines: u64,
+}
+
+impl Tally {
+    pub fn zeros() -> Tally
+        ensures { λ r. ⌜ r ≡ zeros ⌝ }
+    {
+        Tally {
+            jobs: 0,
+            refused: 0,
+            bytes: 0,
+            lines: 0,
+        }
+    }
+
+    // One job more.
+    fn with_job(self, told: Told) -> Tally
+        requires { ⌜ Room self told ⌝ }
+        ensures { λ r. ⌜ r ≡ withJob self told ⌝ }
+    {
+        match told {
+            Told::Refused(_, _) => Tally {
+                jobs: self.jobs + 1,
+                refused: self.refused + 1,
+                bytes: self.bytes,
+                lines: self.lines,
+            },
+            Told::LaidOut(bytes, lines) => Tally {
+                jobs: self.jobs + 1,
+                refused: self.refused,
+                bytes: self.bytes + bytes,
+                lines: self.lines + lines,
+            },
+        }
+    }
+}
+
 // How far a report is: jobs left, where the next one's command stands, and how much is put. A refused book has no job left and no total.
-pub struct Run {
+struct Run {
     pub left: usize,
     pub at: usize,
     pub put: usize,

@@ -1,5 +1,5 @@
 // The lines of a report.
-use crate::tally::Tally;
+use crate::Tally;
 use crate::told::Told;
 use desk_job::write::put_decimal;
 use desk_job::write::put_field;

@@ -1,5 +1,5 @@
 // The second program: reads a book from standard input, and prints the report over it.
-use book::tally::Tally;
+use book::Tally;
 
 fn main() {
     let mut book = [0u8; 65536];

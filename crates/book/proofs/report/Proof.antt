@@ -51,9 +51,9 @@ use denote.Triple.Table.{entered, cited}
 use denote.Triple.Walked.{says, Stays, stay-none, stay-ref, stay-slice, stay-none-slice, walkOf, goes-none, goes-ref, goes-slice, goes-none-slice, Walks, ends-at, walked, walk-meets}
 use denote.Exit.{yes}
 use Rattle.desk_job.specs.Written.{Written}
-use Rattle.book.specs.declared.tally.Tally.{Tally}
-use Rattle.book.proofs.tally.Tally as T
-use Rattle.book.proofs.tally.Tally.Laws as T′
+use Rattle.book.specs.declared.Tally.{Tally}
+use Rattle.book.proofs.Tally as T
+use Rattle.book.proofs.Tally.Laws as T′
 use Rattle.book.specs.declared.Run.{Run}
 use Rattle.book.specs.Book.{opened}
 use Rattle.book.specs.Report.{Called, reported}

@@ -45,9 +45,9 @@ use denote.Triple.Clauses.{Lasts, lasts}
 use denote.Triple.Table.{entered, cited}
 use denote.Triple.Walked.{says, Stays, stay-none, stay-none-slice, gave-ref, gave-slice, walkOf, goes-none, goes-none-slice, goes-gave-ref, goes-gave-slice, Walks, ends-at, walked, walk-meets}
 use denote.Exit.{yes}
-use Rattle.book.specs.declared.tally.Tally.{Tally}
-use Rattle.book.proofs.tally.Tally as T
-use Rattle.book.proofs.tally.Tally.Laws as T′
+use Rattle.book.specs.declared.Tally.{Tally}
+use Rattle.book.proofs.Tally as T
+use Rattle.book.proofs.Tally.Laws as T′
 use Rattle.book.specs.declared.Reported.{Reported}
 use Rattle.book.proofs.Reported as P
 use Rattle.book.proofs.Reported.Laws as P′

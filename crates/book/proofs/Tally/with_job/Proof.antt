@@ -3,8 +3,8 @@ use borrow.Author.Needs.{needs}
 use native.Mathlib.Omega.{arith}
 use mathlib.Core.Path.{sym, ap}
 use Rattle.book.specs.Tally.{bytesTold, linesTold, withJob}
-use Rattle.book.proofs.tally.Tally.with_job.Statement.{statement}
-use Rattle.book.proofs.tally.Tally.with_job.Tie as tie
+use Rattle.book.proofs.Tally.with_job.Statement.{statement}
+use Rattle.book.proofs.Tally.with_job.Tie as tie
 
 enum-told : tie.Need-enum-told
 enum-told c = search needs
