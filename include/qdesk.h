@@ -1,6 +1,6 @@
 /*
- * Lays out a ClickHouse query, one clause to a line, from its text and its syntax tree, and tells the sorts of word apart: the C
- * interface of libqdesk.a, which `rt staticlib qdesk` writes to target/staticlib, for Linux on x86-64.
+ * Lays out a ClickHouse query, one clause to a line, from its text and its syntax tree, tells the sorts of word apart, and reports on
+ * books of saved queries: the C interface of libqdesk.a, which `rt staticlib qdesk` writes to target/staticlib, for Linux on x86-64.
  *
  * What goes in
  *
@@ -14,22 +14,28 @@
  *                    number is its place in clickhouse-analyzer's SyntaxKind, from 0 (qdesk_kinds.h has them all by name)
  *   width            blanks for each level of indent, 0 to 16
  *   case_byte        the case of keywords, 0 lower or 1 upper
- *   out, out_len     the output space
+ *   out, out_len     the output space, of any length; with 0 bytes the call measures
  *
- * Nothing of this is asked beforehand: the calls check it, and what is wrong is refused. The caller answers for the memory alone:
+ * Nothing of this is asked beforehand: the call checks it, and what is wrong is refused. The caller answers for the memory alone:
  *
  *   - each pointer is valid for its length; at length 0 it may be null, since nothing is read or written through it
  *   - `out` overlaps neither `text` nor `tape`; during the call nobody else touches `out` or writes to the other two
  *
  * What comes out
  *
- * For each input there is one answer, and it is proved that the calls give it (docs/PROOFS.md): 0 and the length of the layout, or the
+ * For each input there is one answer, and it is proved that the call gives it (docs/PROOFS.md): 0 and the length of the layout, or the
  * number of a refusal and its place. The layout ends in a newline unless it is empty, and has no 0 byte after it.
  *
  *   - An accepted layout of length L is in the first L bytes of `out`. Later bytes stay as they were.
- *   - A refusal writes no byte. Measuring never writes.
+ *   - A refusal writes no byte.
+ *   - Where the space is too short, 13 gives the needed length: on one input it is the same whatever the space, and the same as that of an
+ *     accepted layout.
  *
- * Both calls take time in proportion to the lengths of text and tape where tokens do not overlap, as a parser's never do. Where they do, the
+ * How to measure: pass null and 0 for `out` and `out_len`. Then the answer is 13 and the needed length, or 0 and 0 for a layout that needs no
+ * byte, or another refusal. Nothing is written, which takes less time than laying out. Who has space at hand need not measure first: a call that
+ * is answered 13 is made again with as much as it asks for.
+ *
+ * A call takes time in proportion to the lengths of text and tape where tokens do not overlap, as a parser's never do. Where they do, the
  * lengths of the tokens and of the nodes copied as typed add up, to seconds at the limits, and a layout can ask for gigabytes. Who takes tapes from
  * strangers adds up the lengths of all spans first and refuses more than QDESK_MOST_OPEN + 1 times the text's length, which no tree
  * without overlapping siblings has; then measures, and refuses what is too long.
@@ -49,10 +55,16 @@ extern "C" {
 
 #define QDESK_VERSION "0.1.0"
 
-/* The limits: bytes of a text and of a tape, nodes open at once, blanks for each level. */
+/* The limits: bytes of a text and of a tape, nodes open at once, blanks for each level; bytes and jobs of a book. */
 #define QDESK_MOST_BYTES 262144
 #define QDESK_MOST_OPEN 64
 #define QDESK_MOST_WIDTH 16
+#define QDESK_MOST_BOOK 65536
+#define QDESK_MOST_JOBS 256
+
+/* Bytes of a report's working space; bytes that every report fits in (a line for a job has at most 39, the last one 57). */
+#define QDESK_WORK 65536
+#define QDESK_MOST_REPORT 16384
 
 struct qdesk_answer {
     uint64_t number; /* one of enum qdesk_number; of qdesk_word, one of enum qdesk_sort */
@@ -62,7 +74,7 @@ struct qdesk_answer {
 /*
  * 1 to 5 are tried in that order. Then the tape is read from its start, and the first faulty command decides; within one, the order is
  * 6, 7, 12, 8, 9, 10, 15, 16, 11. 13 comes last. The value of 6 to 12, 15 and 16 is the faulty command's offset in the tape. 14 is the
- * desk's program's own: no call answers it.
+ * desk's program's own: no call answers it. 18 and 19 are numbers of a report's line, and no call answers them.
  */
 enum qdesk_number {
     QDESK_ACCEPTED = 0,         /* value: the layout's length */
@@ -80,12 +92,15 @@ enum qdesk_number {
     QDESK_TOO_DEEP = 11,        /* a 65th node opened */
     QDESK_NOT_ONE_ROOT = 12,    /* token or close with no node open; any command after the root's close; tape ends with no finished
                                    root (value: the tape's length) */
-    QDESK_SPACE_TOO_SHORT = 13, /* output space below the needed length (laying out only); value: the needed length */
+    QDESK_SPACE_TOO_SHORT = 13, /* output space below the needed length; value: the needed length */
     QDESK_SPAN_INSIDE_CHARACTER = 15, /* token, or node with start not above end, that starts or ends inside a character */
-    QDESK_WORD_NOT_ASCII = 16   /* token of kind BareWord with a byte above 127 */
+    QDESK_WORD_NOT_ASCII = 16,  /* token of kind BareWord with a byte above 127 */
+    QDESK_BOOK_COMMAND = 18,    /* book command wrong or cut short, a job's length past the book's end among them (place: its offset), or
+                                   book above 65,536 bytes (place: 65536) */
+    QDESK_TOO_MANY_JOBS = 19    /* a 257th job (place: its command's offset) */
 };
 
-/* The name of an answer's number, as "QDESK_SPAN_OUTSIDE" for 10; null for a number that no call answers. */
+/* The name of a number, as "QDESK_SPAN_OUTSIDE" for 10; null for one that has no name above. */
 static inline const char *qdesk_number_name(uint64_t number)
 {
 #define QDESK_NAME(name) \
@@ -108,17 +123,15 @@ static inline const char *qdesk_number_name(uint64_t number)
         QDESK_NAME(QDESK_SPACE_TOO_SHORT);
         QDESK_NAME(QDESK_SPAN_INSIDE_CHARACTER);
         QDESK_NAME(QDESK_WORD_NOT_ASCII);
+        QDESK_NAME(QDESK_BOOK_COMMAND);
+        QDESK_NAME(QDESK_TOO_MANY_JOBS);
     default:
         return NULL;
     }
 #undef QDESK_NAME
 }
 
-/* The length of the layout, or a refusal other than 13. */
-struct qdesk_answer qdesk_measure(const uint8_t *text, size_t text_len, const uint8_t *tape, size_t tape_len, uint64_t width,
-                                  uint64_t case_byte);
-
-/* The same, and the layout in `out`; or a refusal. */
+/* The layout in `out`, and its length; or a refusal, of which 13 gives the length that is needed. */
 struct qdesk_answer qdesk_layout(const uint8_t *text, size_t text_len, const uint8_t *tape, size_t tape_len, uint64_t width,
                                  uint64_t case_byte, uint8_t *out, size_t out_len);
 
@@ -135,6 +148,36 @@ enum qdesk_sort {
  * length 0 it may be null.
  */
 struct qdesk_answer qdesk_word(const uint8_t *word, size_t word_len);
+
+/* What a report adds up. */
+struct qdesk_tally {
+    uint64_t jobs;    /* all jobs */
+    uint64_t refused; /* the jobs that are refused */
+    uint64_t bytes;   /* the bytes of all layouts */
+    uint64_t lines;   /* the newlines of all layouts */
+};
+
+/*
+ * The report over a book of saved queries. A book is command 20 (hexadecimal), a length in 4 bytes, low byte first, and a job of that length,
+ * over and over; a job is what the desk's program reads: 10 and the width (1 byte), 11 and the case (1 byte), 12 and the text's length (4
+ * bytes, low byte first), the text, and the tape to its end.
+ *
+ *   more     not 0: the book goes on after these bytes, so that it is too long
+ *   tally    set to zeros, whatever it held, and raised for each job; a refused book leaves it as it was
+ *   work     QDESK_WORK bytes, in which each job is laid out, an accepted one over the front of the one before it
+ *   out      gets the report, as far as there is room: QDESK_MOST_REPORT bytes are enough. Later bytes stay as they were
+ *
+ * The answer is how many bytes are put into `out`. Each line ends in a newline: for job N from 1 `N bytes B lines L` or `N refused R at P`, as the
+ * desk's program answers it (14 for a header that is not whole, 13 for a layout above 65,536 bytes); then
+ * `total jobs J refused K bytes S lines T`, the tally's numbers. A book that is refused has the one line `refused N at P`, N 18 or 19: first
+ * its length is tried, then its commands from the start, before any job is answered; the first faulty one decides, and there 18 comes
+ * before 19. Such a line begins with `r`, a report with a digit or `t`.
+ *
+ * The caller answers for the pointers as above: `book` and `out` are valid for their lengths, `tally` and `work` for what is said here, and
+ * none of the last three overlaps another or the book.
+ */
+size_t qdesk_report(const uint8_t *book, size_t book_len, uint64_t more, struct qdesk_tally *tally, uint8_t *work, uint8_t *out,
+                    size_t out_len);
 
 #ifdef __cplusplus
 }

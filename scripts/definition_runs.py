@@ -53,9 +53,9 @@ class Call:
     def __init__(self, line):
         fields = line.rstrip("\n").split("\t")
         self.name, self.width, self.case = fields[:3]
-        self.text, self.tape, self.space, self.after = (bytes.fromhex(fields[i]) for i in (3, 4, 5, 8))
-        self.measured, self.laid_out = fields[6].split(), fields[7].split()
-        self.arms = frozenset(arm for arm in fields[9].split(";") if arm)
+        self.text, self.tape, self.space, self.after = (bytes.fromhex(fields[i]) for i in (3, 4, 5, 7))
+        self.laid_out = fields[6].split()
+        self.arms = frozenset(arm for arm in fields[8].split(";") if arm)
         self.bytes = len(self.tape) + len(self.text) + len(self.after)
 
 
@@ -132,7 +132,7 @@ use mathlib.Core.List.{List, [], _∷_, _++_}
 use lib.Dec.{T, eqb}
 USES
 use Rattle.layout.specs.declared.Answer.{Answer}
-use Rattle.layout.specs.Outcome.{Outcome, Result}
+use Rattle.layout.specs.Outcome.{Result}
 use Rattle.layout.specs.CourseSheet.{lowBytes}
 
 abbrev is : Answer → ℕ → ℕ → Bool
@@ -141,12 +141,9 @@ is a number value = eqb (a .number) number && eqb (a .value) value
 abbrev wrote : Result → ℕ → ℕ → List ℕ → Bool
 wrote r number value after = is (r .answer) number value && same (r .space) after
 
-abbrev both : Outcome → List ℕ → ℕ → ℕ → ℕ → ℕ → List ℕ → Bool
-both o space m length n value after = is (measured o) m length && wrote (laidOut o space) n value after
-
--- both calls of this width, case, text, tape and space: the numbers that measuring and laying out answer, and the space afterwards
-abbrev call : ℕ → ℕ → List ℕ → List ℕ → List ℕ → ℕ → ℕ → ℕ → ℕ → List ℕ → Bool
-call width case text tape = both (outcome original width case text tape)
+-- the call of this width, case, text, tape and space: the numbers that it answers, and the space afterwards
+abbrev call : ℕ → ℕ → List ℕ → List ℕ → List ℕ → ℕ → ℕ → List ℕ → Bool
+call width case text tape space = wrote (laidOut (outcome original width case text tape) space)
 
 abbrev every : List Bool → Bool
 every [] = true
@@ -171,7 +168,7 @@ def claim(calls):
 
 
 def row(call):
-    numbers = " ".join(call.measured + call.laid_out)
+    numbers = " ".join(call.laid_out)
     parts = (call.text, call.tape, call.space)
     return f"call {call.width} {call.case} {' '.join(map(literal, parts))} {numbers} {literal(call.after)}"
 

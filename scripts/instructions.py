@@ -1,6 +1,6 @@
 #!/usr/bin/env python3
-"""Counts instructions by callgrind: what a token costs the port's check, the walk of measuring and the walks of laying out, and the source's
-`format` on a ready tree.
+"""Counts instructions by callgrind: what a token costs the port's call with no output space and its walk, the call with enough space and its
+walks, and the source's `format` on a ready tree.
 
     scripts/instructions.py [--seed SEED] [CORPUS...]    the corpora of `cargo run --release --bin format -- --list`, or all
 
@@ -18,8 +18,7 @@ import tempfile
 ROOT = pathlib.Path(__file__).resolve().parent.parent
 PROGRAM = ROOT / "rust/target/release/format"
 
-# The ends of the names of the library's functions: with the name of its crate before them, or without.
-CHECK = "check::check_call"
+# The end of the name of the library's function: with the name of its crate before it, or without.
 WALK = "format::node"
 
 
@@ -78,16 +77,15 @@ def profile(corpus, seed, side, function):
 
 def print_row(corpus, seed):
     layout = profile(corpus, seed, "layout", "qdesk_layout")
-    measure = profile(corpus, seed, "measure", "qdesk_measure")
+    no_space = profile(corpus, seed, "no-space", "qdesk_layout")
     source = profile(corpus, seed, "ready-tree", "bench::rounds::ready_tree")
-    check = layout.instructions_in(CHECK)
-    measuring = measure.instructions_in(WALK)
+    walk, whole_no_space = no_space.instructions_in(WALK), no_space.a_token()[0]
     # One walk where the layout fits the space on the stack (4,096 bytes, or 16,384 for tapes above 8,206), else two.
     walks = layout.instructions_in(WALK)
     whole, mispredicted = layout.a_token()
     source_whole, source_mispredicted = source.a_token()
     print(
-        f"{corpus:<14} {check:>7.0f} {measuring:>9.0f} {walks:>8.0f} {whole:>8.0f} {source_whole:>8.0f}"
+        f"{corpus:<14} {walk:>8.0f} {whole_no_space:>8.0f} {walks:>8.0f} {whole:>8.0f} {source_whole:>8.0f}"
         f" | {mispredicted:>6.1f} {source_mispredicted:>6.1f}",
         flush=True,
     )
@@ -106,7 +104,8 @@ def main():
     if unknown:
         parser.error(f"no corpus {', '.join(sorted(unknown))}: there are {', '.join(known)}")
     print(f"{'':<14} {'instructions a token':^44} | {'mispredicted':^13}")
-    print(f"{'corpus':<14} {'check':>7} {'measuring':>9} {'walks':>8} {'layout':>8} {'source':>8} | {'layout':>6} {'source':>6}")
+    print(f"{'':<14} {'in no space':^17} {'in enough':^17} {'':>8} |")
+    print(f"{'corpus':<14} {'walk':>8} {'all':>8} {'walks':>8} {'all':>8} {'source':>8} | {'layout':>6} {'source':>6}")
     for corpus in asked.corpora or known:
         print_row(corpus, asked.seed)
 

@@ -23,13 +23,14 @@ def unshifted(word):
 
 
 def shifts(words):
-    """Hash and displace: each bucket, the largest first, gets the least shift that leads to keys which are still free."""
-    buckets = {}
+    """Hash and displace: each bucket, the largest first, gets the least shift that leads to keys which are still free. None is 0, the answer of a
+    `match` for what it does not name: with an arm for each bucket the compiler tests no bound."""
+    buckets = {b: [] for b in range(64)}
     for word in words:
-        buckets.setdefault(bucket(word), []).append(word)
+        buckets[bucket(word)].append(word)
     taken, found = set(), {}
     for b in sorted(buckets, key=lambda b: (-len(buckets[b]), b)):
-        for shift in range(256):
+        for shift in range(1, 256):
             keys = {(unshifted(word) + shift) % 256 for word in buckets[b]}
             if len(keys) == len(buckets[b]) and not keys & taken:
                 found[b] = shift
@@ -84,8 +85,8 @@ def proof(function, argument, uses, unfolding, table, arms, answer):
         f"use Rattle.keywords.proofs.index.{function}.Tie as tie",
     ]
     value = f"(λ (k : ℕ). match k {table} 0)"
-    for i, ((key, number), need) in enumerate(zip(arms, needs), start=1):
-        arm = f"arm-is {value} {number} ({key} ∷ []) (c .before .args .{argument}) refl (c .match .keys{i})"
+    for i, ((key, _), need) in enumerate(zip(arms, needs), start=1):
+        arm = f"arm-is {value} _ ({key} ∷ []) (c .before .args .{argument}) refl (c .match .keys{i})"
         lines += ["", f"{need} : tie.Need-{need}", f"unfolding {unfolding}", f"{need} c = {answer(arm)}"]
     keys = listed(key for key, _ in reversed(arms))
     rest = f"other-is (map (λ k. k ∷ []) ({keys})) (c .before .args .{argument}) (c .match .rest) {table} 0 refl"
@@ -101,7 +102,7 @@ def main():
     table = re.search(r'KEYWORDS: .*?b"(.*?)"', (CRATE / "src" / "table.rt").read_text(), re.S).group(1)
     words = re.findall(r"\\x[0-9a-f]{2}([A-Z]+)", table)
     shift = shifts(words)
-    shift_arms = sorted((b, s) for b, s in shift.items() if s)
+    shift_arms = sorted(shift.items())
     number_arms = list(numbers(words, shift))
     rewrite(
         CRATE / "src" / "index.rt",

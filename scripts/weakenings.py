@@ -19,14 +19,6 @@ LENGTH = ("qdesk/src/lib.rt", "ghost use mathlib.Core.Path.{_≡_};\n", "ghost u
 
 # What is weakened, and the edits that do it: a file, the text that stands there once, and what stands there instead.
 WEAKENINGS = {
-    "measuring from C promises nothing": [
-        (
-            "qdesk/src/lib.rt",
-            'pub extern "C" fn qdesk_measure(text: &[u8], tape: &[u8], width: u64, case: u64) -> Answer\n'
-            "    ensures { λ r. ⌜ r ≡ measured (outcome original width case (now (text .entry)) (now (tape .entry))) ⌝ }\n",
-            'pub extern "C" fn qdesk_measure(text: &[u8], tape: &[u8], width: u64, case: u64) -> Answer\n',
-        )
-    ],
     "laying out from C asks for an empty text": [
         (
             "qdesk/src/lib.rt",
@@ -46,25 +38,26 @@ WEAKENINGS = {
         ),
         LENGTH,
     ],
-    "measuring both texts asks for a narrow indent": [
+    "one text in two spaces asks for a narrow indent": [
         (
             "two_calls/src/lib.rt",
-            "    ensures { λ r. ⌜ MeasuresBoth",
-            "    requires { ⌜ width ≡ 0 ⌝ }\n    ensures { λ r. ⌜ MeasuresBoth",
+            "    ensures { λ r. ⌜ LaysOutTwice",
+            "    requires { ⌜ width ≡ 0 ⌝ }\n    ensures { λ r. ⌜ LaysOutTwice",
         ),
         ("two_calls/src/lib.rt", "ghost use Rattle.two_calls", "ghost use mathlib.Core.Path.{_≡_};\nghost use Rattle.two_calls"),
     ],
-    "measuring both texts says nothing of the second": [
-        (BOTH, "  pub second : r .second ≡ measured (outcome original width case b tape)\n", ""),
-        (BOTH_PROOF, "record { first = p; second = q; masked = λ m.", "record { first = p; masked = λ m."),
+    "one text in two spaces says nothing of the second": [
+        (BOTH, "  pub second : _≡_ {A = Result} (record { answer = r .second; space = zs }) (laidOut (outcome original width case text tape) us)\n", ""),
+        (BOTH_PROOF, "        second = q;\n        oneValue", "        oneValue"),
     ],
-    "measuring both texts says nothing of masked ones": [
-        (BOTH, "  pub masked : MaskedPairForLayout width case a b tape → r .first ≡ r .second\n", ""),
-        (
-            BOTH_PROOF,
-            "record { first = p; second = q; masked = λ m. p ∙ masking-original width case a b tape m [] .measures ∙ sym q }",
-            "record { first = p; second = q }",
-        ),
+    "one text in two spaces says nothing of the length": [
+        (BOTH, "  pub oneValue : r .first .value ≡ r .second .value\n", ""),
+        (BOTH_PROOF, "        oneValue = value p ∙ one-value (outcome original width case text tape) xs us ∙ sym (value q);\n", ""),
+    ],
+    "laying out both texts says nothing of a space of no bytes": [
+        (BOTH, LAYOUT_MASKED, "  pub masked : MaskedPairForLayout width case a b tape → (length xs ≡ 0 → ⊥) → xs ≡ us\n"),
+        (BOTH, "use Prim.Native.Nat.{ℕ}\n", "use Prim.Native.Nat.{ℕ}\nuse lib.ListN.{length}\n"),
+        (BOTH_PROOF, LAYOUT_PROOF, LAYOUT_PROOF.replace("λ m e.", "λ m z e.")),
     ],
     "laying out both texts speaks of an empty space alone": [
         (BOTH, LAYOUT_MASKED, "  pub masked : MaskedPairForLayout width case a b tape → length xs ≡ 0 → xs ≡ us\n"),

@@ -1,6 +1,6 @@
 /*
- * Lays out `select a,b from t` from a tape that is spelt by hand, and shows two refusals. Good C and good C++: scripts/c_example.sh
- * compiles it as both and holds what it prints to layout.out.
+ * Measures and lays out `select a,b from t` from a tape that is spelt by hand, and shows two refusals. Good C and good C++:
+ * scripts/c_example.sh compiles it as both and holds what it prints to layout.out.
  */
 #include "qdesk.h"
 #include "qdesk_kinds.h"
@@ -75,13 +75,7 @@ static void put_query(struct tape *tape)
     put_close(tape);
 }
 
-/* Measures at width 4, keywords in capitals. */
-static struct qdesk_answer measure(const char *query, const struct tape *tape)
-{
-    return qdesk_measure((const uint8_t *)query, strlen(query), tape->bytes, tape->length, 4, 1);
-}
-
-/* Lays out with the same settings. */
+/* Lays out at width 4, keywords in capitals. */
 static struct qdesk_answer lay_out(const char *query, const struct tape *tape, uint8_t *out, size_t out_len)
 {
     return qdesk_layout((const uint8_t *)query, strlen(query), tape->bytes, tape->length, 4, 1, out, out_len);
@@ -98,22 +92,21 @@ static void print_answer(const char *call, struct qdesk_answer answer)
     }
 }
 
-/* Measures, lends as much space as is needed, and lays out. */
+/* Measures, which is to lay out in no space, then lends as much space as is needed. */
 static void print_layout(const char *query, const struct tape *tape)
 {
-    struct qdesk_answer answer = measure(query, tape);
-    print_answer("measuring", answer);
-    if (answer.number != QDESK_ACCEPTED) {
-        return;
+    struct qdesk_answer answer = lay_out(query, tape, NULL, 0);
+    print_answer("in no space", answer);
+    if (answer.number != QDESK_SPACE_TOO_SHORT) {
+        return; /* another refusal; or an empty layout, which is done */
     }
-    /* An empty layout needs no space: malloc may then return null, and `out` may be null. */
     uint8_t *out = (uint8_t *)malloc(answer.value);
-    if (out == NULL && answer.value > 0) {
+    if (out == NULL) {
         fputs("layout: no memory\n", stderr);
         exit(1);
     }
     answer = lay_out(query, tape, out, answer.value);
-    print_answer("laying out", answer);
+    print_answer("in as many bytes", answer);
     putchar('\n');
     fwrite(out, 1, answer.value, stdout);
     putchar('\n');
@@ -131,7 +124,7 @@ int main(void)
 
     print_answer("in 26 bytes", lay_out(query, &tape, short_space, sizeof short_space));
     tape.length -= 1;
-    print_answer("without the root's close", measure(query, &tape));
+    print_answer("without the root's close", lay_out(query, &tape, NULL, 0));
     if (fflush(stdout) != 0 || ferror(stdout)) {
         perror("layout");
         return 1;

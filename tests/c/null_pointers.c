@@ -72,13 +72,12 @@ static void expect(const struct call *call, const char *what, struct qdesk_answe
     }
 }
 
-/* Both calls with these pointers: with an output space that is as long as the layout, and with one of no bytes at `no_out`. */
+/* The call with these pointers: with an output space that is as long as the layout, and with one of no bytes at `no_out`. */
 static void try_pointers(const struct call *call, const uint8_t *text, const uint8_t *tape, uint8_t *no_out)
 {
     const size_t text_len = strlen(call->text), tape_len = call->tape_len, layout_len = strlen(call->layout);
     struct qdesk_answer expected = call->answer;
     uint8_t out[16];
-    expect(call, "measured", qdesk_measure(text, text_len, tape, tape_len, call->width, 1), expected);
 
     memset(out, 255, sizeof out);
     expect(call, "laid out", qdesk_layout(text, text_len, tape, tape_len, call->width, 1, out, layout_len), expected);

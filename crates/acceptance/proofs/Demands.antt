@@ -1,7 +1,7 @@
 -- From what the calls promise to the demands.
-use mathlib.Core.Path.{_≡_, sym, ap, subst, subst₂, _∙_}
+use mathlib.Core.Path.{_≡_, refl, sym, ap, subst, subst₂, _∙_}
 use mathlib.Core.Bool.{Bool, true, false}
-use mathlib.Core.List.{List, _++_}
+use mathlib.Core.List.{List, [], _∷_, _++_}
 use Prim.Native.Nat.{ℕ, _≤_, _<_}
 use native.Mathlib.Omega.{arith}
 use lib.ListN.{length, getD, drop, length-map, List·getD-map}
@@ -16,30 +16,28 @@ use Rattle.tape.specs.Tape.{Read, refused, got}
 use Rattle.tape.specs.Call.{readCall}
 use Rattle.layout.specs.declared.Answer.{Answer}
 use Rattle.layout.specs.Layout.{original, format}
-use Rattle.layout.specs.Outcome.{Outcome, refusal, laid, ofRead, configOf, outcome, Result, fitted, measured, laidOut}
+use Rattle.layout.specs.Outcome.{Outcome, refusal, laid, ofRead, configOf, outcome, Result, fitted, laidOut}
 use Rattle.layout.specs.Masking.{MaskedPair, MaskedPairForLayout, SameLines, cellsAfter}
 use Rattle.layout.proofs.AsciiPairs.{ascii-pair}
 use Rattle.layout.proofs.TwoCalls.{pair-for-layout, demand-3, cells-after}
 use Rattle.layout.proofs.Origins.{origins-after, comes-from}
 use Rattle.two_calls.specs.declared.Answers.{Answers}
-use Rattle.two_calls.specs.Both.{MeasuresBoth, LaysOutBoth}
-use Rattle.acceptance.specs.declared.Calls.{Calls}
-use Rattle.acceptance.specs.declared.CallsOnTwoTexts.{CallsOnTwoTexts}
+use Rattle.two_calls.specs.Both.{LaysOutBoth}
 use Rattle.acceptance.specs.Demands.{formatted, Demand1, Demand2, AlikeWhere, Demand3}
 
 -- ── demands 1 and 2
 
-module _ (width case : ℕ) (text tape before : List ℕ) (r : Calls) (after : List ℕ) (m : r .measured ≡ measured (outcome original width case text tape)) (l : _≡_ {A = Result} (record { answer = r .«laid_out»; space = after }) (laidOut (outcome original width case text tape) before)) where
+module _ (width case : ℕ) (text tape before : List ℕ) (r : Answer) (after : List ℕ) (l : _≡_ {A = Result} (record { answer = r; space = after }) (laidOut (outcome original width case text tape) before)) where
   was-refused : (f : Fault) (p : ℕ) → readCall width case text tape ≡ refused f p → outcome original width case text tape ≡ refusal f p
   unfolding outcome
   was-refused f p e = ap (λ (x : Read Tree). ofRead x (format original (configOf width case) text)) e
 
-  was-laid : (t : Tree) (p : ℕ) → readCall width case text tape ≡ got t p → outcome original width case text tape ≡ laid (format original (configOf width case) text t)
+  pub was-laid : (t : Tree) (p : ℕ) → readCall width case text tape ≡ got t p → outcome original width case text tape ≡ laid (format original (configOf width case) text t)
   unfolding outcome
   was-laid t p e = ap (λ (x : Read Tree). ofRead x (format original (configOf width case) text)) e
 
   -- the answer and the space, where the outcome is known
-  laid-answer : {x : Outcome} → outcome original width case text tape ≡ x → r .«laid_out» ≡ (laidOut x before) .answer
+  pub laid-answer : {x : Outcome} → outcome original width case text tape ≡ x → r ≡ (laidOut x before) .answer
   laid-answer e = ap (λ (z : Result). z .answer) l ∙ ap (λ (z : Outcome). (laidOut z before) .answer) e
 
   laid-space : {x : Outcome} → outcome original width case text tape ≡ x → after ≡ (laidOut x before) .space
@@ -50,22 +48,22 @@ module _ (width case : ℕ) (text tape before : List ℕ) (r : Calls) (after : L
     abbrev cells : List Cell
     cells = format original (configOf width case) text t
 
-    as-long : length (formatted width case text tape before r after t) ≡ length cells
+    pub as-long : length (formatted width case text t) ≡ length cells
     as-long = length-map cells (λ (c : Cell). c .byte)
 
-    fits : length (formatted width case text tape before r after t) ≤ length before → laidOut (laid cells) before ≡ fitted true cells before
+    fits : length (formatted width case text t) ≤ length before → laidOut (laid cells) before ≡ fitted true cells before
     unfolding laidOut
     fits h = ap (λ (b : Bool). fitted b cells before) (le-leb (length cells) (length before) (omega (arith, as-long)))
 
-    too-short : length before < length (formatted width case text tape before r after t) → laidOut (laid cells) before ≡ fitted false cells before
+    too-short : length before < length (formatted width case text t) → laidOut (laid cells) before ≡ fitted false cells before
     unfolding laidOut
     too-short h = ap (λ (b : Bool). fitted b cells before) (lt-leb (length cells) (length before) (omega (arith, as-long)))
 
   pub demand1 : Demand1 width case text tape before r after
-  unfolding measured laidOut
+  unfolding laidOut
   demand1 =
       record {
-        refuses = λ f p e. let o = was-refused f p e in (m ∙ ap measured o, laid-answer o, laid-space o);
+        refuses = λ f p e. let o = was-refused f p e in (laid-answer o, laid-space o);
         tooShort =
             λ t p e h.
             let o = was-laid t p e in (
@@ -73,25 +71,20 @@ module _ (width case : ℕ) (text tape before : List ℕ) (r : Calls) (after : L
               laid-space o ∙ ap (λ (z : Result). z .space) (too-short t h),
             );
         accepts =
-            λ t p e.
-            let o = was-laid t p e in (
-              ap (λ (z : Answer). z .number) (m ∙ ap measured o),
-              λ h. ap (λ (z : Answer). z .number) (laid-answer o ∙ ap (λ (z : Result). z .answer) (fits t h)),
-            );
+            λ t p e h.
+            ap (λ (z : Answer). z .number) (laid-answer (was-laid t p e) ∙ ap (λ (z : Result). z .answer) (fits t h));
       }
 
   pub demand2 : Demand2 width case text tape before r after
-  unfolding measured
   demand2 =
       record {
-        measures = λ t p e. m ∙ ap measured (was-laid t p e) ∙ ap (λ (n : ℕ). record { number = 0; value = n }) (sym (as-long t));
         writes =
             λ t p e h.
             let o = was-laid t p e in (
               laid-answer o ∙ ap (λ (z : Result). z .answer) (fits t h) ∙ ap (λ (n : ℕ). record { number = 0; value = n }) (sym (as-long t)),
               laid-space o
                   ∙ ap (λ (z : Result). z .space) (fits t h)
-                  ∙ ap (λ (n : ℕ). formatted width case text tape before r after t ++ drop n before) (sym (as-long t)),
+                  ∙ ap (λ (n : ℕ). formatted width case text t ++ drop n before) (sym (as-long t)),
             );
       }
 
@@ -101,15 +94,18 @@ module _ (width case : ℕ) (text tape before : List ℕ) (r : Calls) (after : L
 byte-at : (cs : List Cell) (ys : List ℕ) → ys ≡ bytesOf cs → (i : ℕ) → getD ys i 0 ≡ (getD cs i (fresh 0)) .byte
 byte-at cs ys e i = ap (λ (z : List ℕ). getD z i 0) e ∙ List·getD-map (λ (c : Cell). c .byte) cs i (fresh 0)
 
-module _ (width case : ℕ) (a b : Text) (tape beforeA beforeB : List ℕ) (m l : Answers) (afterA afterB : List ℕ) (measures : MeasuresBoth a b tape width case m) (laysOut : LaysOutBoth a b tape width case beforeA beforeB l afterA afterB) where
+-- two spaces of 0 bytes are the same
+both-empty : (xs ys : List ℕ) → length xs ≡ 0 → length ys ≡ 0 → xs ≡ ys
+both-empty [] [] m n = refl
+both-empty [] (y ∷ ys) m n = absurd (omega (arith, n))
+both-empty (x ∷ xs) ys m n = absurd (omega (arith, m))
+
+module _ (width case : ℕ) (a b : Text) (tape beforeA beforeB : List ℕ) (r : Answers) (afterA afterB : List ℕ) (laysOut : LaysOutBoth a b tape width case beforeA beforeB r afterA afterB) where
   abbrev x : Outcome
   x = outcome original width case a tape
 
   abbrev y : Outcome
   y = outcome original width case b tape
-
-  abbrev r : CallsOnTwoTexts
-  r = record { «measured_a» = m .first; «measured_b» = m .second; «laid_out_a» = l .first; «laid_out_b» = l .second }
 
   space-a : afterA ≡ bytesOf (cellsAfter x beforeA)
   space-a = ap (λ (z : Result). z .space) (laysOut .first) ∙ sym (cells-after x beforeA)
@@ -126,7 +122,7 @@ module _ (width case : ℕ) (a b : Text) (tape beforeA beforeB : List ℕ) (m l 
     alike-where : AlikeWhere width case a b tape beforeA beforeB r afterA afterB Allowed
     alike-where =
         record {
-          measures = λ k. measures .masked (weaken k);
+          measures = λ k m n. laysOut .masked (weaken k) (both-empty beforeA beforeB m n) .0;
           laysOut = λ k e. laysOut .masked (weaken k) e .0;
           samePlace = λ k e i. cells-alike k e i .origins;
           alike =
@@ -143,7 +139,7 @@ module _ (width case : ℕ) (a b : Text) (tape beforeA beforeB : List ℕ) (m l 
   pub demand3 : Demand3 width case a b tape beforeA beforeB r afterA afterB
   demand3 =
       record {
-        calls = record { measuredA = measures .first; measuredB = measures .second; laidOutA = laysOut .first; laidOutB = laysOut .second };
+        calls = record { callA = laysOut .first; callB = laysOut .second };
         alike = alike-where (pair-for-layout width case a b tape);
         lines = same-lines;
         copied =

@@ -1,4 +1,5 @@
--- The demands of document 00, in its words, as promises about calls; demand 3 as request E1 of document 02 words it. Read with layout/specs/Outcome
+-- The demands of document 00, in its words, as promises about calls; demand 3 as request E1 of document 02 words it. Where they speak of measuring, the
+-- call with an output space of 0 bytes is meant (request E5). Read with layout/specs/Outcome
 -- and Layout for what a layout is, tape/specs/Call and Tape for the refusals, utf8/specs/Table for well-formed text, and layout/specs/Masking for what
 -- demand 3 asks of two texts.
 use mathlib.Core.Path.{_≡_}
@@ -14,54 +15,50 @@ use Rattle.tape.specs.Tree.{Tree}
 use Rattle.tape.specs.Tape.{refused, got}
 use Rattle.tape.specs.Call.{readCall}
 use Rattle.layout.specs.Layout.{original, format}
-use Rattle.layout.specs.Outcome.{Result, answer, configOf, laidOut, measured, outcome}
+use Rattle.layout.specs.declared.Answer.{Answer}
+use Rattle.layout.specs.Outcome.{Result, answer, configOf, laidOut, outcome}
 use Rattle.layout.specs.Masking.{MaskedPair, AsciiPair, MaskedPairForLayout, SameLines, cellsAfter}
-use Rattle.acceptance.specs.declared.Calls.{Calls}
-use Rattle.acceptance.specs.declared.CallsOnTwoTexts.{CallsOnTwoTexts}
+use Rattle.two_calls.specs.declared.Answers.{Answers}
 
--- one call of each sort on a text and a tape, with a width and a case; the output space holds `before` and then `after`
-module _ (width case : ℕ) (text tape before : List ℕ) (r : Calls) (after : List ℕ) where
-  -- what `format` returns for the tree
-  abbrev pub formatted : Tree → List ℕ
-  formatted t = bytesOf (format original (configOf width case) text t)
+-- what `format` returns for the tree
+abbrev pub formatted : ℕ → ℕ → Text → Tree → List ℕ
+formatted width case text t = bytesOf (format original (configOf width case) text t)
 
+-- a call on a text and a tape, with a width and a case; the output space holds `before` and then `after`
+module _ (width case : ℕ) (text tape before : List ℕ) (r : Answer) (after : List ℕ) where
   -- "If the text, tree, settings or output space are bad in any way, the call refuses with the number and place that document 01 names,
   -- writes nothing, and still ends; it refuses nothing else, and the caller owes no check beforehand."
   pub record Demand1 : Type 0 where
     -- 1 to 12, 15 and 16
-    pub refuses : (f : Fault) (p : ℕ) → readCall width case text tape ≡ refused f p
-        → (r .measured ≡ answer (number f) p) × (r .«laid_out» ≡ answer (number f) p) × (after ≡ before)
+    pub refuses : (f : Fault) (p : ℕ) → readCall width case text tape ≡ refused f p → (r ≡ answer (number f) p) × (after ≡ before)
     -- 13
-    pub tooShort : (t : Tree) (p : ℕ) → readCall width case text tape ≡ got t p → length before < length (formatted t)
-        → (r .«laid_out» ≡ answer 13 (length (formatted t))) × (after ≡ before)
+    pub tooShort : (t : Tree) (p : ℕ) → readCall width case text tape ≡ got t p → length before < length (formatted width case text t)
+        → (r ≡ answer 13 (length (formatted width case text t))) × (after ≡ before)
     -- nothing else
-    pub accepts : (t : Tree) (p : ℕ) → readCall width case text tape ≡ got t p
-        → (r .measured .number ≡ 0) × (length (formatted t) ≤ length before → r .«laid_out» .number ≡ 0)
+    pub accepts : (t : Tree) (p : ℕ) → readCall width case text tape ≡ got t p → length (formatted width case text t) ≤ length before → r .number ≡ 0
 
   -- "For every accepted input the bytes written equal what the Rust `format` returns, by proof against a definition taken from that code"
   pub record Demand2 : Type 0 where
-    pub measures : (t : Tree) (p : ℕ) → readCall width case text tape ≡ got t p → r .measured ≡ answer 0 (length (formatted t))
-    pub writes : (t : Tree) (p : ℕ) → readCall width case text tape ≡ got t p → length (formatted t) ≤ length before
-        → (r .«laid_out» ≡ answer 0 (length (formatted t))) × (after ≡ formatted t ++ drop (length (formatted t)) before)
+    pub writes : (t : Tree) (p : ℕ) → readCall width case text tape ≡ got t p → length (formatted width case text t) ≤ length before
+        → (r ≡ answer 0 (length (formatted width case text t)))
+        × (after ≡ formatted width case text t ++ drop (length (formatted width case text t)) before)
 
--- both sorts of call on two texts, with the same tree and settings; the output spaces hold beforeA and beforeB, and then afterA and afterB
-module _ (width case : ℕ) (a b : Text) (tape beforeA beforeB : List ℕ) (r : CallsOnTwoTexts) (afterA afterB : List ℕ) where
+-- a call on each of two texts, with the same tree and settings; the output spaces hold beforeA and beforeB, and then afterA and afterB
+module _ (width case : ℕ) (a b : Text) (tape beforeA beforeB : List ℕ) (r : Answers) (afterA afterB : List ℕ) where
   -- where the byte at i of the output space comes from
   abbrev pub originAt : Text → List ℕ → ℕ → Origin
   originAt text before i = (getD (cellsAfter (outcome original width case text tape) before) i (fresh 0)) .origin
 
   -- each call is the one that demands 1 and 2 speak of
   pub record EachCall : Type 0 where
-    pub measuredA : r .«measured_a» ≡ measured (outcome original width case a tape)
-    pub measuredB : r .«measured_b» ≡ measured (outcome original width case b tape)
-    pub laidOutA : _≡_ {A = Result} (record { answer = r .«laid_out_a»; space = afterA }) (laidOut (outcome original width case a tape) beforeA)
-    pub laidOutB : _≡_ {A = Result} (record { answer = r .«laid_out_b»; space = afterB }) (laidOut (outcome original width case b tape) beforeB)
+    pub callA : _≡_ {A = Result} (record { answer = r .first; space = afterA }) (laidOut (outcome original width case a tape) beforeA)
+    pub callB : _≡_ {A = Result} (record { answer = r .second; space = afterB }) (laidOut (outcome original width case b tape) beforeB)
 
   -- what follows where the texts differ only as a rule allows
   pub record AlikeWhere (Allowed : Type 0) : Type 0 where
     -- "Then measuring gives both texts the same answer, and so does layout, refused or not, the needed length included."
-    pub measures : Allowed → r .«measured_a» ≡ r .«measured_b»
-    pub laysOut : Allowed → beforeA ≡ beforeB → r .«laid_out_a» ≡ r .«laid_out_b»
+    pub measures : Allowed → length beforeA ≡ 0 → length beforeB ≡ 0 → r .first ≡ r .second
+    pub laysOut : Allowed → beforeA ≡ beforeB → r .first ≡ r .second
     -- "Afterwards the output spaces are alike at every byte but those copied from a masked place, and such a byte is copied from the same
     -- place in both."
     pub samePlace : Allowed → beforeA ≡ beforeB → (i : ℕ) → originAt a beforeA i ≡ originAt b beforeB i

@@ -5,67 +5,44 @@ use book::Tally;
 use book::report_from;
 use desk_job::print_job;
 use formatter::layout;
-use formatter::measure;
+use keywords::Place;
 use keywords::Word;
 use keywords::is_word;
+use keywords::walk;
 use keywords::word_of;
 use layout::Answer;
 use qdesk::qdesk_layout;
-use qdesk::qdesk_measure;
 use qdesk::qdesk_report;
 use qdesk::qdesk_word;
+use two_calls::Answers;
 use two_calls::layout_both;
-use two_calls::measure_both;
+use two_calls::layout_twice;
 ghost use mathlib.Core.Path.{_≡_};
 ghost use lib.Dec.{ltb};
 ghost use lib.ListN.{length};
 ghost use Rattle.keywords.specs.Words.{capitals, same, wordOf};
 ghost use Rattle.layout.specs.Layout.{original};
-ghost use Rattle.layout.specs.Outcome.{Result, laidOut, measured, outcome};
+ghost use Rattle.layout.specs.Outcome.{Result, laidOut, outcome};
 ghost use Rattle.book.specs.Report.{Called, reported};
 ghost use Rattle.desk_job.specs.Job.{printed};
 ghost use Rattle.desk_job.specs.Written.{Written, written};
 ghost use Rattle.qdesk.specs.TallyNumbers.{tallyOf};
 ghost use Rattle.qdesk.specs.WordAnswer.{wordAnswer};
-ghost use Rattle.acceptance.specs.Requests.{SortOfWord, ReportOver};
+ghost use Rattle.acceptance.specs.Requests.{FirstEntry, OneCall, ReportOver, SortOfWord};
 ghost use Rattle.acceptance.specs.Demands.{Demand1, Demand2, Demand3};
 
-// What one call of each sort answers.
-pub struct Calls {
-    pub measured: Answer,
-    pub laid_out: Answer,
-}
-
-// The same for two texts.
-pub struct CallsOnTwoTexts {
-    pub measured_a: Answer,
-    pub measured_b: Answer,
-    pub laid_out_a: Answer,
-    pub laid_out_b: Answer,
-}
-
 // Demand 1: bad input is refused with its number and place, nothing is written, and nothing else is refused.
-pub fn demand_1(text: &[u8], tape: &[u8], width: u64, case: u64, out: &mut [u8]) -> Calls
+pub fn demand_1(text: &[u8], tape: &[u8], width: u64, case: u64, out: &mut [u8]) -> Answer
     ensures { λ r. ⌜ Demand1 width case (now (text .entry)) (now (tape .entry)) (now (out .entry)) r (now (out .exit)) ⌝ }
 {
-    let m = measure(text, tape, width, case);
-    let l = layout(text, tape, width, case, out);
-    Calls {
-        measured: m,
-        laid_out: l,
-    }
+    layout(text, tape, width, case, out)
 }
 
 // Demand 2: the bytes written are those of the definition that follows the source, and later bytes stay as they were.
-pub fn demand_2(text: &[u8], tape: &[u8], width: u64, case: u64, out: &mut [u8]) -> Calls
+pub fn demand_2(text: &[u8], tape: &[u8], width: u64, case: u64, out: &mut [u8]) -> Answer
     ensures { λ r. ⌜ Demand2 width case (now (text .entry)) (now (tape .entry)) (now (out .entry)) r (now (out .exit)) ⌝ }
 {
-    let m = measure(text, tape, width, case);
-    let l = layout(text, tape, width, case, out);
-    Calls {
-        measured: m,
-        laid_out: l,
-    }
+    layout(text, tape, width, case, out)
 }
 
 // Demand 3: a query whose quoted names are masked lays out line for line like the query it came from.
@@ -77,28 +54,10 @@ pub fn demand_3(
     case: u64,
     out_a: &mut [u8],
     out_b: &mut [u8],
-) -> CallsOnTwoTexts
+) -> Answers
     ensures { λ r. ⌜ Demand3 width case (now (a .entry)) (now (b .entry)) (now (tape .entry)) (now («out_a» .entry)) (now («out_b» .entry)) r (now («out_a» .exit)) (now («out_b» .exit)) ⌝ }
 {
-    let m = measure_both(a, b, tape, width, case);
-    let l = layout_both(a, b, tape, width, case, out_a, out_b);
-    let measured_a = m.first;
-    let measured_b = m.second;
-    let laid_out_a = l.first;
-    let laid_out_b = l.second;
-    CallsOnTwoTexts {
-        measured_a: measured_a,
-        measured_b: measured_b,
-        laid_out_a: laid_out_a,
-        laid_out_b: laid_out_b,
-    }
-}
-
-// The C interface: measuring.
-pub fn c_measure(text: &[u8], tape: &[u8], width: u64, case: u64) -> Answer
-    ensures { λ r. ⌜ r ≡ measured (outcome original width case (now (text .entry)) (now (tape .entry))) ⌝ }
-{
-    qdesk_measure(text, tape, width, case)
+    layout_both(a, b, tape, width, case, out_a, out_b)
 }
 
 // The C interface: laying out.
@@ -120,6 +79,27 @@ pub fn request_2(word: &[u8]) -> Word
     ensures { λ r. ⌜ SortOfWord (now (word .entry)) r ⌝ }
 {
     word_of(word)
+}
+
+// E4: the first entry of the list that is equal to a length and bytes, whatever they are, or none.
+pub fn request_4(length: usize, bytes: &[u8]) -> Place
+    ensures { λ r. ⌜ FirstEntry length (now (bytes .entry)) r ⌝ }
+{
+    walk(length, bytes)
+}
+
+// E5: one call for length and text, here in two spaces.
+pub fn request_5(
+    text: &[u8],
+    tape: &[u8],
+    width: u64,
+    case: u64,
+    out_a: &mut [u8],
+    out_b: &mut [u8],
+) -> Answers
+    ensures { λ r. ⌜ OneCall width case (now (text .entry)) (now (tape .entry)) (now («out_a» .entry)) (now («out_b» .entry)) r (now («out_a» .exit)) (now («out_b» .exit)) ⌝ }
+{
+    layout_twice(text, tape, width, case, out_a, out_b)
 }
 
 // A word in any case beside one in capitals.

@@ -1,4 +1,4 @@
--- From the walk to the two calls.
+-- From the walk to the call.
 use mathlib.Core.Bool.{Bool}
 use mathlib.Core.Path.{_≡_, refl, sym, ap, subst, _∙_}
 use mathlib.Core.List.{List, [], _∷_, _++_}
@@ -33,7 +33,7 @@ use Rattle.layout.specs.FormatNode.{formatNode}
 use Rattle.layout.specs.Calls.{calls}
 use Rattle.layout.specs.Layout.{original, piecesOf, format}
 use Rattle.layout.specs.Run.{run}
-use Rattle.layout.specs.Outcome.{Outcome, refusal, laid, ofRead, configOf, outcome, Result, fitted, measured, laidOut}
+use Rattle.layout.specs.Outcome.{Outcome, refusal, laid, ofRead, configOf, outcome, Result, fitted, laidOut}
 use Rattle.layout.specs.SpanStarts.{SpansStart}
 use Rattle.layout.proofs.EachCall.{each-call}
 use Rattle.layout.proofs.PieceStarts.{StartsAt, TokenStarts, spans-start}
@@ -41,7 +41,7 @@ use Rattle.layout.proofs.Running.{after, run-appends, kept, finish-none, finish
 use Rattle.formatter.specs.declared.Walk.{Walk}
 use Rattle.keywords.specs.Table.{table}
 use Rattle.formatter.specs.RoutinePromises.{NodeReady, NodeDone}
-use Rattle.formatter.specs.Entry.{Ready, allCells, Trims, WalkedInto, Fills, Measures, LaysOut}
+use Rattle.formatter.specs.Entry.{Ready, allCells, Trims, WalkedInto, Fills, LaysOut}
 
 -- ── lists
 
@@ -149,14 +149,6 @@ module _ (X : List Cell) (k : ℕ) (n : k ≡ kept X) where
   length-some : (k ≡ 0 → ⊥) → length (finish X) ≡ k + 1
   length-some z = finish-length X (λ e. z (n ∙ e)) ∙ ap (λ (m : ℕ). m + 1) (sym n)
 
-  pub measured-none : k ≡ 0 → record { number = 0; value = 0 } ≡ measured (laid (finish X))
-  unfolding measured
-  measured-none z = rw (finish-none X (sym n ∙ z))
-
-  pub measured-some : (k ≡ 0 → ⊥) → record { number = 0; value = k + 1 } ≡ measured (laid (finish X))
-  unfolding measured
-  measured-some z = rw (length-some z)
-
   pub laid-none : (xs : List ℕ) → k ≡ 0 → _≡_ {A = Result} (record { answer = record { number = 0; value = 0 }; space = xs }) (laidOut (laid (finish X)) xs)
   unfolding laidOut
   laid-none xs z = rw (finish-none X (sym n ∙ z), le-leb 0 (length xs) (omega arith))
@@ -176,7 +168,7 @@ module _ (X : List Cell) (k : ℕ) (n : k ≡ kept X) where
       (ap (λ (m : ℕ). record { answer = record { number = 0; value = m }; space = bytesOf (finish X) ++ drop (length (finish X)) xs }) (sym (length-some z))
       ∙ ap (λ (b : Bool). fitted b (finish X) xs) (sym (le-leb (length (finish X)) (length xs) (omega (arith, length-some z)))))
 
--- ── the whole calls
+-- ── the whole call
 
 module _ (width case : ℕ) (text tape : List ℕ) where
   refused-is : (f : Fault) (p : ℕ) → Refused f p ≡ verdict (readCall width case text tape) → outcome original width case text tape ≡ refusal f p
@@ -189,11 +181,6 @@ module _ (width case : ℕ) (text tape : List ℕ) where
           same : {f g : Fault} {p q : ℕ} → _≡_ {A = Checked} (Refused f p) (Refused g q) → refusal f p ≡ refusal g q
           same x = cc
       go (got t q) u = absurd (let z : _≡_ {A = ℕ} 0 1 = cc in omega arith)
-
-  pub refused-measure : {f : Fault} {n p : ℕ} → n ≡ number f → Refused f p ≡ verdict (readCall width case text tape)
-      → record { number = n; value = p } ≡ measured (outcome original width case text tape)
-  unfolding measured
-  refused-measure {f} {n} {p} k e = ap (λ (m : ℕ). record { number = m; value = p }) k ∙ sym (ap measured (refused-is f p e))
 
   pub refused-layout : {f : Fault} {n p : ℕ} (xs : List ℕ) → n ≡ number f → Refused f p ≡ verdict (readCall width case text tape)
       → _≡_ {A = Result} (record { answer = record { number = n; value = p }; space = xs }) (laidOut (outcome original width case text tape) xs)
@@ -219,11 +206,6 @@ module _ (width case : ℕ) (text tape : List ℕ) where
     accepted-is : outcome original width case text tape ≡ laid (format original (configOf width case) text (call .accepted .tree))
     unfolding outcome
     accepted-is = ap (λ (r : Read Tree). ofRead r (format original (configOf width case) text)) (call .read)
-
-    pub measures : {config : FormatConfig} {r : Answer} → config ≡ configOf width case → Measures text tape config r → r ≡ measured (outcome original width case text tape)
-    measures {config} {r} c m =
-        let u = subst (λ (z : FormatConfig). Measures text tape z r) c m in
-        u .all (call .accepted .tree) _ (call .accepted .read) ∙ ap measured (sym accepted-is)
 
     pub lays-out : {config : FormatConfig} {r : Answer} {xs ys : List ℕ} → config ≡ configOf width case → LaysOut text tape config xs r ys
         → _≡_ {A = Result} (record { answer = r; space = ys }) (laidOut (outcome original width case text tape) xs)

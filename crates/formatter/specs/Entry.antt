@@ -1,4 +1,4 @@
--- What the parts of the two calls ask and promise, where the tape is accepted.
+-- What the parts of the call ask and promise, where the tape is accepted.
 use mathlib.Core.Path.{_≡_}
 use mathlib.Core.List.{List, _++_}
 use Prim.Native.Nat.{ℕ, _^_, _≤_}
@@ -15,7 +15,7 @@ use Rattle.tape.specs.NodeFacts.{Noted}
 use Rattle.layout.specs.declared.Answer.{Answer}
 use Rattle.layout.specs.Layout.{written, original, piecesOf, format}
 use Rattle.layout.specs.SpanStarts.{SpansStart}
-use Rattle.layout.specs.Outcome.{Result, laid, laidOut, measured}
+use Rattle.layout.specs.Outcome.{Result, laid, laidOut}
 use Rattle.formatter.specs.RoutinePromises.{Sizes}
 
 -- the tape is accepted, its spans begin at bounds of characters, the check has noted what is true of each node of its tree, and the lent
@@ -45,10 +45,7 @@ pub record WalkedInto (text tape : List ℕ) (config : FormatConfig) (xs : List 
 pub record Fills (text tape : List ℕ) (config : FormatConfig) (xs ys : List ℕ) : Type 0 where
   pub all : (t : Tree) (p : ℕ) → readTree (length text) tape ≡ got t p → ys ≡ bytesOf (format original config text t) ++ drop (length (format original config text t)) xs
 
--- the answers
-pub record Measures (text tape : List ℕ) (config : FormatConfig) (r : Answer) : Type 0 where
-  pub all : (t : Tree) (p : ℕ) → readTree (length text) tape ≡ got t p → r ≡ measured (laid (format original config text t))
-
+-- the answer, and the space
 pub record LaysOut (text tape : List ℕ) (config : FormatConfig) (xs : List ℕ) (r : Answer) (ys : List ℕ) : Type 0 where
   pub all : (t : Tree) (p : ℕ) → readTree (length text) tape ≡ got t p
       → _≡_ {A = Result} (record { answer = r; space = ys }) (laidOut (laid (format original config text t)) xs)

@@ -1,4 +1,4 @@
-// Measuring and laying out: `format` of mod.rs, from bytes to an answer and a filled space.
+// Laying out: `format` of mod.rs, from bytes to an answer and a filled space.
 mod format;
 
 use context::FormatConfig;
@@ -19,8 +19,8 @@ ghost use lib.ListN.{drop, length, set, take};
 ghost use Rattle.context.specs.Splice.{splice};
 ghost use Rattle.keywords.specs.Table.{table};
 ghost use Rattle.layout.specs.Layout.{original};
-ghost use Rattle.layout.specs.Outcome.{Result, configOf, laidOut, measured, outcome};
-ghost use Rattle.formatter.specs.Entry.{Fills, LaysOut, Measures, Ready, Trims, WalkedInto};
+ghost use Rattle.layout.specs.Outcome.{Result, configOf, laidOut, outcome};
+ghost use Rattle.formatter.specs.Entry.{Fills, LaysOut, Ready, Trims, WalkedInto};
 
 // Where a walk stands after a node: the place on the tape, and the context.
 pub(crate) struct Walk {
@@ -85,30 +85,6 @@ fn copy_layout(written: &[u8], out: &mut [u8], k: usize)
     out[k] = 10;
 }
 
-fn measure_accepted(
-    text: &[u8],
-    keywords: &[u8; TABLE_LENGTH],
-    tape: &[u8],
-    config: FormatConfig,
-    facts: &[u8],
-) -> Answer
-    requires { ⌜ Ready (now text) (now keywords) (now tape) (now facts) config ⌝ }
-    ensures { λ r. ⌜ Measures (now (text .entry)) (now (tape .entry)) config r ⌝ }
-{
-    let mut none = [0u8; 1];
-    let k = walk_tree(text, keywords, tape, config, facts, &mut none[..0]);
-    if k == 0 {
-        return Answer {
-            number: 0,
-            value: 0,
-        };
-    }
-    Answer {
-        number: 0,
-        value: k as u64 + 1,
-    }
-}
-
 // What fits into the lent space needs one walk, and a copy once 13 is decided.
 fn layout_accepted(
     text: &[u8],
@@ -158,29 +134,7 @@ fn config_of(width: u64, case: u64) -> FormatConfig
     }
 }
 
-// The needed length, or the refusal. `facts` has room for what the check notes of each node.
-fn measure_in(
-    text: &[u8],
-    keywords: &[u8; TABLE_LENGTH],
-    tape: &[u8],
-    width: u64,
-    case: u64,
-    facts: &mut [u8],
-) -> Answer
-    requires { ⌜ (length (now tape) ≤ 262144 → length (now tape) ≤ 11 * length (now facts)) × (now keywords ≡ table) ⌝ }
-    ensures { λ r. ⌜ r ≡ measured (outcome original width case (now (text .entry)) (now (tape .entry))) ⌝ }
-{
-    let checked = check_call(width, case, text, tape, facts);
-    match checked {
-        Checked::Refused(fault, place) => Answer {
-            number: number(fault),
-            value: place as u64,
-        },
-        Checked::Accepted => measure_accepted(text, keywords, tape, config_of(width, case), facts),
-    }
-}
-
-// The same, and the layout in `out`. What is walked first goes into `space`.
+// `facts` has room for what the check notes of each node. What is walked first goes into `space`.
 fn layout_in(
     text: &[u8],
     keywords: &[u8; TABLE_LENGTH],
@@ -212,31 +166,44 @@ fn layout_in(
     }
 }
 
-// Most tapes are short: the spaces on the stack are filled with zeros at each call, so there are two sizes. 746 bytes of facts are enough for
-// a tape of 8,206 bytes, and 23,832 for any tape that 5 lets pass.
-fn measure_short(text: &[u8], tape: &[u8], width: u64, case: u64) -> Answer
-    requires { ⌜ length (now tape) ≤ 8206 ⌝ }
-    ensures { λ r. ⌜ r ≡ measured (outcome original width case (now (text .entry)) (now (tape .entry))) ⌝ }
+// The same with no space for the first walk: one walk finds the length, and a second writes the layout where it fits `out`.
+fn layout_unlent(
+    text: &[u8],
+    keywords: &[u8; TABLE_LENGTH],
+    tape: &[u8],
+    width: u64,
+    case: u64,
+    facts: &mut [u8],
+    out: &mut [u8],
+) -> Answer
+    requires { ⌜ (length (now tape) ≤ 262144 → length (now tape) ≤ 11 * length (now facts)) × (now keywords ≡ table) ⌝ }
+    ensures { λ r. ⌜ _≡_ {A = Result} (record { answer = r; space = now (out .exit) }) (laidOut (outcome original width case (now (text .entry)) (now (tape .entry))) (now (out .entry))) ⌝ }
 {
-    let keywords = table();
-    let mut facts = [0u8; 746];
-    measure_in(text, &keywords, tape, width, case, &mut facts)
+    let mut none = [0u8; 1];
+    layout_in(
+        text,
+        keywords,
+        tape,
+        width,
+        case,
+        facts,
+        &mut none[..0],
+        out,
+    )
 }
 
-fn measure_long(text: &[u8], tape: &[u8], width: u64, case: u64) -> Answer
-    ensures { λ r. ⌜ r ≡ measured (outcome original width case (now (text .entry)) (now (tape .entry))) ⌝ }
-{
-    let keywords = table();
-    let mut facts = [0u8; 23832];
-    measure_in(text, &keywords, tape, width, case, &mut facts)
-}
-
+// Most tapes are short: the arrays on the stack are filled with zeros at each call, so there are two sizes. 746 bytes of facts are enough for
+// a tape of 8,206 bytes, and 23,832 for any tape that 5 lets pass. Where `out` has no byte, nothing is written: the call measures, and
+// there is no space to fill.
 fn layout_short(text: &[u8], tape: &[u8], width: u64, case: u64, out: &mut [u8]) -> Answer
     requires { ⌜ length (now tape) ≤ 8206 ⌝ }
     ensures { λ r. ⌜ _≡_ {A = Result} (record { answer = r; space = now (out .exit) }) (laidOut (outcome original width case (now (text .entry)) (now (tape .entry))) (now (out .entry))) ⌝ }
 {
     let keywords = table();
     let mut facts = [0u8; 746];
+    if out.len() == 0 {
+        return layout_unlent(text, &keywords, tape, width, case, &mut facts, out);
+    }
     let mut space = [0u8; 4096];
     layout_in(
         text,
@@ -255,20 +222,14 @@ fn layout_long(text: &[u8], tape: &[u8], width: u64, case: u64, out: &mut [u8]) 
 {
     let keywords = table();
     let mut facts = [0u8; 23832];
-    let mut space = [0u8; 16384];
+    if out.len() == 0 {
+        return layout_unlent(text, &keywords, tape, width, case, &mut facts, out);
+    }
     // The layout of so long a text seldom fits, and what is written there would be written in vain.
     if 32768 < text.len() {
-        return layout_in(
-            text,
-            &keywords,
-            tape,
-            width,
-            case,
-            &mut facts,
-            &mut space[..0],
-            out,
-        );
+        return layout_unlent(text, &keywords, tape, width, case, &mut facts, out);
     }
+    let mut space = [0u8; 16384];
     layout_in(
         text,
         &keywords,
@@ -279,15 +240,6 @@ fn layout_long(text: &[u8], tape: &[u8], width: u64, case: u64, out: &mut [u8]) 
         &mut space,
         out,
     )
-}
-
-pub fn measure(text: &[u8], tape: &[u8], width: u64, case: u64) -> Answer
-    ensures { λ r. ⌜ r ≡ measured (outcome original width case (now (text .entry)) (now (tape .entry))) ⌝ }
-{
-    if tape.len() <= 8206 {
-        return measure_short(text, tape, width, case);
-    }
-    measure_long(text, tape, width, case)
 }
 
 pub fn layout(text: &[u8], tape: &[u8], width: u64, case: u64, out: &mut [u8]) -> Answer

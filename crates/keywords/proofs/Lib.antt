@@ -3,4 +3,6 @@ pub mod Capitals
 pub mod Flat
 pub mod Places
 pub mod Lookup
+pub mod WalkLaws
+pub mod Walked
 pub mod Sorts

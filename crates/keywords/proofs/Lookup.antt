@@ -14,10 +14,8 @@ use Rattle.basics.specs.Case.{toUppercase}
 use Rattle.basics.specs.Match.{match}
 use Rattle.keywords.specs.Words.{capitals, words, same, placeOf}
 use Rattle.keywords.specs.Table.{capital, entry, entries, words-rule}
+use Rattle.keywords.specs.Index as spec
 use Rattle.keywords.specs.Index.{shifts, letterAt, key, index, noEntry, entryOf, candidate, unpacked, numbers, mayBeListed, offset, Stands}
-use Rattle.keywords.specs.declared.Candidate.{Candidate}
-use Rattle.keywords.specs.declared.Candidate.the-variants.{One, Nothing}
-use Rattle.keywords.specs.declared.Entry as declared
 use Rattle.keywords.specs.declared.Place.{Place}
 use Rattle.keywords.specs.declared.Place.the-variants.{At, Nowhere}
 use Rattle.basics.proofs.Same.{both, same-equal}
@@ -41,14 +39,14 @@ numbers-back : map (λ (e : ℕ × ℕ). (e .0, unpacked (e .1))) numbers ≡ in
 unfolding names words shifts key index numbers
 numbers-back = refl
 
-pub unpacked-entry : (k : ℕ) → unpacked (match k numbers 0) ≡ entryOf k
+unpacked-entry : (k : ℕ) → unpacked (match k numbers 0) ≡ entryOf k
 unfolding entryOf
-unpacked-entry k = match-map unpacked k numbers 0 ∙ ap (λ (t : List (ℕ × declared.Entry)). match k t noEntry) numbers-back
+unpacked-entry k = match-map unpacked k numbers 0 ∙ ap (λ (t : List (ℕ × spec.Entry)). match k t noEntry) numbers-back
 
 -- ── what the index leads to is an entry of the list
 
 -- an entry of the index is that of a place from i on
-record From (i n : ℕ) (es : List (List ℕ)) (r : declared.Entry) : Type 0 where
+record From (i n : ℕ) (es : List (List ℕ)) (r : spec.Entry) : Type 0 where
   further : ℕ
   inside : further < length es
   place : r .place ≡ i + further
@@ -75,58 +73,87 @@ first-offset : offset 0 words ≡ 0
 unfolding offset words names
 first-offset = refl
 
-pub stands : (k : ℕ) → Stands (entryOf k)
+pub none-stands : Stands noEntry
+none-stands = record { inside = words-some; begins = sym first-offset }
+
+stands : (k : ℕ) → Stands (entryOf k)
 unfolding entryOf
 stands k = go (match k (index 0 0 words) noEntry) (found-from k 0 0 words)
   where
-    go : (r : declared.Entry) → (r ≡ noEntry) ⊎ From 0 0 words r → Stands r
-    go r (inl z) = rw z (record { inside = words-some; begins = sym first-offset })
+    go : (r : spec.Entry) → (r ≡ noEntry) ⊎ From 0 0 words r → Stands r
+    go r (inl z) = rw z none-stands
     go r (inr x) =
         let p : r .place ≡ x .further = omega (arith, x .place) in
         record { inside = omega (arith, p, x .inside); begins = rw p (omega (arith, x .begins)) }
 
+-- so is the one with a number of the index, and the one with the number 0
+pub candidate-stands : (w : List ℕ) → Stands (unpacked (candidate w))
+candidate-stands w = go (mayBeListed w)
+  where
+    go : (b : Bool) → Stands (unpacked (cond b (match (key w) numbers 0) 0))
+    go true = subst Stands (sym (unpacked-entry (key w))) (stands (key w))
+    go false = none-stands
+
 -- ── each entry is led to
 
--- the index leads to the entry at each place, so that none stands there twice
-leads : ℕ → List (List ℕ) → List (ℕ × declared.Entry) → Bool
+-- the index leads to the entry at each place, so that none stands there twice, and the number of its first letter is not 0
+abbrev led : ℕ → List ℕ → spec.Entry → Bool
+led i e r = eqb (r .place) i && (eqb (r .first) (letterAt e 0) && leb 1 (r .first))
+
+leads : ℕ → List (List ℕ) → List (ℕ × spec.Entry) → Bool
 leads i [] t = true
-leads i (e ∷ es) t = (eqb (match (key e) t noEntry .place) i && eqb (match (key e) t noEntry .first) (letterAt e 0)) && leads (suc i) es t
+leads i (e ∷ es) t = led i e (match (key e) t noEntry) && leads (suc i) es t
 
 -- of all entries: one computed test
 words-lead : T (leads 0 words (index 0 0 words))
 unfolding names words shifts key index leads
 words-lead = tt
 
-record Known (w : List ℕ) (i : ℕ) (t : List (ℕ × declared.Entry)) : Type 0 where
+record Known (w : List ℕ) (i : ℕ) (r : spec.Entry) : Type 0 where
   long : 2 ≤ length w
   short : length w ≤ 12
-  led : match (key w) t noEntry .place ≡ i
-  begins : match (key w) t noEntry .first ≡ letterAt w 0
+  place : r .place ≡ i
+  begins : r .first ≡ letterAt w 0
+  some : 1 ≤ r .first
 
-known-at : (i : ℕ) (es : List (List ℕ)) (t : List (ℕ × declared.Entry)) (j : ℕ) → T (entries es) → T (leads i es t) → j < length es → Known (getD es j []) (i + j) t
-unfolding leads
-known-at i [] t j r k h = absurd (not-suc-le-zero h)
-known-at i (e ∷ es) t zero r k h =
-    let l = both (leb 2 (length e)) (leb (length e) 12) (both (leb 2 (length e) && leb (length e) 12) (capital e) (both (entry e) (entries es) r .0) .0) in
-    let u = both (eqb (match (key e) t noEntry .place) i && eqb (match (key e) t noEntry .first) (letterAt e 0)) (leads (suc i) es t) k .0 in
-    let x = both (eqb (match (key e) t noEntry .place) i) (eqb (match (key e) t noEntry .first) (letterAt e 0)) u in
+known : (e : List ℕ) (i : ℕ) (r : spec.Entry) → T (entry e) → T (led i e r) → Known e i r
+known e i r t u =
+    let l = both (leb 2 (length e)) (leb (length e) 12) (both (leb 2 (length e) && leb (length e) 12) (capital e) t .0) in
+    let x = both (eqb (r .place) i) (eqb (r .first) (letterAt e 0) && leb 1 (r .first)) u in
+    let y = both (eqb (r .first) (letterAt e 0)) (leb 1 (r .first)) (x .1) in
     record {
       long = leb→le 2 (length e) (l .0);
       short = leb→le (length e) 12 (l .1);
-      led = eqb→eq (match (key e) t noEntry .place) i (x .0) ∙ omega arith;
-      begins = eqb→eq (match (key e) t noEntry .first) (letterAt e 0) (x .1);
+      place = eqb→eq (r .place) i (x .0);
+      begins = eqb→eq (r .first) (letterAt e 0) (y .0);
+      some = leb→le 1 (r .first) (y .1);
     }
+
+known-at : (i : ℕ) (es : List (List ℕ)) (t : List (ℕ × spec.Entry)) (j : ℕ) → T (entries es) → T (leads i es t) → j < length es
+    → Known (getD es j []) (i + j) (match (key (getD es j [])) t noEntry)
+unfolding leads
+known-at i [] t j r k h = absurd (not-suc-le-zero h)
+known-at i (e ∷ es) t zero r k h =
+    let z : i ≡ i + 0 = omega arith in
+    let m = match (key e) t noEntry in
+    subst (λ (n : ℕ). Known e n m) z (known e i m (both (entry e) (entries es) r .0) (both (led i e m) (leads (suc i) es t) k .0))
 known-at i (e ∷ es) t (suc j) r k h =
-    let u = both (eqb (match (key e) t noEntry .place) i && eqb (match (key e) t noEntry .first) (letterAt e 0)) (leads (suc i) es t) k .1 in
+    let u = both (led i e (match (key e) t noEntry)) (leads (suc i) es t) k .1 in
     let v = known-at (suc i) es t j (both (entry e) (entries es) r .1) u (le-of-suc-le-suc h) in
     let s : suc i + j ≡ i + suc j = omega arith in
     rw (← s) v
 
-known-entry : (w : List ℕ) (i : ℕ) → Entry w words i → Known w i (index 0 0 words)
-known-entry w i x =
+-- bytes that are an entry
+entry-known : (w : List ℕ) (i : ℕ) → Entry w words i → Known w i (entryOf (key w))
+unfolding entryOf
+entry-known w i x =
     let z : 0 + i ≡ i = omega arith in
-    let r = known-at 0 words (index 0 0 words) i words-rule words-lead (x .inside) in
-    subst (λ (v : List ℕ). Known v i (index 0 0 words)) (x .is) (subst (λ (n : ℕ). Known (getD words i []) n (index 0 0 words)) z r)
+    let t = index 0 0 words in
+    let r = known-at 0 words t i words-rule words-lead (x .inside) in
+    subst (λ (v : List ℕ). Known v i (match (key v) t noEntry)) (x .is) (subst (λ (n : ℕ). Known (getD words i []) n (match (key (getD words i [])) t noEntry)) z r)
+
+placed-known : (w : List ℕ) (i : ℕ) → placeOf w words ≡ At i → Known w i (entryOf (key w))
+placed-known w i h = entry-known w i (placed-entry w words i h)
 
 -- ── a word's candidate does not depend on the case of its letters
 
@@ -152,26 +179,36 @@ key-capitals w h =
     let h3 = letter-capitals w (length w - 1) (omega arith) in
     cc
 
--- what is known of a word that has a place
-record Led (w : List ℕ) (i : ℕ) : Type 0 where
-  entry : Entry (capitals w) words i
-  place : entryOf (key w) .place ≡ i
-  passes : mayBeListed w ≡ true
-
-placed-led : (w : List ℕ) (i : ℕ) → placeOf (capitals w) words ≡ At i → Led w i
-unfolding entryOf
-placed-led w i h =
-    let x = placed-entry (capitals w) words i h in
-    let k = known-entry (capitals w) i x in
+capitals-known : (w : List ℕ) (i : ℕ) → placeOf (capitals w) words ≡ At i → Known w i (entryOf (key w))
+capitals-known w i h =
+    let k = placed-known (capitals w) i h in
     let l = length-map w toUppercase in
     let long : 2 ≤ length w = omega (arith, l, k .long) in
-    let short : length w ≤ 12 = omega (arith, l, k .short) in
-    let c = ap (λ (j : ℕ). match j (index 0 0 words) noEntry) (key-capitals w long) in
-    let f = ap (λ (e : declared.Entry). e .first) (sym c) ∙ k .begins ∙ letter-capitals w 0 (omega arith) in
+    let c = ap (λ (j : ℕ). entryOf j) (key-capitals w long) in
     record {
-      entry = x;
-      place = ap (λ (e : declared.Entry). e .place) (sym c) ∙ k .led;
-      passes = rw (le-leb 2 (length w) long, le-leb (length w) 12 short) (eq-eqb _ _ f);
+      long = long;
+      short = omega (arith, l, k .short);
+      place = ap (λ (e : spec.Entry). e .place) (sym c) ∙ k .place;
+      begins = ap (λ (e : spec.Entry). e .first) (sym c) ∙ k .begins ∙ letter-capitals w 0 (omega arith);
+      some = subst (λ (e : spec.Entry). 1 ≤ e .first) c (k .some);
+    }
+
+-- ── the candidate
+
+-- where there is one entry it is the candidate
+record Led (w : List ℕ) (i : ℕ) : Type 0 where
+  place : unpacked (candidate w) .place ≡ i
+  some : candidate w ≡ 0 → ⊥
+
+known-led : (w : List ℕ) (i : ℕ) → Known w i (entryOf (key w)) → Led w i
+known-led w i k =
+    let u = unpacked-entry (key w) in
+    let f = ap (λ (e : spec.Entry). e .first) u in
+    let m : mayBeListed w ≡ true = rw (le-leb 2 (length w) (k .long), le-leb (length w) 12 (k .short)) (eq-eqb _ _ (f ∙ k .begins)) in
+    let c : candidate w ≡ match (key w) numbers 0 = ap (λ (b : Bool). cond b (match (key w) numbers 0) 0) m in
+    record {
+      place = ap (λ (n : ℕ). unpacked n .place) c ∙ ap (λ (e : spec.Entry). e .place) u ∙ k .place;
+      some = λ z. let y = ap (λ (n : ℕ). n % 32) (sym z ∙ c) ∙ f in omega (arith, y, k .some);
     }
 
 -- what is left of a place once none can be
@@ -179,51 +216,36 @@ none : (p : Place) → ((i : ℕ) → p ≡ At i → ⊥) → p ≡ Nowhere
 none (At i) h = absurd (h i refl)
 none Nowhere h = refl
 
-abbrev isOne : Candidate → Bool
-isOne (One e) = true
-isOne Nothing = false
-
 module _ (w : List ℕ) where
-  -- a word that may not be listed has no place
-  not-listed : mayBeListed w ≡ false → placeOf (capitals w) words ≡ Nowhere
-  not-listed h = none (placeOf (capitals w) words) (λ i e. false≢true (sym h ∙ placed-led w i e .passes))
+  -- bytes that are an entry of the list have its place
+  pub this-entry : (e : spec.Entry) → Stands e → same w (getD words (e .place) []) ≡ true → placeOf w words ≡ At (e .place)
+  this-entry e s h =
+      let x : Entry w words (e .place) = record { inside = s .inside; is = sym (same-equal w (getD words (e .place) []) h) } in
+      let y = entry-placed w words (e .place) x in
+      y .is ∙ ap At (sym (placed-known w (y .place) (y .is) .place) ∙ entry-known w (e .place) x .place)
 
-  -- nor has one that is not the entry with its key
-  pub other-entry : same (capitals w) (getD words (entryOf (key w) .place) []) ≡ false → placeOf (capitals w) words ≡ Nowhere
+  -- bytes that are not their candidate have no place
+  pub other-entry : same w (getD words (unpacked (candidate w) .place) []) ≡ false → placeOf w words ≡ Nowhere
   other-entry h =
-      none (placeOf (capitals w) words) (λ i e.
-      let x = placed-led w i e in
-      let y = ap (λ (j : ℕ). getD words j []) (x .place) ∙ x .entry .is in
-      false≢true (sym h ∙ ap (λ (v : List ℕ). same (capitals w) v) y ∙ same-self (capitals w)))
+      none (placeOf w words) (λ i e.
+      let x = known-led w i (placed-known w i e) .place in
+      let y = ap (λ (j : ℕ). getD words j []) x ∙ placed-entry w words i e .is in
+      false≢true (sym h ∙ ap (λ (v : List ℕ). same w v) y ∙ same-self w))
 
-  -- one that is has the entry's place
-  pub this-entry : same (capitals w) (getD words (entryOf (key w) .place) []) ≡ true → placeOf (capitals w) words ≡ At (entryOf (key w) .place)
-  this-entry h =
-      let x : Entry (capitals w) words (entryOf (key w) .place) = record { inside = stands (key w) .inside; is = sym (same-equal (capitals w) (getD words (entryOf (key w) .place) []) h) } in
-      let y = entry-placed (capitals w) words (entryOf (key w) .place) x in
-      y .is ∙ ap At (sym (placed-led w (y .place) (y .is) .place))
+  -- a word without a candidate has no place
+  pub nothing-is : candidate w ≡ 0 → placeOf (capitals w) words ≡ Nowhere
+  nothing-is h = none (placeOf (capitals w) words) (λ i e. known-led w i (capitals-known w i e) .some h)
 
-  -- the one entry that can be equal is the one with the word's key
-  pub one-is : (e : declared.Entry) → candidate w ≡ One e → e ≡ entryOf (key w)
-  one-is e h = go (mayBeListed w) h
+  -- one that has a candidate is no longer than an entry
+  pub candidate-short : (candidate w ≡ 0 → ⊥) → length w ≤ 12
+  candidate-short h = go (leb 2 (length w)) (leb (length w) 12) refl h
     where
-      go : (b : Bool) → cond b (One (entryOf (key w))) Nothing ≡ One e → e ≡ entryOf (key w)
-      go true u = sym (ap (λ (x : Candidate). from x) u)
-        where
-          from : Candidate → declared.Entry
-          from (One x) = x
-          from Nothing = noEntry
-      go false u = absurd (false≢true (ap (λ (x : Candidate). isOne x) u))
-
-  -- where there is none the word has no place
-  pub nothing-is : candidate w ≡ Nothing → placeOf (capitals w) words ≡ Nowhere
-  nothing-is h = not-listed (go (mayBeListed w) h)
-    where
-      go : (b : Bool) → cond b (One (entryOf (key w))) Nothing ≡ Nothing → b ≡ false
-      go true u = absurd (false≢true (sym (ap (λ (x : Candidate). isOne x) u)))
-      go false u = refl
+      go : (a b : Bool) → leb (length w) 12 ≡ b → (cond (a && (b && eqb (match (key w) numbers 0 % 32) (letterAt w 0))) (match (key w) numbers 0) 0 ≡ 0 → ⊥) → length w ≤ 12
+      go a true e k = leb→le (length w) 12 (rw e tt)
+      go true false e k = absurd (k refl)
+      go false false e k = absurd (k refl)
 
   -- a word of 2 to 12 bytes has the entry with its key for its candidate, if that begins with its letter
-  pub candidate-is : (e : declared.Entry) → 2 ≤ length w → length w ≤ 12 → e ≡ entryOf (key w) → (b : Bool) → eqb (e .first) (letterAt w 0) ≡ b
-      → cond b (One e) Nothing ≡ candidate w
-  candidate-is e l s q b t = rw (le-leb 2 (length w) l, le-leb (length w) 12 s, ← q, t) refl
+  pub candidate-is : (m : ℕ) → 2 ≤ length w → length w ≤ 12 → m ≡ match (key w) numbers 0 → (b : Bool) → eqb (m % 32) (letterAt w 0) ≡ b
+      → cond b m 0 ≡ candidate w
+  candidate-is m l s q b t = rw (le-leb 2 (length w) l, le-leb (length w) 12 s, ← q, t) refl

@@ -7,17 +7,22 @@ use lib.Dec.{eqb, leb}
 use lib.ListN.{length, getD}
 use Rattle.basics.specs.Match.{match}
 use Rattle.keywords.specs.Words.{words}
-use Rattle.keywords.specs.declared.Candidate.{Candidate}
-use Rattle.keywords.specs.declared.Candidate.the-variants.{One, Nothing}
-use Rattle.keywords.specs.declared.Entry.{Entry}
 
--- what keeps the keys of the entries apart, for each bucket that needs it
+-- an entry of the list: its place, where its length stands in the table, and the number of its first letter
+pub record Entry : Type 0 where
+  pub place : ℕ
+  pub at : ℕ
+  pub first : ℕ
+
+-- what keeps the keys of the entries apart, for each bucket
 unfoldable pub shifts : List (ℕ × ℕ)
 shifts =
-    (0, 1) ∷ (5, 45) ∷ (9, 22) ∷ (10, 16) ∷ (13, 59) ∷ (16, 124) ∷ (17, 82) ∷ (18, 105) ∷ (19, 170) ∷ (20, 109) ∷ (21, 39) ∷ (22, 121) ∷
-    (23, 14) ∷ (24, 57) ∷ (25, 138) ∷ (26, 3) ∷ (27, 8) ∷ (29, 69) ∷ (30, 93) ∷ (32, 4) ∷ (33, 91) ∷ (34, 78) ∷ (35, 15) ∷ (36, 7) ∷ (37, 1)
-    ∷ (38, 127) ∷ (39, 132) ∷ (40, 2) ∷ (41, 135) ∷ (42, 59) ∷ (43, 90) ∷ (44, 125) ∷ (45, 144) ∷ (46, 162) ∷ (47, 49) ∷ (48, 143) ∷ (49, 7)
-    ∷ (50, 6) ∷ (51, 3) ∷ (52, 200) ∷ (53, 37) ∷ (56, 3) ∷ (57, 31) ∷ (60, 98) ∷ []
+    (0, 2) ∷ (1, 1) ∷ (2, 1) ∷ (3, 1) ∷ (4, 1) ∷ (5, 46) ∷ (6, 1) ∷ (7, 1) ∷ (8, 1) ∷ (9, 23) ∷ (10, 17) ∷ (11, 1) ∷ (12, 1) ∷ (13, 60) ∷
+    (14, 1) ∷ (15, 1) ∷ (16, 125) ∷ (17, 83) ∷ (18, 106) ∷ (19, 171) ∷ (20, 110) ∷ (21, 40) ∷ (22, 122) ∷ (23, 15) ∷ (24, 58) ∷ (25, 139) ∷
+    (26, 4) ∷ (27, 9) ∷ (28, 1) ∷ (29, 70) ∷ (30, 94) ∷ (31, 1) ∷ (32, 5) ∷ (33, 92) ∷ (34, 79) ∷ (35, 16) ∷ (36, 8) ∷ (37, 2) ∷ (38, 128) ∷
+    (39, 133) ∷ (40, 3) ∷ (41, 136) ∷ (42, 60) ∷ (43, 91) ∷ (44, 126) ∷ (45, 145) ∷ (46, 163) ∷ (47, 50) ∷ (48, 144) ∷ (49, 8) ∷ (50, 7) ∷
+    (51, 4) ∷ (52, 201) ∷ (53, 38) ∷ (54, 1) ∷ (55, 1) ∷ (56, 4) ∷ (57, 32) ∷ (58, 1) ∷ (59, 1) ∷ (60, 99) ∷ (61, 1) ∷ (62, 1) ∷ (63, 1) ∷
+    []
 
 -- the number of a letter, in either case
 abbrev pub letterAt : List ℕ → ℕ → ℕ
@@ -52,11 +57,11 @@ numbers = map (λ (e : ℕ × Entry). (e .0, packed (e .1))) (index 0 0 words)
 
 -- 2 to 12 bytes, the first of which is, in either case, the first letter of the entry with the word's key
 abbrev pub mayBeListed : List ℕ → Bool
-mayBeListed w = leb 2 (length w) && (leb (length w) 12 && eqb (entryOf (key w) .first) (letterAt w 0))
+mayBeListed w = leb 2 (length w) && (leb (length w) 12 && eqb (match (key w) numbers 0 % 32) (letterAt w 0))
 
--- the one entry that can be equal to a word, if any can
-abbrev pub candidate : List ℕ → Candidate
-candidate w = cond (mayBeListed w) (One (entryOf (key w))) Nothing
+-- the number of the one entry that can be equal to a word, 0 if none can
+abbrev pub candidate : List ℕ → ℕ
+candidate w = cond (mayBeListed w) (match (key w) numbers 0) 0
 
 -- where the entry at a place of the list begins in the table
 unfoldable pub offset : ℕ → List (List ℕ) → ℕ

@@ -1,10 +1,13 @@
--- The limits of a whole call: what both calls answer at each, and one past it.
+-- The limits of a whole call: what it answers at each, and one past it, in any space.
 use Prim.Native.Nat.{ℕ, _+_, _*_, _≤_, _<_}
 use native.Mathlib.Omega.{arith}
 use mathlib.Core.Path.{_≡_, ap}
+use mathlib.Core.Bool.{Bool, true, false}
 use mathlib.Core.List.{List, [], _++_}
 use lib.ListN.{length, replicate}
+use lib.Dec.{T, leb}
 use borrow.Author.Tests.{le-leb}
+use Rattle.context.specs.Cells.{Cell}
 use Rattle.context.specs.Context.{writeNewline, takePendingBlankLine, trimEnd, finish}
 use Rattle.utf8.specs.Pieces.{cut}
 use Rattle.utf8.specs.Trim.{trim}
@@ -20,28 +23,34 @@ use Rattle.layout.specs.Routines.{formatFile}
 use Rattle.layout.specs.FormatNode.{armsOf, routines, routineOf, formatNode}
 use Rattle.layout.specs.Calls.{walk, calls}
 use Rattle.layout.specs.Layout.{doSpacing, step, pieces, written, Version, original, piecesOf, format}
-use Rattle.layout.specs.Outcome.{Outcome, laid, ofRead, configOf, outcome, answer, measured, laidOut}
+use Rattle.layout.specs.Outcome.{Outcome, laid, ofRead, configOf, outcome, answer, fitted, laidOut, namesLength}
 
--- both calls answer the number and the value, and leave any lent space as it is
-pub record Answered (o : Outcome) (number value : ℕ) : Type 0 where
-  pub measuring : measured o ≡ answer number value
-  pub laying-out : (space : List ℕ) → laidOut o space ≡ record { answer = answer number value; space = space }
+-- the call answers the number and the value, and leaves any lent space as it is
+abbrev pub Answered : Outcome → ℕ → ℕ → Type 0
+Answered o number value = (space : List ℕ) → laidOut o space ≡ record { answer = answer number value; space = space }
 
--- a reading that is refused is answered so by both calls
+-- a reading that is refused is answered so
 pub refused-answered : (v : Version) (width case : ℕ) (text tape : List ℕ) {f : Fault} {p : ℕ} → readCall width case text tape ≡ refused f p
     → Answered (outcome v width case text tape) (number f) p
-unfolding outcome measured laidOut
-refused-answered v width case text tape e = record { measuring = rw e; laying-out = λ space. rw e }
+unfolding outcome laidOut
+refused-answered v width case text tape e space = rw e
 
--- one that is accepted is measured
-accepted-measured : (v : Version) (width case : ℕ) (text tape : List ℕ) {t : Tree} {p : ℕ} → readCall width case text tape ≡ got t p
-    → (measured (outcome v width case text tape)) .number ≡ 0
-unfolding outcome measured
-accepted-measured v width case text tape e = rw e
+-- one that is accepted names a length
+accepted-named : (v : Version) (width case : ℕ) (text tape : List ℕ) {t : Tree} {p : ℕ} → readCall width case text tape ≡ got t p
+    → (space : List ℕ) → T (namesLength ((laidOut (outcome v width case text tape) space) .answer))
+unfolding outcome laidOut
+accepted-named v width case text tape {t} e space = rw e (go (leb (length cells) (length space)))
+  where
+    cells : List Cell
+    cells = format v (configOf width case) text t
+
+    go : (fits : Bool) → T (namesLength ((fitted fits cells space) .answer))
+    go true = tt
+    go false = tt
 
 empty-answered : (o : Outcome) → o ≡ laid [] → Answered o 0 0
-unfolding measured laidOut
-empty-answered o e = record { measuring = rw e; laying-out = λ space. rw (e, le-leb 0 (length space) (omega arith)) }
+unfolding laidOut
+empty-answered o e space = rw (e, le-leb 0 (length space) (omega arith))
 
 -- ── the text: 262,144 bytes; n blanks with a File that has no child
 
@@ -54,8 +63,8 @@ text-too-long n tape h = refused-answered original 4 1 (replicate n 32) tape (te
 
 -- ── the tape: 262,144 bytes; k words in three nodes, n closes
 
-pub tape-measured : (k : ℕ) → 36 + 11 * k ≤ 262144 → (measured (outcome original 4 1 [] (manyWords k))) .number ≡ 0
-tape-measured k h = accepted-measured original 4 1 [] (manyWords k) (tape-accepted k h)
+pub tape-named : (k : ℕ) → 36 + 11 * k ≤ 262144 → (space : List ℕ) → T (namesLength ((laidOut (outcome original 4 1 [] (manyWords k)) space) .answer))
+tape-named k h = accepted-named original 4 1 [] (manyWords k) (tape-accepted k h)
 
 pub tape-too-long : (n : ℕ) → 262144 < n → Answered (outcome original 4 1 [] (replicate n 3)) 5 0
 tape-too-long n h = refused-answered original 4 1 [] (replicate n 3) (tape-refused n h)

@@ -3,6 +3,7 @@ pub mod EachCall
 pub mod PieceStarts
 pub mod MaskedLayouts
 pub mod TwoCalls
+pub mod OneLength
 pub mod AsciiPairs
 pub mod MaskingTests
 pub mod Origins

@@ -13,7 +13,7 @@ use Rattle.context.specs.Alike.{Agree, CellLike, Like}
 use Rattle.tape.specs.declared.Head.{Head}
 use Rattle.tape.specs.Tree.{Children, done, token, node, Tree, copied, EachToken, EachNode}
 use Rattle.layout.specs.declared.Answer.{Answer}
-use Rattle.layout.specs.Outcome.{Outcome, measured, laidOut}
+use Rattle.layout.specs.Outcome.{Outcome, laidOut}
 use Rattle.layout.specs.Masking.{SomeToken, here, afterToken, within, afterNode, OfCopied, EachReachedBelow, EachReachedCopy, quoted, Holds, charactersOf, firstLength, lastLength, lastIsWhite, StrictlyInside, Differ, EndsInWhiteSpace, MaskedForLayout, cellsAfter, SameLines, AlikeByLines}
 use Rattle.layout.specs.MaskingTests.{Condition, sameLength, noNewline, inSomeToken, strictlyInside, inQuotes, notCopied, noWhiteSpaceEnd, Asks, eachToken, someToken, eachCopiedBelow, eachReachedBelow, eachMasked, holdsPlace, isInside, isSolid, ofHeld, holds, reachedHold, holdsForLayout, sameAnswer, cellLike, cellsLike, bothOrNeither, sameLines, alikeByLines}
 
@@ -203,11 +203,9 @@ module _ (a b : Text) where
 
   pub says : (x y : Outcome) (space : List ℕ) → AlikeByLines a b x y space → T (alikeByLines a b x y space)
   says x y space k =
-      let t = sameAnswer (measured x) (measured y) in
       let u = sameAnswer ((laidOut x space) .answer) ((laidOut y space) .answer) in
       let v = cellsLike a b (cellsAfter x space) (cellsAfter y space) in
       let w = sameLines ((laidOut x space) .space) ((laidOut y space) .space) (length space) in
-      and-i t (u && (v && w)) (same-answer (measured x) (measured y) (k .alike .measures))
-      (and-i u (v && w) (same-answer ((laidOut x space) .answer) ((laidOut y space) .answer) (k .alike .answers))
+      and-i u (v && w) (same-answer ((laidOut x space) .answer) ((laidOut y space) .answer) (k .alike .answers))
       (and-i v w (cells-like (cellsAfter x space) (cellsAfter y space) (k .alike .spaces))
-      (same-lines ((laidOut x space) .space) ((laidOut y space) .space) (k .lines) (length space))))
+      (same-lines ((laidOut x space) .space) ((laidOut y space) .space) (k .lines) (length space)))

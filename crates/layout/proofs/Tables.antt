@@ -23,7 +23,7 @@ use Rattle.layout.specs.Routines.{fileToken, formatFile, queryListToken,
 use Rattle.layout.specs.FormatNode.{armsOf, routines, routineOf, formatNode}
 use Rattle.layout.specs.Calls.{formatErrorVerbatim, walk, calls}
 use Rattle.layout.specs.Layout.{doSpacing, step, pieces, written, original, piecesOf, format}
-use Rattle.layout.specs.Outcome.{outcome, measured, laidOut}
+use Rattle.layout.specs.Outcome.{outcome, laidOut}
 use Rattle.layout.specs.CourseSheet.{courseSheet, allRight}
 use Rattle.layout.specs.CallInputs.{allBothAnswer, allAnswered, smallLayouts}
 use Rattle.layout.specs.MaskingNeeds.{pairs, allNeeded, masked, meets, maskedForLayout, meetsForLayout, maskedLayouts, refusedByFour, refusedByFifteen, passNeeded}
@@ -38,5 +38,5 @@ pub record Tables : Type 0 where
   pub passes : T (passNeeded refusedByFour && passNeeded refusedByFifteen)
 
 pub tables : Tables
-unfolding names words same listed isTrailing isWhiteSpace isWhiteByte trimmed trimEnd toUppercase toLowercase tokenText trim trimmedLength writeNewline lead writeToken writeKeyword writeSpace noteSkippedWhitespace takePendingNewline takePendingBlankLine indent dedent writeRaw finish kinds notCarried hasChild countListItems copied headAt commandAt checkOpen checkToken checkedAt readChildren readTape readTree holds characterLength cut firstIllFormed readInput readCall seen noSpaceBefore noSpaceAfter isLineComment emitComment emitToken emitOther isOperator fileToken formatFile queryListToken formatQueryList selectStatementToken formatSelectStatement selectClauseToken formatSelectClause simpleClauseToken formatSimpleClause multiItem listClauseToken listClauseNode listClauseArms formatListClause joinClauseToken formatJoinClause formatSettingsClause formatWithClause commaListToken formatCommaList inlineCommaListToken formatInlineCommaList binaryToken formatBinaryExpression unaryToken formatUnaryExpression functionCallToken formatFunctionCall caseWord caseToken formatCaseExpression whenWord whenToken formatWhenClause subqueryToken formatSubquery parenListToken formatParenList bracketListToken formatBracketList braceListToken formatBraceList dataTypeToken formatDataType spaceAfter inlineNode nameBefore inlineTightParensToken formatInlineTightParens inlineToken formatInline formatInlineNoSpaces passthroughToken formatPassthrough alterCommandListToken formatAlterCommandList unionToken formatUnionClause armsOf routines routineOf formatNode formatErrorVerbatim walk calls doSpacing step pieces written original piecesOf format outcome measured laidOut courseSheet smallLayouts pairs masked maskedForLayout refusedByFour refusedByFifteen
+unfolding names words same listed isTrailing isWhiteSpace isWhiteByte trimmed trimEnd toUppercase toLowercase tokenText trim trimmedLength writeNewline lead writeToken writeKeyword writeSpace noteSkippedWhitespace takePendingNewline takePendingBlankLine indent dedent writeRaw finish kinds notCarried hasChild countListItems copied headAt commandAt checkOpen checkToken checkedAt readChildren readTape readTree holds characterLength cut firstIllFormed readInput readCall seen noSpaceBefore noSpaceAfter isLineComment emitComment emitToken emitOther isOperator fileToken formatFile queryListToken formatQueryList selectStatementToken formatSelectStatement selectClauseToken formatSelectClause simpleClauseToken formatSimpleClause multiItem listClauseToken listClauseNode listClauseArms formatListClause joinClauseToken formatJoinClause formatSettingsClause formatWithClause commaListToken formatCommaList inlineCommaListToken formatInlineCommaList binaryToken formatBinaryExpression unaryToken formatUnaryExpression functionCallToken formatFunctionCall caseWord caseToken formatCaseExpression whenWord whenToken formatWhenClause subqueryToken formatSubquery parenListToken formatParenList bracketListToken formatBracketList braceListToken formatBraceList dataTypeToken formatDataType spaceAfter inlineNode nameBefore inlineTightParensToken formatInlineTightParens inlineToken formatInline formatInlineNoSpaces passthroughToken formatPassthrough alterCommandListToken formatAlterCommandList unionToken formatUnionClause armsOf routines routineOf formatNode formatErrorVerbatim walk calls doSpacing step pieces written original piecesOf format outcome laidOut courseSheet smallLayouts pairs masked maskedForLayout refusedByFour refusedByFifteen
 tables = record { sheet = tt; refusals = tt; layouts = tt; conditions = tt; met = tt; masked = tt; passes = tt }

@@ -15,7 +15,7 @@ use Rattle.tape.specs.Call.{readCall}
 use Rattle.tape.proofs.Trees.{tokens-fit}
 use Rattle.tape.proofs.Acceptance.{accepted-call, same-reading}
 use Rattle.layout.specs.Layout.{Version, original, format}
-use Rattle.layout.specs.Outcome.{Outcome, refusal, laid, ofRead, configOf, outcome, measured, fitted, laidOut}
+use Rattle.layout.specs.Outcome.{Outcome, refusal, laid, ofRead, configOf, outcome, fitted, laidOut}
 use Rattle.layout.specs.Masking.{MaskedPair, MaskedPairForLayout, fittedCells, cellsAfter, SameLines, Alike, AlikeByLines}
 use Rattle.layout.specs.SpanStarts.{SpansStart}
 use Rattle.layout.proofs.PieceStarts.{spans-start}
@@ -56,14 +56,13 @@ module _ (a b : Text) where
   OutcomesLike (laid cs) (laid ds) = Like a b cs ds
 
   alike : (x y : Outcome) → OutcomesLike x y → (space : List ℕ) → Alike a b x y space
-  unfolding measured laidOut
+  unfolding laidOut
   alike (refusal f p) (refusal g q) h space =
-      record { measures = rw (h .0, h .1); answers = rw (h .0, h .1); spaces = like-self a b (fixed space); lines = λ w i. refl }
+      record { answers = rw (h .0, h .1); spaces = like-self a b (fixed space); lines = λ w i. refl }
   alike (refusal f p) (laid ds) h space = absurd h
   alike (laid cs) (refusal g q) h space = absurd h
   alike (laid cs) (laid ds) h space =
       record {
-        measures = rw l;
         answers = rw l (same-answer (leb (length ds) (length space)));
         spaces = spaces;
         lines = λ w. subst₂ SameLines (cells-after (laid cs) space) (cells-after (laid ds) space) (like-lines w (cellsAfter (laid cs) space) (cellsAfter (laid ds) space) spaces);

@@ -1,4 +1,5 @@
--- Both calls on the small inputs of the refusals, which stand in tape; and the small inputs that need a layout: 13, and lengths.
+-- The call on the small inputs of the refusals, which stand in tape, in no space and in some; and the small inputs that need a layout: 13, and
+-- lengths.
 use Prim.Native.Nat.{ℕ}
 use mathlib.Core.Bool.{Bool, true, cond, _&&_}
 use mathlib.Core.List.{List, [], _∷_, _++_}
@@ -8,17 +9,20 @@ use Rattle.keywords.specs.Words.{bytes, same}
 use Rattle.tape.specs.Kinds
 use Rattle.tape.specs.ReadingInputs.{SmallInput, command, close}
 use Rattle.layout.specs.Layout.{original}
-use Rattle.layout.specs.Outcome.{Outcome, answers, outcome, measured, laidOut}
+use Rattle.layout.specs.Outcome.{Outcome, answers, outcome, laidOut, numberIn}
 use Rattle.layout.specs.CourseSheet.{tapeOf, treeB}
 
 -- ── tape's rows
 
--- refused by both calls, with the number and the place, and three lent bytes stay as they are; or accepted, where the number is 0
+-- refused in no space and in three bytes, with the number and the place, and the three bytes stay as they are; or accepted, where the number is
+-- 0, and no space names the same length
 abbrev pub bothAnswer : Outcome → ℕ → ℕ → Bool
 bothAnswer o number place =
+    let none = (laidOut o []) .answer in
     let after = laidOut o (7 ∷ 8 ∷ 9 ∷ []) in
-    cond (eqb number 0) (eqb ((measured o) .number) 0 && eqb (after .answer .number) 0)
-    (answers (measured o) number place && answers (after .answer) number place && same (after .space) (7 ∷ 8 ∷ 9 ∷ []))
+    let needed = after .answer .value in
+    cond (eqb number 0) (eqb (after .answer .number) 0 && answers none (numberIn 0 needed) needed)
+    (answers none number place && answers (after .answer) number place && same (after .space) (7 ∷ 8 ∷ 9 ∷ []))
 
 abbrev pub allBothAnswer : List SmallInput → Bool
 allBothAnswer [] = true
@@ -26,7 +30,8 @@ allBothAnswer (s ∷ ss) = bothAnswer (outcome original (s .width) (s .case) (s 
 
 -- ── laid out, or 13
 
--- a call that is accepted: measuring answers 0 and the needed length; laying out into the space answers the number and that length
+-- a call that 1 to 12, 15 and 16 let pass: in the space it answers the number and the needed length, and so it does in no space, with 13 where
+-- some byte is needed
 pub record LayoutCall : Type 0 where
   pub text : List ℕ
   pub tape : List ℕ
@@ -40,7 +45,7 @@ abbrev pub answered : LayoutCall → Bool
 answered c =
     let o = outcome original 4 1 (c .text) (c .tape) in
     let r = laidOut o (c .space) in
-    answers (measured o) 0 (c .needed) && answers (r .answer) (c .number) (c .needed) && same (r .space) (c .after)
+    answers ((laidOut o []) .answer) (numberIn 0 (c .needed)) (c .needed) && answers (r .answer) (c .number) (c .needed) && same (r .space) (c .after)
 
 abbrev pub allAnswered : List LayoutCall → Bool
 allAnswered [] = true
@@ -54,6 +59,10 @@ abbrev pub callB : ℕ → ℕ → List ℕ → LayoutCall
 callB n number after =
     record { text = bytes "select a,b from t"; tape = tapeOf treeB; needed = 27; space = replicate n 7; number = number; after = after }
 
+-- a number of two blanks
+abbrev pub blanks : List ℕ
+blanks = command 1 Kinds.ColumnReference 0 2 ++ command 2 Kinds.Number 0 2 ++ close
+
 unfoldable pub smallLayouts : List LayoutCall
 smallLayouts =
     -- 26 and 27 bytes for B, and three more, which stay
@@ -62,4 +71,8 @@ smallLayouts =
     callB 30 0 (layoutB ++ replicate 3 7) ∷
     -- the text of the example job
     record { text = 97 ∷ []; tape = command 1 Kinds.Error 0 1 ++ close; needed = 2; space = 7 ∷ 7 ∷ []; number = 0; after = 97 ∷ 10 ∷ [] } ∷
+    -- no byte is needed, so that none of space is enough: a File with no child, and two blanks, which are written and trimmed away
+    record { text = []; tape = command 1 Kinds.File 0 0 ++ close; needed = 0; space = []; number = 0; after = [] } ∷
+    record { text = 32 ∷ 32 ∷ []; tape = blanks; needed = 0; space = []; number = 0; after = [] } ∷
+    record { text = 32 ∷ 32 ∷ []; tape = blanks; needed = 0; space = 7 ∷ 7 ∷ []; number = 0; after = 7 ∷ 7 ∷ [] } ∷
     []

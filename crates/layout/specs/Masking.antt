@@ -18,7 +18,7 @@ use Rattle.tape.specs.Kinds.{StringToken, QuotedIdentifier}
 use Rattle.tape.specs.Tree.{Children, done, token, node, Tree, copied, EachToken, EachNode}
 use Rattle.tape.specs.Tape.{got}
 use Rattle.tape.specs.Call.{letPass, readCall}
-use Rattle.layout.specs.Outcome.{Outcome, refusal, laid, measured, laidOut}
+use Rattle.layout.specs.Outcome.{Outcome, refusal, laid, laidOut}
 
 -- ── tokens and nodes of the tree, written or not (`EachToken`, `EachNode` of tape)
 
@@ -165,11 +165,9 @@ cellsAfter (laid cs) space = fittedCells (leb (length cs) (length space)) cs spa
 abbrev pub SameLines : List ℕ → List ℕ → Type 0
 SameLines xs ys = (i : ℕ) → eqb (getD xs i 0) 10 ≡ eqb (getD ys i 0) 10
 
--- two calls on one tape, for the texts a and b, that end in x and y; both layout calls are lent the same space
+-- two calls on one tape, for the texts a and b, that end in x and y; both are lent the same space, which has no byte where they measure
 pub record Alike (a b : Text) (x y : Outcome) (space : List ℕ) : Type 0 where
-  -- measuring: equal answers
-  pub measures : measured x ≡ measured y
-  -- laying out: equal answers; each byte has the same origin, and is the same wherever that is none or a place where the texts agree
+  -- equal answers; each byte has the same origin, and is the same wherever that is none or a place where the texts agree
   pub answers : (laidOut x space) .answer ≡ (laidOut y space) .answer
   pub spaces : Like a b (cellsAfter x space) (cellsAfter y space)
   -- line for line, where newlines stand at the same places of both texts

@@ -9,7 +9,7 @@ use Rattle.context.specs.Cells.{Text, Origin, made, from, Cell}
 use Rattle.tape.specs.declared.Head.{Head}
 use Rattle.tape.specs.Tree.{Children, done, token, node, Tree, copied, EachToken}
 use Rattle.layout.specs.declared.Answer.{Answer}
-use Rattle.layout.specs.Outcome.{Outcome, answers, measured, laidOut}
+use Rattle.layout.specs.Outcome.{Outcome, answers, laidOut}
 use Rattle.layout.specs.Masking.{SomeToken, EachCopied, quoted, Holds, charactersOf, firstLength, lastLength, lastIsWhite, StrictlyInside, Differ, EndsInWhiteSpace, cellsAfter}
 
 -- ── the conditions, but for what 4, 15 and 16 let pass
@@ -116,6 +116,5 @@ sameLines xs ys (suc n) = bothOrNeither (eqb (getD xs n 0) 10) (eqb (getD ys n 0
 
 abbrev pub alikeByLines : Text → Text → Outcome → Outcome → List ℕ → Bool
 alikeByLines a b x y space =
-    sameAnswer (measured x) (measured y)
-    && (sameAnswer ((laidOut x space) .answer) ((laidOut y space) .answer)
-    && (cellsLike a b (cellsAfter x space) (cellsAfter y space) && sameLines ((laidOut x space) .space) ((laidOut y space) .space) (length space)))
+    sameAnswer ((laidOut x space) .answer) ((laidOut y space) .answer)
+    && (cellsLike a b (cellsAfter x space) (cellsAfter y space) && sameLines ((laidOut x space) .space) ((laidOut y space) .space) (length space))

@@ -1,6 +1,6 @@
--- The two calls: what they answer, and what the output space holds afterwards.
+-- The call: what it answers, and what the output space holds afterwards. To measure is to call with an output space of 0 bytes.
 use Prim.Native.Nat.{ℕ}
-use mathlib.Core.Bool.{Bool, true, false, _&&_}
+use mathlib.Core.Bool.{Bool, true, false, cond, _&&_, _||_}
 use mathlib.Core.List.{List, _++_}
 use lib.ListN.{length, drop}
 use lib.Dec.{leb, eqb}
@@ -37,11 +37,6 @@ answer n v = record { number = n; value = v }
 abbrev pub answers : Answer → ℕ → ℕ → Bool
 answers a n v = eqb (a .number) n && eqb (a .value) v
 
--- measuring: the needed length
-unfoldable pub measured : Outcome → Answer
-measured (refusal f p) = answer (number f) p
-measured (laid cs) = answer 0 (length cs)
-
 -- an answer, and the output space afterwards
 pub record Result : Type 0 where
   pub answer : Answer
@@ -52,7 +47,15 @@ abbrev pub fitted : Bool → List Cell → List ℕ → Result
 fitted true cs space = record { answer = answer 0 (length cs); space = bytesOf cs ++ drop (length cs) space }
 fitted false cs space = record { answer = answer 13 (length cs); space = space }
 
--- laying out
+-- what the call makes of an outcome
 unfoldable pub laidOut : Outcome → List ℕ → Result
 laidOut (refusal f p) space = record { answer = answer (number f) p; space = space }
 laidOut (laid cs) space = fitted (leb (length cs) (length space)) cs space
+
+-- 0 where a space of so many bytes holds the needed ones, else 13
+abbrev pub numberIn : ℕ → ℕ → ℕ
+numberIn room needed = cond (leb needed room) 0 13
+
+-- 0 or 13: the answer's value is the needed length
+abbrev pub namesLength : Answer → Bool
+namesLength a = eqb (a .number) 0 || eqb (a .number) 13

@@ -2,7 +2,6 @@
 use book::Tally;
 use book::report_from;
 use formatter::layout;
-use formatter::measure;
 use keywords::Word;
 use keywords::word_of;
 use layout::Answer;
@@ -11,16 +10,9 @@ ghost use lib.Dec.{ltb};
 ghost use Rattle.book.specs.Report.{Called, reported};
 ghost use Rattle.keywords.specs.Words.{wordOf};
 ghost use Rattle.layout.specs.Layout.{original};
-ghost use Rattle.layout.specs.Outcome.{Result, laidOut, measured, outcome};
+ghost use Rattle.layout.specs.Outcome.{Result, laidOut, outcome};
 ghost use Rattle.qdesk.specs.TallyNumbers.{tallyOf};
 ghost use Rattle.qdesk.specs.WordAnswer.{wordAnswer};
-
-#[no_mangle]
-pub extern "C" fn qdesk_measure(text: &[u8], tape: &[u8], width: u64, case: u64) -> Answer
-    ensures { λ r. ⌜ r ≡ measured (outcome original width case (now (text .entry)) (now (tape .entry))) ⌝ }
-{
-    measure(text, tape, width, case)
-}
 
 #[no_mangle]
 pub extern "C" fn qdesk_layout(

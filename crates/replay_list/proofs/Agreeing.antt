@@ -9,8 +9,8 @@ use lib.Seq.{drop-length}
 use lib.ListN.{length, getD, drop, replicate, length-append, length-replicate, getD-replicate}
 use Rattle.keywords.specs.Words.{same}
 use Rattle.layout.specs.declared.Answer.{Answer}
-use Rattle.layout.specs.Outcome.{answers, Outcome, Result, measured, laidOut}
-use Rattle.replay_list.specs.Agreement.{callsAgree, sameResult, measuredNumber}
+use Rattle.layout.specs.Outcome.{answers, Outcome, Result, laidOut}
+use Rattle.replay_list.specs.Agreement.{callsAgree, sameResult, noSpaceNumber}
 
 -- the layout, and 255 up to so many bytes
 abbrev pub expected : List ℕ → ℕ → List ℕ
@@ -47,9 +47,10 @@ filled-all i xs out h k e =
     let n : i ≡ length xs = omega arith in
     e ∙ rw (n, drop-length xs) (append-nil (replicate (length xs) 255))
 
--- the three ways through the comparison: m, a and `after` are what the calls answered and left, n is the number that measuring is to answer
-module _ (o : Outcome) (number value : ℕ) (layout : List ℕ) (room : ℕ) (m a : Answer) (start after : List ℕ) (n : ℕ)
-    (hb : start ≡ replicate room 255) (hm : m ≡ measured o) (hl : _≡_ {A = Result} (record { answer = a; space = after }) (laidOut o start)) (hn : n ≡ measuredNumber number) where
+-- the three ways through the comparison: m is what the call answered in no space, a and `after` what the one in the record's space answered and
+-- left, n the number that is due in no space
+module _ (o : Outcome) (number value : ℕ) (layout : List ℕ) (room : ℕ) (m a : Answer) (left start after : List ℕ) (n : ℕ)
+    (hb : start ≡ replicate room 255) (hm : _≡_ {A = Result} (record { answer = m; space = left }) (laidOut o [])) (hl : _≡_ {A = Result} (record { answer = a; space = after }) (laidOut o start)) (hn : n ≡ noSpaceNumber number value) where
   laid-in-blank : _≡_ {A = Result} (record { answer = a; space = after }) (laidOut o (replicate room 255))
   laid-in-blank = subst (λ (s : List ℕ). _≡_ {A = Result} (record { answer = a; space = after }) (laidOut o s)) hb hl
 
@@ -58,16 +59,16 @@ module _ (o : Outcome) (number value : ℕ) (layout : List ℕ) (room : ℕ) (m 
   comparison r h =
       h
       ∙ ap (λ (k : ℕ). answers m k value && sameResult (record { answer = a; space = after }) number value layout) hn
-      ∙ ap (λ (x : Answer). answers x (measuredNumber number) value && sameResult (record { answer = a; space = after }) number value layout) hm
-      ∙ ap (λ (x : Result). answers (measured o) (measuredNumber number) value && sameResult x number value layout) laid-in-blank
+      ∙ ap (λ (x : Result). answers (x .answer) (noSpaceNumber number value) value && sameResult (record { answer = a; space = after }) number value layout) hm
+      ∙ ap (λ (x : Result). answers ((laidOut o []) .answer) (noSpaceNumber number value) value && sameResult x number value layout) laid-in-blank
 
   by-parts : (r p q s : Bool) → p ≡ answers m n value → q ≡ answers a number value → s ≡ same after (expected layout (length after)) → r ≡ (p && (q && s)) → r ≡ callsAgree o number value layout room
   by-parts r p q s hp hq hs h =
       comparison r (h ∙ ap (λ (x : Bool). x && (q && s)) hp ∙ ap (λ (x : Bool). answers m n value && (x && s)) hq ∙ ap (λ (x : Bool). answers m n value && (answers a number value && x)) hs)
 
   module _ (p : Bool) (hp : p ≡ answers m n value) where
-    pub differs-measured : not p ≡ true → false ≡ callsAgree o number value layout room
-    differs-measured t =
+    pub differs-in-none : not p ≡ true → false ≡ callsAgree o number value layout room
+    differs-in-none t =
         by-parts false p (answers a number value) (same after (expected layout (length after))) hp refl refl
         (rw (not-true p t))
 

@@ -1,6 +1,5 @@
-// Whether both calls answer what a record says, and leave the output space as it says.
+// Whether the call answers what a record says, in no space and in the record's, and leaves the output space as it says.
 use formatter::layout;
-use formatter::measure;
 use layout::Answer;
 ghost use mathlib.Core.Path.{_≡_};
 ghost use Prim.Native.Nat.{_-_};
@@ -9,7 +8,7 @@ ghost use lib.ListN.{length, getD, replicate};
 ghost use Rattle.keywords.specs.Words.{same};
 ghost use Rattle.layout.specs.Layout.{original};
 ghost use Rattle.layout.specs.Outcome.{answers, outcome};
-ghost use Rattle.replay_list.specs.Agreement.{callsAgree, measuredNumber};
+ghost use Rattle.replay_list.specs.Agreement.{callsAgree, noSpaceNumber};
 
 // The space before a call.
 fn blank(out: &mut [u8])
@@ -31,14 +30,17 @@ fn same_answer(a: Answer, number: u64, value: u64) -> bool
     false
 }
 
-// Measuring asks for no space, so it answers 0 where laying out answers 13.
-fn measured_number(number: u64) -> u64
-    ensures { λ r. ⌜ r ≡ measuredNumber number ⌝ }
+// In no space a layout is refused with 13, unless it needs no byte.
+fn no_space_number(number: u64, value: u64) -> u64
+    ensures { λ r. ⌜ r ≡ noSpaceNumber number value ⌝ }
 {
-    if number == 13 {
+    if number != 0 {
+        return number;
+    }
+    if value <= 0 {
         return 0;
     }
-    number
+    13
 }
 
 // What is expected at a place of the space: behind the layout nothing is written.
@@ -67,7 +69,7 @@ fn same_space(out: &[u8], expected: &[u8]) -> bool
     true
 }
 
-// Makes both calls, with an output space as long as `out`, and compares both answers and every byte of the space.
+// Makes the call in no space and in one as long as `out`, and compares both answers and every byte of the space.
 pub(crate) fn calls_agree(
     text: &[u8],
     tape: &[u8],
@@ -80,10 +82,11 @@ pub(crate) fn calls_agree(
 ) -> bool
     ensures { λ r. ⌜ r ≡ callsAgree (outcome original width case (now (text .entry)) (now (tape .entry))) number value (now (expected .entry)) (length (now (out .entry))) ⌝ }
 {
+    let mut none = [0u8; 1];
+    let in_no_space = layout(text, tape, width, case, &mut none[..0]);
     blank(out);
-    let measured = measure(text, tape, width, case);
     let answer = layout(text, tape, width, case, out);
-    if !same_answer(measured, measured_number(number), value) {
+    if !same_answer(in_no_space, no_space_number(number, value), value) {
         return false;
     }
     if !same_answer(answer, number, value) {

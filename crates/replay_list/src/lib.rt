@@ -1,4 +1,5 @@
-// A stored list of calls, replayed: both calls of each record are made and compared with the record, and the line is put that says how it went.
+// A stored list of calls, replayed: the call of each record is made, in no space and in the record's, and compared with it, and the line is put that
+// says how it went.
 mod agree;
 mod line;
 mod record;

@@ -1,20 +1,17 @@
--- From two calls to the masking rule.
+-- From two calls to the masking rule, and to one length.
 use mathlib.Core.Path.{_≡_, sym, ap, subst₂, _∙_}
-use mathlib.Core.List.{List, []}
+use mathlib.Core.List.{List}
 use Prim.Native.Nat.{ℕ}
 use Rattle.context.specs.Cells.{Text}
 use Rattle.layout.specs.Layout.{original}
-use Rattle.layout.specs.Outcome.{Result, laidOut, measured, outcome}
+use Rattle.layout.specs.Outcome.{Result, laidOut, outcome}
 use Rattle.layout.specs.Masking.{SameLines}
 use Rattle.layout.proofs.TwoCalls.{masking-original, cells-after}
+use Rattle.layout.proofs.OneLength.{one-value}
 use Rattle.two_calls.specs.declared.Answers.{Answers}
-use Rattle.two_calls.specs.Both.{MeasuresBoth, LaysOutBoth}
+use Rattle.two_calls.specs.Both.{LaysOutBoth, LaysOutTwice}
 
 module _ (a b : Text) (tape : List ℕ) (width case : ℕ) (r : Answers) where
-  pub measures-both : r .first ≡ measured (outcome original width case a tape) → r .second ≡ measured (outcome original width case b tape)
-      → MeasuresBoth a b tape width case r
-  measures-both p q = record { first = p; second = q; masked = λ m. p ∙ masking-original width case a b tape m [] .measures ∙ sym q }
-
   pub lays-out-both : (xs us : List ℕ) {ys zs : List ℕ}
       → _≡_ {A = Result} (record { answer = r .first; space = ys }) (laidOut (outcome original width case a tape) xs)
       → _≡_ {A = Result} (record { answer = r .second; space = zs }) (laidOut (outcome original width case b tape) us)
@@ -40,3 +37,18 @@ module _ (a b : Text) (tape : List ℕ) (width case : ℕ) (r : Answers) where
               },
             );
       }
+
+module _ (text : Text) (tape : List ℕ) (width case : ℕ) (r : Answers) where
+  pub lays-out-twice : (xs us : List ℕ) {ys zs : List ℕ}
+      → _≡_ {A = Result} (record { answer = r .first; space = ys }) (laidOut (outcome original width case text tape) xs)
+      → _≡_ {A = Result} (record { answer = r .second; space = zs }) (laidOut (outcome original width case text tape) us)
+      → LaysOutTwice text tape width case xs us r ys zs
+  lays-out-twice xs us p q =
+      record {
+        first = p;
+        second = q;
+        oneValue = value p ∙ one-value (outcome original width case text tape) xs us ∙ sym (value q);
+      }
+    where
+      value : {x y : Result} → x ≡ y → x .answer .value ≡ y .answer .value
+      value e = ap (λ (z : Result). z .answer .value) e

@@ -1,15 +1,16 @@
-//! One call of the port held to the oracle: both numbers of both answers, and every byte of the output space and of the margins around it.
+//! One call of the port held to the oracle: both numbers of its answer, and every byte of the output space and of the margins around it.
 
 pub mod map;
+pub mod report;
 
-use crate::{layout, measure, word};
+use crate::{layout, word};
 use oracle::answers::{accepted_tree, answer, formatted, Answer, Answered, Case};
 use oracle::cases::{make, Class, Made};
 use oracle::masking::{claim, Pair};
 use oracle::words;
 
-/// The classes whose cases are calls that the library has.
-pub const CLASSES: [Class; 12] = [
+/// The classes whose cases are calls that the library has, or books for it.
+pub const CLASSES: [Class; 16] = [
     Class::Parser,
     Class::Wild,
     Class::Damaged,
@@ -22,6 +23,10 @@ pub const CLASSES: [Class; 12] = [
     Class::Utf8Masked,
     Class::Utf8Limits,
     Class::Words,
+    Class::Books,
+    Class::BooksDamaged,
+    Class::BooksMasked,
+    Class::BooksLimits,
 ];
 
 /// The cells before and after a space that no call may touch.
@@ -29,6 +34,9 @@ const MARGIN: usize = 16;
 
 /// The case of this seed, class and index on both sides; the error says what differs.
 pub fn compare(seed: u64, class: Class, index: u64) -> Result<(), String> {
+    if report::CLASSES.contains(&class) {
+        return report::compare(seed, class, index, &crate::report);
+    }
     let differs = |what| format!("seed {seed}, class {class:?}, index {index}: {what}");
     match make(seed, class, index) {
         Made::Call(case) => call(&case),
@@ -36,14 +44,13 @@ pub fn compare(seed: u64, class: Class, index: u64) -> Result<(), String> {
         Made::Word(bytes) => same_word(&bytes),
         Made::Job(_) => panic!("a job is no call"),
         Made::MapCall(_) | Made::MapPair(_) => panic!("the library has no map call yet"),
+        Made::Book(_) | Made::BookPair(_) => panic!("a book is no call"),
     }
     .map_err(differs)
 }
 
-/// Measuring, and laying out in the case's own space and in spaces of L, L-1, L+5 and 0 bytes.
+/// The call in the case's own space and in spaces of L, L-1, L+5 and 0 bytes.
 fn call(case: &Case) -> Result<(), String> {
-    let expected = answer(case).measured;
-    equal("measuring", measure(&case.text, &case.tape, case.width, case.case), expected)?;
     in_space(case)?;
     for length in about(needed_bytes(case)) {
         in_space(&Case { space: pattern(length), ..case.clone() })?;
@@ -74,25 +81,19 @@ fn pattern(length: usize) -> Vec<u8> {
 
 fn in_space(case: &Case) -> Result<(), String> {
     let expected = answer(case);
-    let (got, space) = laid_out(case)?;
-    equal("laying out", got, expected.laid_out)?;
-    if space != expected.space {
+    let got = answered(case)?;
+    equal(&format!("laying out in {} bytes", case.space.len()), got.laid_out, expected.laid_out)?;
+    if got.space != expected.space {
         return Err(format!("the space of {} bytes afterwards", case.space.len()));
     }
     Ok(())
 }
 
-/// What both calls of the port answer, and the space afterwards; the error is that a margin was touched.
+/// What the port answers, and the space afterwards; the error is that a margin was touched.
 pub fn answered(case: &Case) -> Result<Answered, String> {
-    let measured = measure(&case.text, &case.tape, case.width, case.case);
-    laid_out(case).map(|(laid_out, space)| Answered { measured, laid_out, space })
-}
-
-/// What laying out answers, and the space afterwards.
-fn laid_out(case: &Case) -> Result<(Answer, Vec<u8>), String> {
     let mut space = Lent::new(&case.space, pattern(MARGIN));
-    let got = layout(&case.text, &case.tape, case.width, case.case, space.cells());
-    space.returned("bytes").map(|space| (got, space))
+    let laid_out = layout(&case.text, &case.tape, case.width, case.case, space.cells());
+    space.returned("bytes").map(|space| Answered { laid_out, space })
 }
 
 /// A space that a call is lent, between two margins.
@@ -114,11 +115,13 @@ impl<T: Clone + PartialEq> Lent<T> {
 
     /// The space afterwards; the error is that a margin was touched.
     fn returned(mut self, cells: &str) -> Result<Vec<T>, String> {
-        let space = self.cells().to_vec();
-        if self.memory.starts_with(&self.margin) && self.memory.ends_with(&self.margin) {
-            return Ok(space);
+        let is_kept = self.memory.starts_with(&self.margin) && self.memory.ends_with(&self.margin);
+        self.memory.truncate(self.memory.len() - self.margin.len());
+        self.memory.drain(..self.margin.len());
+        if is_kept {
+            return Ok(self.memory);
         }
-        Err(format!("the margins of a space of {} {cells}", space.len()))
+        Err(format!("the margins of a space of {} {cells}", self.memory.len()))
     }
 }
 

@@ -19,11 +19,7 @@ mod library;
 mod present {
     use super::library;
     use oracle::answers::Answer;
-
-    /// The port's measuring.
-    pub fn measure(text: &[u8], tape: &[u8], width: u64, case: u64) -> Answer {
-        answer(library::measure(text, tape, width, case))
-    }
+    use oracle::job::BUFFER;
 
     /// The port's laying out.
     pub fn layout(text: &[u8], tape: &[u8], width: u64, case: u64, out: &mut [u8]) -> Answer {
@@ -33,6 +29,11 @@ mod present {
     /// What the port says of a word.
     pub fn word(word: &[u8]) -> Answer {
         answer(library::word(word))
+    }
+
+    /// The port's report over a book.
+    pub fn report(book: &[u8], more: u64, tally: &mut [u64; 4], work: &mut [u8; BUFFER], out: &mut [u8]) -> usize {
+        library::report(book, more, tally, work, out)
     }
 
     fn answer(given: library::Answer) -> Answer {
@@ -48,16 +49,17 @@ pub use present::*;
 mod absent {
     use super::HINT;
     use oracle::answers::Answer;
-
-    pub fn measure(_text: &[u8], _tape: &[u8], _width: u64, _case: u64) -> Answer {
-        panic!("{HINT}")
-    }
+    use oracle::job::BUFFER;
 
     pub fn layout(_text: &[u8], _tape: &[u8], _width: u64, _case: u64, _out: &mut [u8]) -> Answer {
         panic!("{HINT}")
     }
 
     pub fn word(_word: &[u8]) -> Answer {
+        panic!("{HINT}")
+    }
+
+    pub fn report(_book: &[u8], _more: u64, _tally: &mut [u64; 4], _work: &mut [u8; BUFFER], _out: &mut [u8]) -> usize {
         panic!("{HINT}")
     }
 }

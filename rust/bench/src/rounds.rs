@@ -15,10 +15,10 @@ pub enum Side {
     ReadyTree,
     /// The oracle's reading of text and tape, with all refusals, then the source's `format`.
     FromTape,
-    /// The port's laying out: check, measuring and writing.
+    /// The port's laying out: check, finding the length, and writing.
     Layout,
-    /// The port's measuring alone, which no table has; for a profiler.
-    Measure,
+    /// The port's call with an output space of 0 bytes, which finds the length and writes nothing; no table has it; for a profiler.
+    NoSpace,
 }
 
 /// The sides that take turns.
@@ -83,7 +83,7 @@ impl Queries {
             Side::ReadyTree => cases.iter().zip(&self.ready[queries]).for_each(|(case, ready)| ready_tree(case, ready)),
             Side::FromTape => cases.iter().for_each(from_tape),
             Side::Layout => cases.iter().for_each(|case| layout(case, &mut self.out)),
-            Side::Measure => cases.iter().for_each(measure),
+            Side::NoSpace => cases.iter().for_each(no_space),
         }
     }
 
@@ -137,8 +137,8 @@ fn layout(case: &Case, out: &mut [u8]) {
 }
 
 #[inline(never)]
-fn measure(case: &Case) {
-    black_box(crate::measure(black_box(&case.text), &case.tape, case.width, case.case));
+fn no_space(case: &Case) {
+    layout(case, &mut []);
 }
 
 /// Nanoseconds for a token.

@@ -4,10 +4,11 @@ use command_line::rules;
 
 const COMPARE: &str = env!("CARGO_BIN_EXE_compare");
 const FORMAT: &str = env!("CARGO_BIN_EXE_format");
-const PROGRAMS: [(&str, &str); 4] = [
+const PROGRAMS: [(&str, &str); 5] = [
     (COMPARE, "compare"),
     (FORMAT, "format"),
     (env!("CARGO_BIN_EXE_keywords"), "keywords"),
+    (env!("CARGO_BIN_EXE_reports"), "reports"),
     (env!("CARGO_BIN_EXE_stack"), "stack"),
 ];
 

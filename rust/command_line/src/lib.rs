@@ -1,9 +1,9 @@
-//! What the programs of the workspace do alike: arguments, `--help` and `--version`, output that is not lost, messages and statuses.
+//! What the programs of the workspace do alike: arguments, `--help` and `--version`, input, output that is not lost, messages and statuses.
 
 pub mod rules;
 
 use std::ffi::OsString;
-use std::io::{self, Write};
+use std::io::{self, Read, Write};
 use std::process::ExitCode;
 
 /// A program, as its `--help` and its messages name it.
@@ -72,6 +72,13 @@ impl Program {
             Failure::NotWritten(error) => (1, format!("standard output can't be written: {error}")),
         }
     }
+}
+
+/// All of standard input.
+pub fn input() -> Result<Vec<u8>, String> {
+    let mut bytes = Vec::new();
+    io::stdin().read_to_end(&mut bytes).map_err(|error| format!("the input cannot be read: {error}"))?;
+    Ok(bytes)
 }
 
 fn text((argument, place): (OsString, usize)) -> Result<String, String> {

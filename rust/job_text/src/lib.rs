@@ -1,5 +1,6 @@
-//! A job's readable form, which examples/README.md describes, to the job's bytes and back.
+//! The readable form of a job and of a book of jobs, which examples/README.md describes, to bytes and back.
 
+pub mod book;
 mod job;
 pub mod kinds;
 mod line;

@@ -1,8 +1,8 @@
 //! The program between a job's readable form and its bytes, on standard input and output.
 
-use command_line::{Failure, Program};
+use command_line::{input, Failure, Program};
 use job_text::Job;
-use std::io::{self, BufWriter, Read, Write};
+use std::io::{BufWriter, Write};
 use std::process::ExitCode;
 
 const USAGE: &str = "usage: job to-bytes < FORM > JOB   writes the job that a readable form spells
@@ -31,10 +31,4 @@ fn run(arguments: &[&str], out: &mut dyn Write) -> Result<(), Failure> {
         }
         _ => Err(Failure::BadCall),
     }
-}
-
-fn input() -> Result<Vec<u8>, String> {
-    let mut bytes = Vec::new();
-    io::stdin().read_to_end(&mut bytes).map_err(|error| format!("the input cannot be read: {error}"))?;
-    Ok(bytes)
 }

@@ -21,6 +21,19 @@ pub fn job(form: &[u8]) -> Result<Job, Fault> {
     Ok(Job { width, case, text, tape, rest: rest.unwrap_or_default() })
 }
 
+/// The bytes of a job that is spelt by `bytes` lines; none where the first line is another.
+pub fn bytes(form: &[u8]) -> Result<Option<Vec<u8>>, Fault> {
+    let mut lines = Lines::of(form)?;
+    if lines.lines.peek().is_none_or(|line| line.word() != "bytes") {
+        return Ok(None);
+    }
+    let mut bytes = Vec::new();
+    while lines.lines.peek().is_some() {
+        bytes.extend(lines.setting("bytes", Line::hexadecimal)?);
+    }
+    Ok(Some(bytes))
+}
+
 /// Offsets have four bytes, and no text is longer than its form.
 fn check_size(length: usize) -> Result<(), Fault> {
     match u32::try_from(length) {

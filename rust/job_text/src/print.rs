@@ -6,8 +6,8 @@ use crate::quote::quoted;
 use crate::spans::{worked_out, Span};
 use std::io::{self, Write};
 
-/// Bytes of a `rest` line.
-const REST_LINE: usize = 16;
+/// Bytes of a line that spells bytes.
+const BYTES_OF_A_LINE: usize = 16;
 
 /// Writes a job's readable form line by line. It can be far longer than the job: levels are indented, and texts of tokens may overlap.
 pub fn form(job: &Job, out: &mut dyn Write) -> io::Result<()> {
@@ -112,11 +112,14 @@ impl Printer<'_> {
         if self.depth > 0 && self.job.rest.is_empty() {
             self.line("rest")?;
         }
-        self.job.rest.chunks(REST_LINE).try_for_each(|part| {
-            let bytes: String = part.iter().map(|byte| format!(" {byte:02X}")).collect();
-            self.line(&format!("rest{bytes}"))
-        })
+        byte_lines("rest", &self.job.rest).try_for_each(|line| self.line(&line))
     }
+}
+
+/// The lines that spell these bytes behind a word; none for no byte.
+pub fn byte_lines<'a>(word: &'a str, bytes: &'a [u8]) -> impl Iterator<Item = String> + 'a {
+    let digits = |part: &[u8]| part.iter().map(|byte| format!(" {byte:02X}")).collect::<String>();
+    bytes.chunks(BYTES_OF_A_LINE).map(move |part| format!("{word}{}", digits(part)))
 }
 
 fn kind(operands: &Operands) -> String {

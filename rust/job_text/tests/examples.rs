@@ -1,7 +1,8 @@
-//! The examples: their forms are as the program writes them, and their layouts are the oracle's.
+//! The examples: their forms are as the programs write them, and their layouts and reports are the oracle's.
 
-use job_text::{parse, print};
+use job_text::{book, parse, print};
 use oracle::job::printed;
+use oracle::report::{report, Tally};
 use std::collections::BTreeSet;
 use std::fs;
 use std::path::PathBuf;
@@ -22,8 +23,8 @@ fn file(name: &str, ending: &str) -> String {
 }
 
 #[test]
-fn each_has_a_layout_and_a_line_in_the_readme() {
-    let forms = names(".job.txt");
+fn each_has_what_is_printed_and_a_line_in_the_readme() {
+    let forms = &names(".job.txt") | &names(".book.txt");
     assert!(forms.len() > 30);
     assert_eq!(forms, names(".out"));
     let readme = file("README", ".md");
@@ -51,6 +52,29 @@ fn each_layout_is_the_oracles() {
         let job = parse(file(&name, ".job.txt").as_bytes()).unwrap_or_else(|fault| panic!("{name}: {fault}"));
         assert_eq!(String::from_utf8(printed(&job)).as_deref(), Ok(file(&name, ".out").as_str()), "{name}");
     }
+}
+
+#[test]
+fn each_book_is_as_the_program_writes_it_and_its_report_the_oracles() {
+    assert_eq!(names(".book.txt").len(), 2);
+    for name in names(".book.txt") {
+        let form = file(&name, ".book.txt");
+        let bytes = book::parse(form.as_bytes()).unwrap_or_else(|fault| panic!("{name}: {fault}"));
+        let mut again = Vec::new();
+        book::print(&bytes, &mut again).expect("memory takes what is written");
+        assert!(again == form.as_bytes(), "{name}");
+        if oracle::source::at_hand_for("the reports of the examples") {
+            let printed = report(&bytes, Tally::default()).printed;
+            assert_eq!(String::from_utf8(printed).as_deref(), Ok(file(&name, ".out").as_str()), "{name}");
+        }
+    }
+}
+
+#[test]
+fn a_masked_book_has_the_same_report() {
+    let [first, second] = ["saved-queries", "saved-queries-masked"];
+    assert_ne!(file(first, ".book.txt"), file(second, ".book.txt"));
+    assert_eq!(file(first, ".out"), file(second, ".out"));
 }
 
 #[test]

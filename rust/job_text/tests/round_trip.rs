@@ -27,6 +27,7 @@ fn jobs(class: Class, index: u64) -> Vec<Vec<u8>> {
         Made::Word(_) => panic!("a word is no job"),
         Made::MapCall(case) => vec![write(&case.call)],
         Made::MapPair(pair) => [0, 1].map(|which| write(&pair.calls.case(which))).to_vec(),
+        Made::Book(_) | Made::BookPair(_) => panic!("a book is no job"),
     }
 }
 

@@ -1,4 +1,4 @@
-//! The two calls, measuring and laying out, as documents 01 and 02 (E1) answer them.
+//! The call that lays out, as documents 01 and 02 (E1, E5) answer it.
 
 use crate::source;
 use crate::tape::{self, Node, MOST_BYTES};
@@ -21,22 +21,25 @@ pub struct Answer {
     pub second: u64,
 }
 
-/// What both calls answer, and the output space after laying out.
+/// What the call answers, and the output space afterwards.
 #[derive(Clone, Debug, PartialEq)]
 pub struct Answered {
-    pub measured: Answer,
     pub laid_out: Answer,
     pub space: Vec<u8>,
 }
 
 pub const MOST_WIDTH: u64 = 16;
 
-/// Both calls on one input.
 pub fn answer(case: &Case) -> Answered {
     match formatted(case) {
         Ok(output) => accepted(&output, &case.space),
-        Err(refusal) => Answered { measured: refusal, laid_out: refusal, space: case.space.clone() },
+        Err(refusal) => Answered { laid_out: refusal, space: case.space.clone() },
     }
+}
+
+/// What the call answers in an output space of 0 bytes, which is what documents 00 and 01 call measuring (E5).
+pub fn in_no_space(case: &Case) -> Answer {
+    answer(&Case { space: Vec::new(), ..case.clone() }).laid_out
 }
 
 /// What `format` returns, or the refusal, 13 aside.
@@ -76,11 +79,11 @@ fn refused<T>(number: u64, place: usize) -> Result<T, Answer> {
 
 fn accepted(output: &str, space: &[u8]) -> Answered {
     let needed = output.len();
-    let measured = Answer { number: 0, second: needed as u64 };
+    let laid_out = Answer { number: 0, second: needed as u64 };
     let mut space = space.to_vec();
     let Some(first) = space.get_mut(..needed) else {
-        return Answered { measured, laid_out: Answer { number: 13, ..measured }, space };
+        return Answered { laid_out: Answer { number: 13, ..laid_out }, space };
     };
     first.copy_from_slice(output.as_bytes());
-    Answered { measured, laid_out: measured, space }
+    Answered { laid_out, space }
 }

@@ -10,19 +10,25 @@ pub const HEADER: [u8; 3] = [0x10, 0x11, 0x12];
 
 /// What the program prints for a job.
 pub fn printed(job: &[u8]) -> Vec<u8> {
-    let case = match read(job) {
-        Ok(case) => case,
-        Err(refusal) => return refusal_line(refusal),
-    };
-    let answered = answer(&case);
-    if answered.laid_out.number != 0 {
-        return refusal_line(answered.laid_out);
-    }
-    answered.space[..answered.laid_out.second as usize].to_vec()
+    layout(job).unwrap_or_else(refusal_line)
 }
 
-/// The call that a job asks for, or answer 14.
+/// The layout of a job in the program's output buffer, or the refusal.
+pub fn layout(job: &[u8]) -> Result<Vec<u8>, Answer> {
+    let answered = answer(&read(job)?);
+    match answered.laid_out {
+        Answer { number: 0, second } => Ok(answered.space[..second as usize].to_vec()),
+        refusal => Err(refusal),
+    }
+}
+
+/// The call that a job asks for, lent the program's output buffer, or answer 14.
 pub fn read(job: &[u8]) -> Result<Case, Answer> {
+    call(job).map(|case| Case { space: vec![0; BUFFER], ..case })
+}
+
+/// The call that a job asks for, lent no space, or answer 14.
+pub fn call(job: &[u8]) -> Result<Case, Answer> {
     if job.len() > BUFFER {
         return Err(Answer { number: 14, second: BUFFER as u64 });
     }
@@ -34,7 +40,7 @@ pub fn read(job: &[u8]) -> Result<Case, Answer> {
         tape: tape.to_vec(),
         width: u64::from(width),
         case: u64::from(case),
-        space: vec![0; BUFFER],
+        space: Vec::new(),
     })
 }
 
@@ -64,6 +70,7 @@ fn text_operand(bytes: &[u8]) -> Option<(&[u8], &[u8])> {
     Some(rest.split_at(length))
 }
 
-fn refusal_line(refusal: Answer) -> Vec<u8> {
+/// The line that a program prints for a refusal.
+pub fn refusal_line(refusal: Answer) -> Vec<u8> {
     format!("refused {} at {}\n", refusal.number, refusal.second).into_bytes()
 }

@@ -1,7 +1,7 @@
 //! The oracle: answers to calls and jobs by documents 01 and 02, with the layout made by the original Rust source.
 //!
-//! `answers::answer` answers a call, `map::answer` one that maps its tokens, `words::answer` a word, `job::printed` a job, and
-//! `cases::make` makes inputs for all.
+//! `answers::answer` answers a call, `map::answer` one that maps its tokens, `words::answer` a word, `job::printed` a job,
+//! `report::report` a book of jobs, and `cases::make` makes inputs for all.
 
 pub mod answers;
 pub mod arms;
@@ -14,6 +14,7 @@ pub mod kinds;
 pub mod map;
 pub mod masking;
 pub mod random;
+pub mod report;
 pub mod source;
 pub mod stored;
 pub mod tape;

@@ -1,13 +1,14 @@
-//! The command line of the oracle: prints cases with their answers, or answers a job.
+//! The command line of the oracle: prints cases with their answers, or answers a job or a book.
 
 use command_line::Program;
 use oracle::answers::{accepted_tree, answer, Answer, Case};
 use oracle::cases::{make, Class, Made};
 use oracle::map::{self, MapCase, MapPair, Mapped};
 use oracle::masking::{breaches, claim, Pair};
+use oracle::report::Tally;
 use oracle::stored::{self, names, Record};
 use oracle::tape::{Child, Node, Token};
-use oracle::{arms, job, kinds, source, words};
+use oracle::{arms, job, kinds, report, source, words};
 use std::collections::BTreeSet;
 use std::io::{self, Read};
 use std::process::ExitCode;
@@ -16,13 +17,15 @@ const USAGE: &str = "usage: oracle case SEED CLASS INDEX            prints a cas
        oracle vectors SEED CLASS FIRST COUNT   prints the calls of COUNT cases for a program, a line each
        oracle arms                             prints the arms of the source's routines, which vectors name
        oracle job < FILE                       answers a job as the desk's program does
+       oracle report < FILE                    reports on a book as the report program does
        oracle map < FILE                       prints the job's call with line and column of each token
        oracle stored < FILE                    writes the stored list of the calls that FILE names, a line each
        oracle words                            prints the stored list of words
        oracle source                           says whether the source is at hand, which all of these need
        oracle --help, oracle --version
 CLASS is parser, wild, damaged, jobs, masked, limits, small, utf8, utf8-small, utf8-damaged, utf8-masked,
-utf8-limits, words, map, map-damaged, map-masked or map-limits; the others are numbers from 0 to 2^64-1";
+utf8-limits, words, map, map-damaged, map-masked, map-limits, books, books-damaged, books-masked or books-limits; the
+others are numbers from 0 to 2^64-1";
 
 const PROGRAM: Program = Program { name: "oracle", version: env!("CARGO_PKG_VERSION"), usage: USAGE };
 
@@ -33,6 +36,7 @@ fn main() -> ExitCode {
 fn run(arguments: &[&str]) -> Result<Vec<u8>, String> {
     match arguments {
         ["job"] => answer_job(),
+        ["report"] => report_book(),
         ["map"] => map_job().map(String::into_bytes),
         ["stored"] => stored_list(),
         ["case", seed, class, index] => print_case(seed, class, index).map(String::into_bytes),
@@ -49,24 +53,29 @@ fn source_at_hand() -> Result<(), String> {
 }
 
 fn answer_job() -> Result<Vec<u8>, String> {
-    read_job().map(|bytes| job::printed(&bytes))
+    read_input().map(|bytes| job::printed(&bytes))
+}
+
+fn report_book() -> Result<Vec<u8>, String> {
+    read_input().map(|bytes| report::report(&bytes, Tally::default()).printed)
 }
 
 /// The job's call, lent spaces of the needed lengths, and its map; 14 as the program prints it.
 fn map_job() -> Result<String, String> {
-    let bytes = read_job()?;
+    let bytes = read_input()?;
     Ok(match job::read(&bytes) {
         Ok(call) => map_call_text(&map::with_exact_spaces(call)),
         Err(refusal) => format!("mapped {}\n", numbers(refusal)),
     })
 }
 
-fn read_job() -> Result<Vec<u8>, String> {
+/// A job or a book, whose buffers are of one size.
+fn read_input() -> Result<Vec<u8>, String> {
     source_at_hand()?;
     let mut bytes = Vec::new();
-    // One byte past the buffer tells a job that is too long.
+    // One byte past the buffer tells an input that is too long.
     let input = io::stdin().lock().take(job::BUFFER as u64 + 1).read_to_end(&mut bytes);
-    input.map_err(|error| format!("the job cannot be read: {error}"))?;
+    input.map_err(|error| format!("the input cannot be read: {error}"))?;
     Ok(bytes)
 }
 
@@ -95,6 +104,8 @@ fn print_case(seed: &str, class: &str, index: &str) -> Result<String, String> {
         Made::Word(word) => word_text(&word),
         Made::MapCall(case) => map_call_text(&case),
         Made::MapPair(pair) => map_pair_text(&pair),
+        Made::Book(book) => book_text(&book),
+        Made::BookPair(books) => book_pair_text(&books),
     })
 }
 
@@ -111,7 +122,9 @@ fn print_vectors(seed: &str, name: &str, first: &str, count: &str) -> Result<Str
             Made::MapCall(case) => map_vector(&call, &case),
             Made::Pair(pair) => [0, 1].map(|which| vector(&of_pair(which), &pair.case(which))).concat(),
             Made::MapPair(pair) => [0, 1].map(|which| map_vector(&of_pair(which), &pair.case(which))).concat(),
-            Made::Job(_) | Made::Word(_) => return Err(format!("{name} makes no calls\n{USAGE}")),
+            Made::Job(_) | Made::Word(_) | Made::Book(_) | Made::BookPair(_) => {
+                return Err(format!("{name} makes no calls\n{USAGE}"))
+            }
         })
     });
     lines.collect()
@@ -127,7 +140,6 @@ fn vector(name: &str, case: &Case) -> String {
         hexadecimal(&case.text),
         hexadecimal(&case.tape),
         hexadecimal(&case.space),
-        numbers(answered.measured),
         numbers(answered.laid_out),
         hexadecimal(&answered.space),
         taken.join(";"),
@@ -164,9 +176,8 @@ fn print_arms() -> Result<String, String> {
 fn call_text(case: &Case) -> String {
     let answered = answer(case);
     format!(
-        "{}measured {}, laid out {}\nspace after: \"{}\"\n",
+        "{}laid out {}\nspace after: \"{}\"\n",
         input_text(case),
-        numbers(answered.measured),
         numbers(answered.laid_out),
         answered.space.escape_ascii()
     )
@@ -239,6 +250,28 @@ fn job_text(bytes: &[u8]) -> String {
         bytes.len(),
         hexadecimal(bytes),
         job::printed(bytes).escape_ascii()
+    )
+}
+
+fn book_text(book: &[u8]) -> String {
+    let reported = report::report(book, Tally::default());
+    format!(
+        "book, {} bytes:\n  {}\n{:?}\nprinted: \"{}\"\n",
+        book.len(),
+        hexadecimal(book),
+        reported.tally,
+        reported.printed.escape_ascii()
+    )
+}
+
+fn book_pair_text(books: &[Vec<u8>; 2]) -> String {
+    let [first, second] = books;
+    format!(
+        "first\n{}second\n{}differ as masked: {}\nclaim: {:?}\n",
+        book_text(first),
+        book_text(second),
+        report::differ_as_masked(first, second),
+        report::claim(first, second)
     )
 }
 

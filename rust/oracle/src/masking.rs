@@ -1,6 +1,6 @@
 //! The masking rule in the form of document 02 (E1): its conditions on two texts and one tree, and its claim as far as outputs show it.
 
-use crate::answers::{accepted_tree, answer, Answered, Case};
+use crate::answers::{accepted_tree, answer, in_no_space, Answered, Case};
 use crate::kinds;
 use crate::source;
 use crate::tape::{Child, Node, Token};
@@ -153,12 +153,13 @@ fn inner(text: &str, span: &Range<usize>) -> Range<usize> {
     span.start + length(part.chars().next())..span.end - length(part.chars().next_back())
 }
 
-/// The rule's claim about both calls; the error says what does not hold.
+/// The rule's claim about both calls, and about those with an output space of 0 bytes; the error says what does not hold.
 pub fn claim(pair: &Pair) -> Result<(), String> {
-    let [first, second] = [0, 1].map(|which| answer(&pair.case(which)));
-    if first.measured != second.measured {
-        return Err(format!("measured {:?} and {:?}", first.measured, second.measured));
+    let [first, second] = [0, 1].map(|which| in_no_space(&pair.case(which)));
+    if first != second {
+        return Err(format!("in no space {first:?} and {second:?}"));
     }
+    let [first, second] = [0, 1].map(|which| answer(&pair.case(which)));
     if first.laid_out != second.laid_out {
         return Err(format!("laid out {:?} and {:?}", first.laid_out, second.laid_out));
     }

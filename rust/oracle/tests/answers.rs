@@ -3,7 +3,7 @@
 mod common;
 
 use common::{assert_refused, call, nested_files, plain, sheet_b, FILE};
-use oracle::answers::{answer, formatted, Answer, Case};
+use oracle::answers::{answer, formatted, in_no_space, Answer, Case};
 use oracle::kinds::{BARE_WORD, COUNT, NOT_CARRIED};
 use oracle::tape::{push_close, push_open, push_token, MOST_BYTES};
 
@@ -85,7 +85,7 @@ fn a_text_that_is_not_well_formed_is_4_where_the_fault_begins() {
 #[test]
 fn bytes_c3_a9_are_a_character() {
     needs_source!();
-    assert_eq!(answer(&plain(b"\xC3\xA9", nested_files(1))).measured, Answer { number: 0, second: 0 });
+    assert_eq!(in_no_space(&plain(b"\xC3\xA9", nested_files(1))), Answer { number: 0, second: 0 });
     assert_eq!(formatted(&plain(b"\xC3\xA9", file_with_token(0, 2))).unwrap(), "é\n");
 }
 
@@ -313,9 +313,32 @@ fn nodes_below_a_copied_node_are_checked_too() {
 fn b_with_26_bytes_is_13_with_the_needed_length() {
     needs_source!();
     let answered = answer(&Case { space: vec![0xEE; 26], ..call(sheet_b) });
-    assert_eq!(answered.measured, Answer { number: 0, second: 27 });
     assert_eq!(answered.laid_out, Answer { number: 13, second: 27 });
     assert_eq!(answered.space, vec![0xEE; 26]);
+}
+
+#[test]
+fn b_has_one_length_whatever_the_space() {
+    needs_source!();
+    for length in 0..40 {
+        let answered = answer(&Case { space: vec![0xEE; length], ..call(sheet_b) });
+        assert_eq!(
+            answered.laid_out,
+            Answer { number: if length < 27 { 13 } else { 0 }, second: 27 },
+            "{length} bytes"
+        );
+    }
+    assert_eq!(in_no_space(&call(sheet_b)), Answer { number: 13, second: 27 });
+}
+
+#[test]
+fn what_needs_no_byte_is_accepted_in_no_space() {
+    needs_source!();
+    let blanks = plain(b"  ", file_with_token(0, 2));
+    for empty in [plain(b"", nested_files(1)), plain(b"a", file_over(1, 0)), blanks] {
+        assert_eq!(in_no_space(&empty), Answer { number: 0, second: 0 });
+        assert_eq!(answer(&Case { space: vec![0xEE; 2], ..empty }).space, vec![0xEE; 2]);
+    }
 }
 
 #[test]
@@ -335,14 +358,14 @@ fn width_16_is_accepted() {
 #[test]
 fn the_64th_open_node_is_accepted() {
     needs_source!();
-    assert_eq!(answer(&plain(b"", nested_files(64))).measured, Answer { number: 0, second: 0 });
+    assert_eq!(in_no_space(&plain(b"", nested_files(64))), Answer { number: 0, second: 0 });
 }
 
 #[test]
 fn text_of_262144_bytes_is_accepted() {
     needs_source!();
     let case = plain(&[b'x'; MOST_BYTES], file_with_token(0, MOST_BYTES as u32));
-    assert_eq!(answer(&case).measured, Answer { number: 0, second: MOST_BYTES as u64 + 1 });
+    assert_eq!(in_no_space(&case), Answer { number: 13, second: MOST_BYTES as u64 + 1 });
 }
 
 #[test]
@@ -371,8 +394,8 @@ fn a_token_of_another_kind_may_hold_any_character() {
     needs_source!();
     for kind in (0..COUNT).filter(|kind| *kind != BARE_WORD) {
         let text = "ſ€😀";
-        let number = answer(&plain(text.as_bytes(), file_with(kind, 0, text.len() as u32))).measured.number;
-        assert_eq!(number, 0, "kind {kind}");
+        let formatted = formatted(&plain(text.as_bytes(), file_with(kind, 0, text.len() as u32)));
+        assert!(formatted.is_ok(), "kind {kind}");
     }
 }
 

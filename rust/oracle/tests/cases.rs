@@ -73,7 +73,7 @@ fn spaces_are_full_one_short_five_over_or_empty() {
         let mut seen = BTreeSet::new();
         for index in 0..2_000 {
             let case = call(SEED, class, index);
-            let needed = answer(&case).measured.second as i64;
+            let needed = answer(&case).laid_out.second as i64;
             seen.insert(if case.space.is_empty() { None } else { Some(case.space.len() as i64 - needed) });
         }
         assert_eq!(seen.into_iter().collect::<Vec<_>>(), [None, Some(-1), Some(0), Some(5)], "{class:?}");
@@ -143,7 +143,7 @@ fn the_order_of_10_15_16_and_11_is_seen() {
     let mut seen = BTreeSet::new();
     for index in 0..4_000 {
         let case = call(SEED, Class::Utf8Damaged, index);
-        let refusal = answer(&case).measured;
+        let refusal = answer(&case).laid_out;
         let place = refusal.second as usize;
         if [10, 11, 15, 16].contains(&refusal.number) {
             let before = command_places(&case.tape).into_iter().filter(|at| *at < place);
@@ -268,7 +268,7 @@ fn limits_hold_sizes_at_the_most_and_one_past() {
         assert!(cases.iter().any(|case| case.text.len() == length), "text of {length}");
         assert!(cases.iter().any(|case| case.tape.len() == length), "tape of {length}");
     }
-    let full = cases.iter().find(|case| case.tape.len() == MOST_BYTES && answer(case).measured.number == 0);
+    let full = cases.iter().find(|case| case.tape.len() == MOST_BYTES && formatted(case).is_ok());
     assert!(full.is_some(), "an accepted tape of the most bytes");
 }
 
@@ -323,6 +323,10 @@ fn the_first_cases_are_the_ones_they_always_were() {
         3_950_505_699_754_599_138,
         9_951_125_735_200_283_694,
         4_758_170_455_706_926_525,
+        9_571_150_574_409_404_053,
+        2_895_821_372_374_533_533,
+        16_491_176_761_014_964_357,
+        11_968_279_579_285_853_167,
     ];
     assert_eq!(sums, expected);
 }
@@ -330,11 +334,12 @@ fn the_first_cases_are_the_ones_they_always_were() {
 /// All bytes of a case in a row.
 fn bytes_of(made: Made) -> Vec<u8> {
     match made {
-        Made::Job(bytes) | Made::Word(bytes) => bytes,
+        Made::Job(bytes) | Made::Word(bytes) | Made::Book(bytes) => bytes,
         Made::Call(case) => call_bytes(&case),
         Made::Pair(pair) => [call_bytes(&pair.case(0)), call_bytes(&pair.case(1))].concat(),
         Made::MapCall(case) => map_call_bytes(&case),
         Made::MapPair(pair) => [map_call_bytes(&pair.case(0)), map_call_bytes(&pair.case(1))].concat(),
+        Made::BookPair(books) => books.concat(),
     }
 }
 

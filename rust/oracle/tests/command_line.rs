@@ -39,6 +39,7 @@ fn a_bad_call_gets_a_message_and_status_2() {
     assert_bad_call(&["stored", "file"], "usage: oracle");
     assert_bad_call(&["words", "file"], "usage: oracle");
     assert_bad_call(&["map", "file"], "usage: oracle");
+    assert_bad_call(&["report", "file"], "usage: oracle");
     assert_bad_call(&["source", "file"], "usage: oracle");
 }
 
@@ -105,6 +106,17 @@ fn a_job_is_answered_on_standard_output() {
 }
 
 #[test]
+fn a_book_is_reported_on() {
+    needs_source!();
+    let book = [0x20, 0, 0, 0, 0];
+    let output = oracle(&["report"], &book);
+    assert!(output.status.success());
+    assert_eq!(output.stdout, b"1 refused 14 at 0\ntotal jobs 1 refused 1 bytes 0 lines 0\n");
+    assert_eq!(oracle(&["report"], &book[1..]).stdout, b"refused 18 at 0\n");
+    assert_eq!(oracle(&["report"], &[0; 70_000]).stdout, b"refused 18 at 65536\n");
+}
+
+#[test]
 fn a_job_is_mapped_token_by_token() {
     needs_source!();
     let output = oracle(&["map"], &job::write(&common::call(common::sheet_b)));
@@ -132,23 +144,27 @@ map after:
 fn each_class_prints_its_case_and_answer() {
     needs_source!();
     for (class, part) in [
-        ("parser", "measured "),
-        ("wild", "measured "),
-        ("damaged", "measured "),
-        ("limits", "measured "),
-        ("small", "measured "),
+        ("parser", "laid out "),
+        ("wild", "laid out "),
+        ("damaged", "laid out "),
+        ("limits", "laid out "),
+        ("small", "laid out "),
         ("jobs", "printed: "),
         ("masked", "claim: Ok"),
-        ("utf8", "measured "),
-        ("utf8-small", "measured "),
-        ("utf8-damaged", "measured "),
+        ("utf8", "laid out "),
+        ("utf8-small", "laid out "),
+        ("utf8-damaged", "laid out "),
         ("utf8-masked", "claim: Ok"),
-        ("utf8-limits", "measured "),
+        ("utf8-limits", "laid out "),
         ("words", "answered "),
         ("map", "mapped "),
         ("map-damaged", "mapped "),
         ("map-masked", "claim of the map: Ok"),
         ("map-limits", "mapped "),
+        ("books", "printed: "),
+        ("books-damaged", "printed: "),
+        ("books-masked", "differ as masked: true\nclaim: Ok"),
+        ("books-limits", "printed: "),
     ] {
         let output = oracle(&["case", "1", class, "10"], b"");
         assert!(output.status.success(), "{class}");
@@ -214,11 +230,10 @@ fn a_vector_holds_the_call_and_its_answer() {
         let case = call(1, Class::Small, index as u64);
         let answered = answer(&case);
         let fields: Vec<&str> = line.split('\t').collect();
-        assert_eq!(fields.len(), 10);
+        assert_eq!(fields.len(), 9);
         assert_eq!(fields[1..3], [case.width.to_string(), case.case.to_string()]);
-        assert_eq!([3, 4, 5, 8].map(|field| bytes(fields[field])), [case.text, case.tape, case.space, answered.space]);
-        let answers = [answered.measured, answered.laid_out];
-        assert_eq!(fields[6..8], answers.map(|answer| format!("{} {}", answer.number, answer.second)));
-        assert_eq!(fields[9].is_empty(), answered.laid_out.number != 0, "only a layout that is written shows arms");
+        assert_eq!([3, 4, 5, 7].map(|field| bytes(fields[field])), [case.text, case.tape, case.space, answered.space]);
+        assert_eq!(fields[6], format!("{} {}", answered.laid_out.number, answered.laid_out.second));
+        assert_eq!(fields[8].is_empty(), answered.laid_out.number != 0, "only a layout that is written shows arms");
     }
 }

@@ -11,14 +11,14 @@ const CLOSE: u8 = 3;
 /// A command of a tape.
 ///
 /// ```
-/// use qdesk::{command_at, measure, Case, Kind, Settings, TapeBuilder};
+/// use qdesk::{command_at, needed_length, Case, Kind, Settings, TapeBuilder};
 ///
 /// let mut tape = TapeBuilder::new();
 /// tape.open(Kind::ColumnReference, 0..4)?.token(Kind::BareWord, 0..4)?.close()?;
 /// let tape = tape.finish()?;
 ///
 /// // The text is shorter than the tree says.
-/// let error = measure(b"id", &tape, Settings { indent_width: 4, case: Case::UPPER }).unwrap_err();
+/// let error = needed_length(b"id", &tape, Settings { indent_width: 4, case: Case::UPPER }).unwrap_err();
 /// assert_eq!((error.number(), error.place()), (10, 0));
 /// assert_eq!(error.command_in(&tape), command_at(&tape, 0));
 /// assert_eq!(command_at(&tape, 0).unwrap().to_string(), "node ColumnReference from 0 to 4");

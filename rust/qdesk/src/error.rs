@@ -8,7 +8,8 @@ use std::fmt;
 /// The refusals, each with its number.
 ///
 /// 1 to 5 are tried in that order. Then the tape is read from its start, and the first faulty command decides; within one, the order is
-/// 6, 7, 12, 8, 9, 10, 15, 16, 11. 13 comes last. 14 is the desk's program's own.
+/// 6, 7, 12, 8, 9, 10, 15, 16, 11. 13 comes last. 14 is the desk's program's own. 18 and 19 refuse a book: first its length is tried, then its
+/// commands from the start, before any job is answered; the first faulty one decides, and there 18 comes before 19.
 #[derive(Clone, Copy, Debug, PartialEq, Eq)]
 #[non_exhaustive]
 pub enum Refusal {
@@ -43,6 +44,10 @@ pub enum Refusal {
     SpanInsideCharacter = 15,
     /// A token of kind `BareWord` holds a byte above 127.
     WordNotAscii = 16,
+    /// A command of a book is wrong or cut short; or the book is longer than [`MOST_BOOK`](crate::MOST_BOOK), and the place is 65536.
+    BookCommand = 18,
+    /// A 257th job.
+    TooManyJobs = 19,
 }
 
 impl Refusal {
@@ -63,6 +68,8 @@ impl Refusal {
         Refusal::SpaceTooShort,
         Refusal::SpanInsideCharacter,
         Refusal::WordNotAscii,
+        Refusal::BookCommand,
+        Refusal::TooManyJobs,
     ];
 
     fn words(self) -> &'static str {
@@ -82,6 +89,8 @@ impl Refusal {
             Refusal::SpaceTooShort => "output space too short",
             Refusal::SpanInsideCharacter => "token or node starts or ends inside a character",
             Refusal::WordNotAscii => "bare word with a byte above 127",
+            Refusal::BookCommand => "book command wrong or cut short, or book longer than 65,536 bytes",
+            Refusal::TooManyJobs => "257th job",
         }
     }
 }
@@ -89,10 +98,10 @@ impl Refusal {
 /// A refused call: which refusal it was, and its place.
 ///
 /// ```
-/// use qdesk::{measure, Case, Refusal, Settings};
+/// use qdesk::{needed_length, Case, Refusal, Settings};
 ///
 /// let close_alone = [3];
-/// let error = measure(b"", &close_alone, Settings { indent_width: 4, case: Case::UPPER }).unwrap_err();
+/// let error = needed_length(b"", &close_alone, Settings { indent_width: 4, case: Case::UPPER }).unwrap_err();
 /// assert_eq!(error.refusal(), Refusal::NotOneRoot);
 /// assert_eq!((error.number(), error.place()), (12, 0));
 /// assert_eq!(error.to_string(), "command outside the root node, or root not closed (refusal 12) at tape offset 0");
@@ -121,7 +130,7 @@ impl Error {
         self.refusal
     }
 
-    /// The refusal's number, 1 to 13, 15 or 16.
+    /// The refusal's number: 1 to 13, 15, 16, 18 or 19.
     pub fn number(self) -> u64 {
         self.refusal as u64
     }
@@ -135,7 +144,8 @@ impl Error {
         }
     }
 
-    /// An offset in the text for 4, the faulty command's offset in the tape for 6 to 12, 15 and 16, the needed length for 13, else 0.
+    /// An offset in the text for 4, the faulty command's offset in the tape for 6 to 12, 15 and 16, in the book for 18 and 19, the needed
+    /// length for 13, else 0.
     pub fn place(self) -> u64 {
         self.place
     }
@@ -148,6 +158,7 @@ impl fmt::Display for Error {
             4 => write!(f, " at text offset {}", self.place),
             6..=12 | 15 | 16 => write!(f, " at tape offset {}", self.place),
             13 => write!(f, ": {} bytes are needed", self.place),
+            18 | 19 => write!(f, " at book offset {}", self.place),
             _ => Ok(()),
         }
     }

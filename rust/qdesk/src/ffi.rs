@@ -8,15 +8,6 @@ pub struct Answer {
 }
 
 extern "C" {
-    fn qdesk_measure(
-        text: *const u8,
-        text_length: usize,
-        tape: *const u8,
-        tape_length: usize,
-        width: u64,
-        case: u64,
-    ) -> Answer;
-
     fn qdesk_layout(
         text: *const u8,
         text_length: usize,
@@ -29,23 +20,39 @@ extern "C" {
     ) -> Answer;
 
     fn qdesk_word(word: *const u8, word_length: usize) -> Answer;
+
+    fn qdesk_report(
+        book: *const u8,
+        book_length: usize,
+        more: u64,
+        tally: *mut [u64; 4],
+        work: *mut [u8; WORK],
+        out: *mut u8,
+        out_length: usize,
+    ) -> usize;
 }
 
-pub fn measure(text: &[u8], tape: &[u8], width: u64, case: u64) -> Answer {
-    // SAFETY: the function asks nothing of the bytes and numbers. Both pointers come from slices, so they are valid for reads of their
-    // lengths throughout the call; the function keeps neither.
-    unsafe { qdesk_measure(text.as_ptr(), text.len(), tape.as_ptr(), tape.len(), width, case) }
-}
+/// Bytes of the space in which a report lays out each job.
+pub const WORK: usize = 65_536;
 
 pub fn layout(text: &[u8], tape: &[u8], width: u64, case: u64, out: &mut [u8]) -> Answer {
     let (text, text_length) = (text.as_ptr(), text.len());
     let (tape, tape_length) = (tape.as_ptr(), tape.len());
     let (out, out_length) = (out.as_mut_ptr(), out.len());
-    // SAFETY: as for measuring. `out` is valid for writes of its length, and a slice lent mutably overlaps no other.
+    // SAFETY: the function asks nothing of the bytes and numbers. All pointers come from slices, so they are valid for reads of their lengths
+    // throughout the call, and `out` for writes; a slice lent mutably overlaps no other. The function keeps none.
     unsafe { qdesk_layout(text, text_length, tape, tape_length, width, case, out, out_length) }
 }
 
 pub fn word(word: &[u8]) -> Answer {
-    // SAFETY: as for measuring.
+    // SAFETY: as for laying out.
     unsafe { qdesk_word(word.as_ptr(), word.len()) }
+}
+
+pub fn report(book: &[u8], more: u64, tally: &mut [u64; 4], work: &mut [u8; WORK], out: &mut [u8]) -> usize {
+    let (book, book_length) = (book.as_ptr(), book.len());
+    let (out, out_length) = (out.as_mut_ptr(), out.len());
+    // SAFETY: as for laying out. The tally and the working space are valid for reads and writes of their four numbers and 65,536 bytes,
+    // which is what the function takes through the two pointers that come without a length.
+    unsafe { qdesk_report(book, book_length, more, tally, work, out, out_length) }
 }

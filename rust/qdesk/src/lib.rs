@@ -1,9 +1,10 @@
 //! Lays out a ClickHouse query, one clause to a line, from its text and its syntax tree: safe Rust calls of the proved library
 //! libqdesk.a.
 //!
-//! The tree comes as a *tape*, a row of commands; [`TapeBuilder`] spells one. [`measure`] says how long the layout is, [`layout`] writes
-//! it into a lent space, [`layout_to_vec`] does both, and [`layout_to_string`] does so from a `&str` to a `String`. [`word`] tells
-//! keywords, value words (TRUE, FALSE, NULL) and all other words apart.
+//! The tree comes as a *tape*, a row of commands; [`TapeBuilder`] spells one. [`layout`] writes the layout into a lent space, or says how
+//! long one is needed, [`layout_to_vec`] brings the space itself, and [`layout_to_string`] does so from a `&str` to a `String`.
+//! [`needed_length`] is the length alone. [`word`] tells keywords, value words (TRUE, FALSE, NULL) and all other words apart. [`report`]
+//! tells of each query of a [`book`] how long its layout is.
 //!
 //! ```
 //! use qdesk::{layout_to_string, Case, Kind, Settings, TapeBuilder};
@@ -21,9 +22,9 @@
 //! The text is UTF-8, and words outside of quotes are ASCII. All offsets and lengths count bytes.
 //!
 //! Any bytes and any numbers may be passed: each call has one answer, for a layout a length or a refusal ([`Error`]), and which one is
-//! proved. The calls keep no state, so that any number of threads may make them at once; [`measure`], [`layout`] and [`word`] use no heap.
-//! Only a library of another version than this crate could answer with a number that is unknown here, and the call would end in a panic
-//! that says so.
+//! proved. The calls keep no state, so that any number of threads may make them at once; [`needed_length`], [`layout`] and [`word`] use no
+//! heap. Only a library of another version than this crate could answer with a number that is unknown here, and the call would end in a
+//! panic that says so.
 
 #![deny(unsafe_code)]
 #![warn(missing_docs)]
@@ -33,12 +34,14 @@ mod error;
 #[allow(unsafe_code)]
 mod ffi;
 mod kind;
+mod report;
 mod tape;
 mod word;
 
 pub use command::{command_at, commands, span_bytes, Command, Operands};
 pub use error::{Error, Refusal};
 pub use kind::Kind;
+pub use report::{book, job, report, Tally, MOST_BOOK, MOST_JOBS, MOST_REPORT};
 pub use tape::{TapeBuilder, TapeError, TapeFault, MOST_BYTES, MOST_OPEN};
 pub use word::{word, Word};
 
@@ -65,24 +68,6 @@ impl Case {
     pub const UPPER: Case = Case(1);
 }
 
-/// The length of the layout in bytes.
-///
-/// ```
-/// use qdesk::{measure, Case, Kind, Settings, TapeBuilder};
-///
-/// let mut tape = TapeBuilder::new();
-/// tape.open(Kind::ColumnReference, 0..4)?.token(Kind::BareWord, 0..4)?.close()?;
-/// assert_eq!(measure(b"name", &tape.finish()?, Settings { indent_width: 4, case: Case::LOWER })?, 5);
-/// # Ok::<(), qdesk::Error>(())
-/// ```
-///
-/// # Errors
-///
-/// Refusals 1 to 12, 15 and 16.
-pub fn measure(text: &[u8], tape: &[u8], settings: Settings) -> Result<usize, Error> {
-    length(ffi::measure(text, tape, settings.indent_width, settings.case.0))
-}
-
 /// Writes the layout to the front of `out` and says how long it is. Later bytes of `out` stay as they were; so do all on a refusal.
 ///
 /// ```
@@ -102,24 +87,61 @@ pub fn measure(text: &[u8], tape: &[u8], settings: Settings) -> Result<usize, Er
 /// # Ok::<(), qdesk::Error>(())
 /// ```
 ///
+/// On one input, the length of an accepted layout and the one that [`Refusal::SpaceTooShort`] names are the same, whatever the space.
+///
 /// # Errors
 ///
 /// Refusals 1 to 13, 15 and 16.
 pub fn layout(text: &[u8], tape: &[u8], settings: Settings, out: &mut [u8]) -> Result<usize, Error> {
-    length(ffi::layout(text, tape, settings.indent_width, settings.case.0, out))
+    let answer = ffi::layout(text, tape, settings.indent_width, settings.case.0, out);
+    match answer.number {
+        0 => Ok(in_memory(answer.value)),
+        _ => Err(Error::of(answer)),
+    }
 }
 
-/// The layout in a vector of its length.
+/// The length of the layout in bytes, by a call of [`layout`] with no space.
+///
+/// ```
+/// use qdesk::{needed_length, Case, Kind, Settings, TapeBuilder};
+///
+/// let mut tape = TapeBuilder::new();
+/// tape.open(Kind::ColumnReference, 0..4)?.token(Kind::BareWord, 0..4)?.close()?;
+/// assert_eq!(needed_length(b"name", &tape.finish()?, Settings { indent_width: 4, case: Case::LOWER })?, 5);
+/// # Ok::<(), qdesk::Error>(())
+/// ```
+///
+/// # Errors
+///
+/// Refusals 1 to 12, 15 and 16.
+pub fn needed_length(text: &[u8], tape: &[u8], settings: Settings) -> Result<usize, Error> {
+    layout(text, tape, settings, &mut []).or_else(needed)
+}
+
+/// The length that a space too short is refused with; any other refusal stays.
+fn needed(error: Error) -> Result<usize, Error> {
+    match error.refusal() {
+        Refusal::SpaceTooShort => Ok(in_memory(error.place())),
+        _ => Err(error),
+    }
+}
+
+fn in_memory(length: u64) -> usize {
+    usize::try_from(length).expect("a length fits 64 bits, which this machine has")
+}
+
+/// The layout in a vector of its length, by one call of [`layout`] in a space of twice the text's length and 64 bytes, or by a second one where
+/// the layout is longer.
 ///
 /// # Tapes from strangers
 ///
-/// Both calls take time in proportion to the lengths of text and tape where tokens do not overlap, as a parser's never do. Where they do,
-/// the lengths of the tokens and of the nodes copied as typed add up: with 23,800 tokens over the same 262,144 blanks measuring alone takes
+/// A call takes time in proportion to the lengths of text and tape where tokens do not overlap, as a parser's never do. Where they do,
+/// the lengths of the tokens and of the nodes copied as typed add up: with 23,800 tokens over the same 262,144 blanks the length alone takes
 /// some 4 seconds, over as many letters it asks for 6 GB; and indents can ask for gigabytes. Who takes tapes from strangers looks at two
 /// numbers first:
 ///
 /// ```
-/// use qdesk::{layout, measure, span_bytes, Case, Settings, MOST_OPEN};
+/// use qdesk::{layout, needed_length, span_bytes, Case, Settings, MOST_OPEN};
 ///
 /// /// The layout, if its tape is a tree that a parser could have made and it is short enough.
 /// fn guarded(text: &[u8], tape: &[u8], settings: Settings, most: usize) -> Option<Vec<u8>> {
@@ -127,7 +149,7 @@ pub fn layout(text: &[u8], tape: &[u8], settings: Settings, out: &mut [u8]) -> R
 ///     if span_bytes(tape) > (MOST_OPEN as u64 + 1) * text.len() as u64 {
 ///         return None;
 ///     }
-///     let length = measure(text, tape, settings).ok().filter(|length| *length <= most)?;
+///     let length = needed_length(text, tape, settings).ok().filter(|length| *length <= most)?;
 ///     let mut out = vec![0; length];
 ///     layout(text, tape, settings, &mut out).ok()?;
 ///     Some(out)
@@ -153,8 +175,15 @@ pub fn layout(text: &[u8], tape: &[u8], settings: Settings, out: &mut [u8]) -> R
 ///
 /// Refusals 1 to 12, 15 and 16.
 pub fn layout_to_vec(text: &[u8], tape: &[u8], settings: Settings) -> Result<Vec<u8>, Error> {
-    let mut out = vec![0; measure(text, tape, settings)?];
-    layout(text, tape, settings, &mut out)?;
+    // A text that is too long is refused (3) and needs no space.
+    let mut out = vec![0; 2 * text.len().min(MOST_BYTES) + 64];
+    let mut length = layout(text, tape, settings, &mut out).or_else(needed)?;
+    if length > out.len() {
+        out = vec![0; length];
+        length = layout(text, tape, settings, &mut out)?;
+    }
+    out.truncate(length);
+    out.shrink_to_fit();
     Ok(out)
 }
 
@@ -188,11 +217,4 @@ pub fn layout_to_vec(text: &[u8], tape: &[u8], settings: Settings) -> Result<Vec
 pub fn layout_to_string(text: &str, tape: &[u8], settings: Settings) -> Result<String, Error> {
     let out = layout_to_vec(text.as_bytes(), tape, settings)?;
     Ok(String::from_utf8(out).expect("a layout is made of whole characters of the text, and of ASCII"))
-}
-
-fn length(answer: ffi::Answer) -> Result<usize, Error> {
-    match answer.number {
-        0 => Ok(usize::try_from(answer.value).expect("a length fits 64 bits, which this machine has")),
-        _ => Err(Error::of(answer)),
-    }
 }

@@ -3,7 +3,7 @@
 mod common;
 
 use common::{nested_files, open, token, CLOSE, PLAIN};
-use qdesk::{measure, Command, Error, Kind, Operands, TapeBuilder, TapeError, TapeFault, MOST_BYTES, MOST_OPEN};
+use qdesk::{needed_length, Command, Error, Kind, Operands, TapeBuilder, TapeError, TapeFault, MOST_BYTES, MOST_OPEN};
 use std::ops::Range;
 
 /// A span that runs backwards, and no literal that could be a slip.
@@ -119,7 +119,7 @@ fn tape_of_262144_bytes_and_no_more() {
     assert_refused(tape.close(), TapeFault::TooLong, &format!("{words}: close at tape offset 262144"));
     let tape = tape.finish().unwrap();
     assert_eq!(tape.len(), MOST_BYTES);
-    assert!(measure(b"", &tape, PLAIN).is_ok());
+    assert!(needed_length(b"", &tape, PLAIN).is_ok());
 }
 
 #[test]
@@ -148,7 +148,7 @@ fn a_tape_that_is_too_long_is_the_librarys_5_at_0() {
     let tape = [common::open(Kind::File, 0, 0), common::token(Kind::BareWord, 0, 0).repeat(23_831)].concat();
     let mut builder = opened();
     let error = (0..23_831).find_map(|_| builder.token(Kind::BareWord, 0..0).err()).expect("too long");
-    assert_eq!(Err(Error::from(error)), measure(b"", &tape, PLAIN));
+    assert_eq!(Err(Error::from(error)), needed_length(b"", &tape, PLAIN));
 }
 
 /// A builder's call and the command that it spells.
@@ -202,7 +202,7 @@ fn built(calls: &[Call]) -> Result<Vec<u8>, Error> {
 /// Checks that builder and library accept or refuse the calls alike, and that the builder spells the commands.
 fn assert_alike(calls: &[Call]) {
     let spelt: Vec<u8> = calls.iter().flat_map(|call| call.spelt()).collect();
-    let library = measure(b"", &spelt, PLAIN);
+    let library = needed_length(b"", &spelt, PLAIN);
     let built = built(calls);
     assert_eq!(built.as_ref().map(|_| ()), library.as_ref().map(|_| ()), "tape {spelt:?}");
     if let Ok(tape) = built {

@@ -3,7 +3,7 @@
 mod common;
 
 use common::{open, token, CLOSE, PLAIN};
-use qdesk::{command_at, commands, measure, span_bytes, Command, Kind, Operands};
+use qdesk::{command_at, commands, needed_length, span_bytes, Command, Kind, Operands};
 
 /// A node over 0 to 6 with a token over 2 to 5.
 fn tape() -> Vec<u8> {
@@ -38,7 +38,7 @@ fn reading_ends_at_a_command_that_is_unknown_or_cut() {
 #[test]
 fn what_was_refused_is_shown() {
     let shown = |text: &[u8], tape: &[u8]| {
-        let error = measure(text, tape, PLAIN).unwrap_err();
+        let error = needed_length(text, tape, PLAIN).unwrap_err();
         (error.number(), error.place(), error.command_in(tape).map(|command| command.to_string()))
     };
     assert_eq!(shown(b"abc", &tape()), (10, 0, Some("node ColumnReference from 0 to 6".to_string())));

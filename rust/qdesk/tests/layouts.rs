@@ -3,7 +3,9 @@
 mod common;
 
 use common::{example, nested_files, open, token, CLOSE, LAID_OUT, PLAIN};
-use qdesk::{layout, layout_to_string, layout_to_vec, measure, Case, Kind, Settings, MOST_BYTES, MOST_OPEN};
+use qdesk::{
+    layout, layout_to_string, layout_to_vec, needed_length, Case, Kind, Refusal, Settings, MOST_BYTES, MOST_OPEN,
+};
 
 #[test]
 fn the_examples_call_is_laid_out_in_both_cases() {
@@ -63,9 +65,32 @@ fn a_space_of_just_the_length_is_enough() {
 }
 
 #[test]
+fn one_length_is_named_whatever_the_space() {
+    let (text, tape) = (example::TEXT.as_bytes(), example::tape().unwrap());
+    for length in 0..40 {
+        let answer = layout(text, &tape, PLAIN, &mut vec![0xEE; length]);
+        let expected = if length < 27 { Err((Refusal::SpaceTooShort, 27)) } else { Ok(27) };
+        assert_eq!(answer.map_err(|error| (error.refusal(), error.place())), expected, "{length} bytes");
+    }
+}
+
+/// The first space that is lent has twice the text's length and 64 bytes.
+#[test]
+fn layouts_longer_and_shorter_than_the_first_space_are_whole() {
+    for sevens in [1, 64, 65, 66, 500] {
+        let tokens = token(Kind::Number, 0, 1).repeat(sevens);
+        let tape = [open(Kind::QualifiedName, 0, 1), tokens, CLOSE.to_vec()].concat();
+        let laid_out = layout_to_vec(b"7", &tape, PLAIN).unwrap();
+        assert_eq!(laid_out, [&b"7".repeat(sevens)[..], b"\n"].concat());
+        assert_eq!((laid_out.len(), laid_out.capacity()), (sevens + 1, sevens + 1));
+        assert_eq!(needed_length(b"7", &tape, PLAIN), Ok(sevens + 1));
+    }
+}
+
+#[test]
 fn an_empty_layout_needs_no_space() {
     let tape = nested_files(1);
-    assert_eq!(measure(&[], &tape, PLAIN), Ok(0));
+    assert_eq!(needed_length(&[], &tape, PLAIN), Ok(0));
     assert_eq!(layout(&[], &tape, PLAIN, &mut []), Ok(0));
     assert_eq!(layout_to_vec(&[], &tape, PLAIN), Ok(Vec::new()));
 }
@@ -73,7 +98,7 @@ fn an_empty_layout_needs_no_space() {
 #[test]
 fn width_16_is_accepted() {
     let widest = Settings { indent_width: 16, ..PLAIN };
-    let length = measure(example::TEXT.as_bytes(), &example::tape().unwrap(), widest);
+    let length = needed_length(example::TEXT.as_bytes(), &example::tape().unwrap(), widest);
     assert_eq!(length, Ok(LAID_OUT.len() + 2 * 12));
 }
 
@@ -81,7 +106,7 @@ fn width_16_is_accepted() {
 fn a_text_of_262144_bytes_is_accepted() {
     let text = [b'x'; MOST_BYTES];
     let tape = [open(Kind::File, 0, 0), token(Kind::Number, 0, MOST_BYTES as u32), CLOSE.to_vec()].concat();
-    assert_eq!(measure(&text, &tape, PLAIN), Ok(MOST_BYTES + 1));
+    assert_eq!(needed_length(&text, &tape, PLAIN), Ok(MOST_BYTES + 1));
 }
 
 /// include/qdesk.h promises that a stack of 128 KiB is enough. Here 112 are, with what Rust's thread takes.

@@ -2,7 +2,7 @@
 
 mod common;
 
-use qdesk::{measure, Kind, Refusal, Word, MOST_BYTES, MOST_OPEN};
+use qdesk::{needed_length, Kind, Refusal, Word, MOST_BOOK, MOST_BYTES, MOST_JOBS, MOST_OPEN, MOST_REPORT};
 use std::fs;
 use std::path::PathBuf;
 
@@ -46,7 +46,7 @@ fn a_kind_stands_at_the_place_of_its_number() {
 fn the_library_carries_the_kinds_that_the_crate_names() {
     for kind in Kind::ALL {
         let tape = [common::open(*kind, 0, 0), common::CLOSE.to_vec()].concat();
-        let carried = measure(b"", &tape, common::PLAIN).map_err(|error| error.refusal());
+        let carried = needed_length(b"", &tape, common::PLAIN).map_err(|error| error.refusal());
         let expected = if kind.is_carried() { Ok(0) } else { Err(Refusal::KindNotCarried) };
         assert_eq!(carried, expected, "{kind:?}");
     }
@@ -113,4 +113,7 @@ fn version_and_limits_are_those_of_the_header() {
     defined(format!("#define QDESK_VERSION \"{}\"", env!("CARGO_PKG_VERSION")));
     defined(format!("#define QDESK_MOST_BYTES {MOST_BYTES}"));
     defined(format!("#define QDESK_MOST_OPEN {MOST_OPEN}"));
+    defined(format!("#define QDESK_MOST_BOOK {MOST_BOOK}"));
+    defined(format!("#define QDESK_MOST_JOBS {MOST_JOBS}"));
+    defined(format!("#define QDESK_MOST_REPORT {MOST_REPORT}"));
 }

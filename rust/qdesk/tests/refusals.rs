@@ -1,9 +1,10 @@
-//! The refusals of documents 01 and 02 (E1) through the crate: number, name, place and words, and the output space left as it was.
+//! The refusals of documents 01 and 02 (E1, E6) through the crate: number, name, place and words, and the output space left as it was.
 
 mod common;
 
 use common::{example, nested_files, open, token, CLOSE, LAID_OUT, PLAIN};
-use qdesk::{layout, layout_to_vec, measure, Case, Error, Kind, Refusal, Settings, MOST_BYTES, MOST_OPEN};
+use qdesk::{book, layout, layout_to_vec, needed_length, report, Case, Error, Kind, Refusal, Settings, Tally};
+use qdesk::{MOST_BOOK, MOST_BYTES, MOST_JOBS, MOST_OPEN};
 
 /// The number of the first kind past the last.
 const PAST_THE_LAST: u16 = 258;
@@ -18,7 +19,7 @@ fn assert_error(error: Error, refusal: Refusal, number: u64, place: u64, words: 
 fn assert_refused(call: (&[u8], &[u8], Settings), refusal: Refusal, number: u64, place: u64, words: &str) {
     let (text, tape, settings) = call;
     let mut space = [0xEE; 40];
-    assert_error(measure(text, tape, settings).unwrap_err(), refusal, number, place, words);
+    assert_error(needed_length(text, tape, settings).unwrap_err(), refusal, number, place, words);
     assert_error(layout(text, tape, settings, &mut space).unwrap_err(), refusal, number, place, words);
     assert_error(layout_to_vec(text, tape, settings).unwrap_err(), refusal, number, place, words);
     assert_eq!(space, [0xEE; 40], "a refusal writes no byte");
@@ -126,7 +127,7 @@ fn bare_word_beyond_ascii_is_16() {
 #[test]
 fn within_a_command_the_order_is_10_15_16_11() {
     let with = |command: Vec<u8>| [open(Kind::File, 0, 4), command].concat();
-    let refusal = |tape: Vec<u8>| measure("éé".as_bytes(), &tape, PLAIN).unwrap_err().refusal();
+    let refusal = |tape: Vec<u8>| needed_length("éé".as_bytes(), &tape, PLAIN).unwrap_err().refusal();
     assert_eq!(refusal(with(token(Kind::BareWord, 1, 5))), Refusal::SpanOutside);
     assert_eq!(refusal(with(token(Kind::BareWord, 1, 4))), Refusal::SpanInsideCharacter);
     assert_eq!(refusal(with(token(Kind::BareWord, 0, 4))), Refusal::WordNotAscii);
@@ -162,11 +163,42 @@ fn b_in_26_bytes_is_13_with_the_needed_length() {
     let words = "output space too short (refusal 13): 27 bytes are needed";
     assert_error(error, Refusal::SpaceTooShort, 13, 27, words);
     assert_eq!(space, [0xEE; 26], "a refusal writes no byte");
-    assert_eq!(measure(text, &tape, PLAIN), Ok(LAID_OUT.len()));
+    assert_eq!(needed_length(text, &tape, PLAIN), Ok(LAID_OUT.len()));
+}
+
+/// Checks that a book is refused so, and that the tally stays.
+fn assert_book_refused(book: &[u8], refusal: Refusal, number: u64, place: u64, words: &str) {
+    let held = Tally { jobs: 1, refused: 2, bytes: 3, lines: u64::MAX };
+    let mut tally = held;
+    assert_error(report(book, &mut tally).unwrap_err(), refusal, number, place, words);
+    assert_eq!(tally, held, "a refused book leaves the tally as it was");
+}
+
+#[test]
+fn a_book_command_that_is_wrong_or_cut_is_18() {
+    let words = "book command wrong or cut short, or book longer than 65,536 bytes (refusal 18) at book offset 5";
+    for end in [&[0][..], &[0x20, 0, 0, 0], &[0x20, 1, 0, 0, 0], &[0x20, 255, 255, 255, 255]] {
+        assert_book_refused(&[&book(&[b""]), end].concat(), Refusal::BookCommand, 18, 5, words);
+    }
+}
+
+#[test]
+fn a_book_of_65537_bytes_is_18() {
+    let words = "book command wrong or cut short, or book longer than 65,536 bytes (refusal 18) at book offset 65536";
+    assert_book_refused(&[0; MOST_BOOK + 1], Refusal::BookCommand, 18, 65_536, words);
+    assert_book_refused(&book(&[[0; MOST_BOOK - 4]]), Refusal::BookCommand, 18, 65_536, words);
+    assert!(report(&book(&[[0; MOST_BOOK - 5]]), &mut Tally::default()).is_ok());
+}
+
+#[test]
+fn a_257th_job_is_19() {
+    let words = "257th job (refusal 19) at book offset 1280";
+    assert_book_refused(&book(&[b""; MOST_JOBS + 1]), Refusal::TooManyJobs, 19, 1280, words);
+    assert!(report(&book(&[b""; MOST_JOBS]), &mut Tally::default()).is_ok());
 }
 
 #[test]
 fn the_list_of_refusals_is_in_the_order_of_the_numbers() {
     let numbers: Vec<u64> = Refusal::ALL.iter().map(|refusal| *refusal as u64).collect();
-    assert_eq!(numbers, (1..=13).chain(15..=16).collect::<Vec<u64>>());
+    assert_eq!(numbers, (1..=13).chain(15..=16).chain(18..=19).collect::<Vec<u64>>());
 }

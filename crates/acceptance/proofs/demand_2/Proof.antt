@@ -4,9 +4,6 @@ use Rattle.acceptance.proofs.Demands.{demand2}
 use Rattle.acceptance.proofs.demand_2.Statement.{statement}
 use Rattle.acceptance.proofs.demand_2.Tie as tie
 
-measure-requires : tie.Need-measure-requires
-measure-requires c κs = search needs
-
 layout-requires : tie.Need-layout-requires
 layout-requires c κs = search needs
 
@@ -14,7 +11,7 @@ same-length : tie.Need-same-length
 same-length c = search needs
 
 returns : tie.Need-returns
-returns c = let a = c .before .before .before .before .before .before .before .before .args in demand2 (a .width) (a .case) (a .text .now) (a .tape .now) (a .out .now) _ _ (c .before .before .before .before .measure .ensures) (c .before .before .layout .ensures)
+returns c = let a = c .before .before .before .before .before .before .before .args in demand2 (a .width) (a .case) (a .text .now) (a .tape .now) (a .out .now) _ _ (c .before .before .layout .ensures)
 
 pub demand-2-spec : {M : Type 1} → statement M
-demand-2-spec = tie.close (tie.spec measure-requires layout-requires same-length returns)
+demand-2-spec = tie.close (tie.spec layout-requires same-length returns)

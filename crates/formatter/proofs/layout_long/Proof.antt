@@ -7,17 +7,11 @@ use Rattle.formatter.proofs.layout_long.Tie as tie
 table-requires : tie.Need-table-requires
 table-requires c κs = search needs
 
-slice-aggregate-layout-in : tie.Need-slice-aggregate-layout-in
-slice-aggregate-layout-in c = search needs
+slice-aggregate-layout-unlent : tie.Need-slice-aggregate-layout-unlent
+slice-aggregate-layout-unlent c = search needs
 
-array-borrow-prefix-space : tie.Need-array-borrow-prefix-space
-array-borrow-prefix-space c = search needs
-
-slice-aggregate-layout-in-2 : tie.Need-slice-aggregate-layout-in-2
-slice-aggregate-layout-in-2 c = search needs
-
-layout-in-requires : tie.Need-layout-in-requires
-layout-in-requires c κs = ((λ fits. omega (arith, fits)), search needs)
+layout-unlent-requires : tie.Need-layout-unlent-requires
+layout-unlent-requires c κs = ((λ fits. omega (arith, fits)), search needs)
 
 same-length : tie.Need-same-length
 same-length c = search needs
@@ -25,14 +19,11 @@ same-length c = search needs
 returns : tie.Need-returns
 returns c = search needs
 
-slice-aggregate-layout-in-3 : tie.Need-slice-aggregate-layout-in-3
-slice-aggregate-layout-in-3 c = search needs
+slice-aggregate-layout-unlent-2 : tie.Need-slice-aggregate-layout-unlent-2
+slice-aggregate-layout-unlent-2 c = search needs
 
-slice-aggregate-layout-in-4 : tie.Need-slice-aggregate-layout-in-4
-slice-aggregate-layout-in-4 c = search needs
-
-layout-in-requires-2 : tie.Need-layout-in-requires-2
-layout-in-requires-2 c κs = ((λ fits. omega (arith, fits)), search needs)
+layout-unlent-requires-2 : tie.Need-layout-unlent-requires-2
+layout-unlent-requires-2 c κs = ((λ fits. omega (arith, fits)), search needs)
 
 same-length-2 : tie.Need-same-length-2
 same-length-2 c = search needs
@@ -40,19 +31,36 @@ same-length-2 c = search needs
 returns-2 : tie.Need-returns-2
 returns-2 c = search needs
 
+slice-aggregate-layout-in : tie.Need-slice-aggregate-layout-in
+slice-aggregate-layout-in c = search needs
+
+slice-aggregate-layout-in-2 : tie.Need-slice-aggregate-layout-in-2
+slice-aggregate-layout-in-2 c = search needs
+
+layout-in-requires : tie.Need-layout-in-requires
+layout-in-requires c κs = ((λ fits. omega (arith, fits)), search needs)
+
+same-length-3 : tie.Need-same-length-3
+same-length-3 c = search needs
+
+returns-3 : tie.Need-returns-3
+returns-3 c = search needs
+
 pub layout-long-spec : {M : Type 1} → statement M
 layout-long-spec =
     tie.close
     (tie.spec
     table-requires
-    slice-aggregate-layout-in
-    array-borrow-prefix-space
-    slice-aggregate-layout-in-2
-    layout-in-requires
+    slice-aggregate-layout-unlent
+    layout-unlent-requires
     same-length
     returns
-    slice-aggregate-layout-in-3
-    slice-aggregate-layout-in-4
-    layout-in-requires-2
+    slice-aggregate-layout-unlent-2
+    layout-unlent-requires-2
     same-length-2
-    returns-2)
+    returns-2
+    slice-aggregate-layout-in
+    slice-aggregate-layout-in-2
+    layout-in-requires
+    same-length-3
+    returns-3)

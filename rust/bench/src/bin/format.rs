@@ -10,7 +10,7 @@ const USAGE: &str = "usage: format [--seed SEED] [--rounds ROUNDS] [CORPUS...]
            times the corpora, or all; another seed makes other queries
        format [--seed SEED] --once SIDE CORPUS
            runs a corpus once on one side with no clock, for a profiler, and prints how many tokens and tape bytes it has;
-           SIDE is ready-tree, from-tape, layout or measure
+           SIDE is ready-tree, from-tape, layout or no-space (the call with an output space of 0 bytes)
        format --list
            prints the corpora
        format --help, format --version";
@@ -71,7 +71,7 @@ fn side_named(name: &str) -> Option<Side> {
         "ready-tree" => Some(Side::ReadyTree),
         "from-tape" => Some(Side::FromTape),
         "layout" => Some(Side::Layout),
-        "measure" => Some(Side::Measure),
+        "no-space" => Some(Side::NoSpace),
         _ => None,
     }
 }

@@ -1,13 +1,15 @@
-//! Prints how many bytes of stack the two calls take for trees of 64 levels.
+//! Prints how many bytes of stack laying out, in no output space and in enough, and the report over a book of one job take for trees of 64 levels.
 
 use command_line::{Failure, Program};
-use oracle::answers::Answer;
+use oracle::answers::{Answer, Case};
+use oracle::job::{self, BUFFER};
 use oracle::kinds::{self, COUNT};
+use oracle::report::write;
 use oracle::tape::{push_close, push_open, push_token};
 use std::io::{self, Write};
 use std::process::ExitCode;
 
-const USAGE: &str = "usage: stack   prints the bytes of stack that the two calls take at 64 levels; takes no argument";
+const USAGE: &str = "usage: stack   prints the bytes of stack that the calls take at 64 levels, laying out in no space and in enough; takes no argument";
 
 const LEVELS: usize = 64;
 
@@ -32,14 +34,24 @@ fn main() -> ExitCode {
 }
 
 fn print_stack(out: &mut dyn Write) -> io::Result<()> {
-    writeln!(out, "{:<8} {:>10} {:>14}", "call", "tape bytes", "bytes of stack")?;
+    writeln!(out, "{:<8} {:>10} {:>14}", "space", "tape bytes", "bytes of stack")?;
     let mut space = vec![0; 1 << 20];
     for rounds in [1, 2] {
         let tapes = tapes(rounds);
-        print_most(out, "measure", &tapes, |tape| bench::measure(TEXT, tape, 4, 1))?;
-        print_most(out, "layout", &tapes, |tape| bench::layout(TEXT, tape, 4, 1, &mut space))?;
+        print_most(out, "none", &tapes, |tape| bench::layout(TEXT, tape, 4, 1, &mut []))?;
+        print_most(out, "enough", &tapes, |tape| bench::layout(TEXT, tape, 4, 1, &mut space))?;
+        let mut work = Box::new([0; BUFFER]);
+        print_most(out, "report", &tapes, |tape| reported(tape, &mut work, &mut space))?;
     }
     Ok(())
+}
+
+/// The report over a book of one job: how many are refused, and how many bytes are put.
+fn reported(tape: &[u8], work: &mut [u8; BUFFER], space: &mut [u8]) -> Answer {
+    let call = Case { text: TEXT.to_vec(), tape: tape.to_vec(), width: 4, case: 1, space: Vec::new() };
+    let mut tally = [0; 4];
+    let put = bench::report(&write(&[job::write(&call)]), 0, &mut tally, work, space);
+    Answer { number: tally[1], second: put as u64 }
 }
 
 /// For each carried kind, 64 levels of it, and 63 levels of QueryList around one. The innermost node has tokens of every kind, so many times.
@@ -70,7 +82,7 @@ fn print_most(
     for tape in tapes {
         let mut answer = None;
         most = most.max(used(&mut || answer = Some(call(tape))));
-        assert_eq!(answer.map(|answer| answer.number), Some(0));
+        assert!(answer.is_some_and(|answer| [0, 13].contains(&answer.number)));
     }
     writeln!(out, "{name:<8} {:>10} {most:>14}", tapes[0].len())
 }

@@ -23,7 +23,7 @@ fn damaged_call(random: &mut Random) -> Vec<u8> {
 /// The header's commands stand at these offsets.
 const PLACES: [usize; 3] = [0, 2, 4];
 
-fn damaged_header(random: &mut Random) -> Vec<u8> {
+pub fn damaged_header(random: &mut Random) -> Vec<u8> {
     let case = some_call(random);
     let mut job = write(&case);
     let place = PLACES[random.below(3)];

@@ -1,5 +1,6 @@
 //! Cases: inputs by the thousand, each made from a seed, a class and an index alone. Making them needs the source.
 
+mod books;
 mod damaged;
 mod jobs;
 mod limits;
@@ -54,10 +55,18 @@ pub enum Class {
     MapMasked,
     /// Map calls with both spaces about the needed lengths, and the most tokens, lines and columns.
     MapLimits,
+    /// Books of a few jobs, good, damaged and empty ones.
+    Books,
+    /// Books with one or more faults in their commands.
+    BooksDamaged,
+    /// Two books under the masking rule.
+    BooksMasked,
+    /// Books at the limits of jobs, bytes, lengths and layouts.
+    BooksLimits,
 }
 
 impl Class {
-    pub const ALL: [(&'static str, Class); 17] = [
+    pub const ALL: [(&'static str, Class); 21] = [
         ("parser", Class::Parser),
         ("wild", Class::Wild),
         ("damaged", Class::Damaged),
@@ -75,6 +84,10 @@ impl Class {
         ("map-damaged", Class::MapDamaged),
         ("map-masked", Class::MapMasked),
         ("map-limits", Class::MapLimits),
+        ("books", Class::Books),
+        ("books-damaged", Class::BooksDamaged),
+        ("books-masked", Class::BooksMasked),
+        ("books-limits", Class::BooksLimits),
     ];
 
     pub fn named(name: &str) -> Option<Class> {
@@ -90,6 +103,8 @@ pub enum Made {
     Word(Vec<u8>),
     MapCall(MapCase),
     MapPair(MapPair),
+    Book(Vec<u8>),
+    BookPair([Vec<u8>; 2]),
 }
 
 /// The case of this seed, class and index.
@@ -113,6 +128,10 @@ pub fn make(seed: u64, class: Class, index: u64) -> Made {
         Class::MapDamaged => Made::MapCall(map::damaged(&mut random)),
         Class::MapMasked => Made::MapPair(map::masked::make(&mut random)),
         Class::MapLimits => Made::MapCall(map::limits::make(&mut random, index)),
+        Class::Books => Made::Book(books::make(&mut random)),
+        Class::BooksDamaged => Made::Book(books::damaged(&mut random)),
+        Class::BooksMasked => Made::BookPair(books::masked::make(&mut random)),
+        Class::BooksLimits => Made::Book(books::limits::make(&mut random, index)),
     }
 }
 

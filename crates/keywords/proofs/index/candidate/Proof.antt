@@ -4,7 +4,8 @@ use mathlib.Core.Bool.{true, false}
 use Prim.Native.Nat.{ℕ}
 use borrow.Author.Needs.{needs}
 use borrow.Author.Tests.{eq-eqb, ne-eqb, le-leb, lt-leb}
-use Rattle.keywords.specs.Index.{entryOf}
+use Rattle.basics.specs.Match.{match}
+use Rattle.keywords.specs.Index.{numbers}
 use Rattle.keywords.proofs.Lookup.{candidate-is}
 use Rattle.keywords.proofs.index.candidate.Statement.{statement}
 use Rattle.keywords.proofs.index.candidate.Tie as tie
@@ -18,8 +19,8 @@ returns-2 c = simp (le-leb _ _ (c .before .if1 .left), lt-leb _ _ (c .if2 .taken
 key-of-requires : tie.Need-key-of-requires
 key-of-requires c κs = search needs
 
-entry-of-requires : tie.Need-entry-of-requires
-entry-of-requires c κs = search needs
+number-of-requires : tie.Need-number-of-requires
+number-of-requires c κs = search needs
 
 shared-slice-read-letter : tie.Need-shared-slice-read-letter
 shared-slice-read-letter c = search needs
@@ -29,13 +30,15 @@ letter-requires c κs = search needs
 
 returns-3 : tie.Need-returns-3
 returns-3 c =
-    let q = c .before .before .before .before .entry-of .ensures ∙ ap (λ (k : ℕ). entryOf k) (c .before .before .before .before .before .key-of .ensures) in
-    candidate-is _ _ (c .before .before .before .before .before .before .before .if1 .left) (c .before .before .before .before .before .before .if2 .left) q true (eq-eqb _ _ (c .if3 .taken ∙ c .before .before .letter .ensures .0))
+    let d = c .before .before .before in
+    let q = d .number-of .ensures ∙ ap (λ (k : ℕ). match k numbers 0) (d .before .key-of .ensures) in
+    candidate-is _ _ (d .before .before .before .if1 .left) (d .before .before .if2 .left) q true (eq-eqb _ _ (c .if3 .taken ∙ c .before .letter .ensures .0))
 
 returns-4 : tie.Need-returns-4
 returns-4 c =
-    let q = c .before .before .before .before .entry-of .ensures ∙ ap (λ (k : ℕ). entryOf k) (c .before .before .before .before .before .key-of .ensures) in
-    candidate-is _ _ (c .before .before .before .before .before .before .before .if1 .left) (c .before .before .before .before .before .before .if2 .left) q false (ne-eqb _ _ (λ e. c .if3 .left (e ∙ sym (c .before .before .letter .ensures .0))))
+    let d = c .before .before .before in
+    let q = d .number-of .ensures ∙ ap (λ (k : ℕ). match k numbers 0) (d .before .key-of .ensures) in
+    candidate-is _ _ (d .before .before .before .if1 .left) (d .before .before .if2 .left) q false (ne-eqb _ _ (λ e. c .if3 .left (e ∙ sym (c .before .letter .ensures .0))))
 
 pub candidate-spec : {M : Type 1} → statement M
 candidate-spec =
@@ -44,7 +47,7 @@ candidate-spec =
     returns
     returns-2
     key-of-requires
-    entry-of-requires
+    number-of-requires
     shared-slice-read-letter
     letter-requires
     returns-3

@@ -8,9 +8,17 @@ use crate::masking::{differing, Pair};
 use crate::random::Random;
 
 pub fn make(random: &mut Random) -> MapPair {
-    let calls = if random.percent(50) { ascii(random) } else { utf8::masked::make(random) };
+    let calls = pair(random);
     let MapCase { map, .. } = with_map(calls.case(0), random);
     MapPair { calls, map }
+}
+
+/// A pair of either class that masks.
+pub fn pair(random: &mut Random) -> Pair {
+    match random.percent(50) {
+        true => ascii(random),
+        false => utf8::masked::make(random),
+    }
 }
 
 /// A pair of the class for ASCII, which lets newlines differ; here they do in a refused pair alone.
