@@ -14,6 +14,8 @@ use qdesk::qdesk_layout;
 use qdesk::qdesk_measure;
 use qdesk::qdesk_report;
 use qdesk::qdesk_word;
+use two_books::Reports;
+use two_books::report_both;
 use two_calls::layout_both;
 use two_calls::measure_both;
 ghost use mathlib.Core.Path.{_≡_};
@@ -27,7 +29,7 @@ ghost use Rattle.desk_job.specs.Job.{printed};
 ghost use Rattle.desk_job.specs.Written.{Written, written};
 ghost use Rattle.qdesk.specs.TallyNumbers.{tallyOf};
 ghost use Rattle.qdesk.specs.WordAnswer.{wordAnswer};
-ghost use Rattle.acceptance.specs.Requests.{SortOfWord, ReportOver};
+ghost use Rattle.acceptance.specs.Requests.{SortOfWord, ReportOver, SameReport};
 ghost use Rattle.acceptance.specs.Demands.{Demand1, Demand2, Demand3};
 
 // What one call of each sort answers.
@@ -147,6 +149,22 @@ pub fn request_6(
     ensures { λ r. ⌜ ReportOver more (now (book .entry)) tally (now (out .entry)) r (now (out .exit)) ⌝ }
 {
     report_from(book, more, tally, work, out)
+}
+
+// E7: two books that differ only as the masking rule allows have the same report and the same tally.
+pub fn request_7(
+    a: &[u8],
+    b: &[u8],
+    more: bool,
+    tally: Tally,
+    work_a: &mut [u8; 65536],
+    work_b: &mut [u8; 65536],
+    out_a: &mut [u8],
+    out_b: &mut [u8],
+) -> Reports
+    ensures { λ r. ⌜ SameReport more (now (a .entry)) (now (b .entry)) (now («out_a» .entry)) (now («out_b» .entry)) r (now («out_a» .exit)) (now («out_b» .exit)) ⌝ }
+{
+    report_both(a, b, more, tally, work_a, work_b, out_a, out_b)
 }
 
 // The C interface: a report.
