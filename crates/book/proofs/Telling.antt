@@ -1,4 +1,4 @@
--- Laws of what is told of a job: the count of newlines, and from the program's answer to what is told.
+-- Laws of what is told of a job: from the program's answer to what is told.
 use mathlib.Core.Path.{_≡_, refl, ap, _∙_}
 use mathlib.Core.Bool.{Bool, true, false, cond}
 use mathlib.Core.List.{List, [], _∷_, _++_}
@@ -18,28 +18,6 @@ use Rattle.book.specs.declared.told.Told.{Told}
 use Rattle.book.specs.declared.told.Told.the-variants.{Refused, LaidOut}
 use Rattle.book.specs.Told.{Telling, telling, toldOf, toldJob, answeredJob}
 use Rattle.book.specs.Tally.{bytesTold, linesTold}
-
--- ── the count's loop: a newline, another byte, the end
-
-newline-first : (bs : List ℕ) (b : ℕ) → b ≡ 10 → count 10 (b ∷ bs) ≡ 1 + count 10 bs
-newline-first bs b e = simp (eq-eqb b 10 e)
-
-other-first : (bs : List ℕ) (b : ℕ) → (b ≡ 10 → ⊥) → count 10 (b ∷ bs) ≡ 0 + count 10 bs
-other-first bs b e = simp (ne-eqb b 10 e)
-
-module _ (text : List ℕ) (i n : ℕ) where
-  pub count-newline : i < length text → getD text i 0 ≡ 10 → n + count 10 (drop i text) ≡ count 10 text → n + 1 + count 10 (drop (i + 1) text) ≡ count 10 text
-  count-newline l e h =
-      let s : count 10 (drop i text) ≡ 1 + count 10 (drop (suc i) text) = rw (drop-cons text i 0) (newline-first (drop (suc i) text) (getD text i 0) e) in
-      rw (add-one i) (omega (arith, h, s))
-
-  pub count-other : i < length text → (getD text i 0 ≡ 10 → ⊥) → n + count 10 (drop i text) ≡ count 10 text → n + count 10 (drop (i + 1) text) ≡ count 10 text
-  count-other l e h =
-      let s : count 10 (drop i text) ≡ 0 + count 10 (drop (suc i) text) = rw (drop-cons text i 0) (other-first (drop (suc i) text) (getD text i 0) e) in
-      rw (add-one i) (omega (arith, h, s))
-
-  pub count-all : length text ≤ i → n + count 10 (drop i text) ≡ count 10 text → n ≡ count 10 text
-  count-all l h = let s : count 10 (drop i text) ≡ 0 = ap (count 10) (drop-of-length-le text l) in omega (arith, h, s)
 
 count-step : (b : Bool) (k m : ℕ) → k ≤ m → cond b 1 0 + k ≤ suc m
 count-step true k m h = omega (arith, h)

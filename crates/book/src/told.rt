@@ -1,9 +1,9 @@
 // What a report tells of a job: the program's answer, which is laid out in a working space and counted there.
+use context::count_newlines;
 use desk_job::answer_job;
 ghost use mathlib.Core.Path.{_≡_};
 ghost use mathlib.Core.Bool.{false};
 ghost use lib.ListN.{length};
-ghost use Rattle.context.specs.Cells.{count};
 ghost use Rattle.desk_job.specs.Job.{answered};
 ghost use Rattle.book.specs.Told.{Telling, telling};
 
@@ -11,20 +11,6 @@ ghost use Rattle.book.specs.Told.{Telling, telling};
 pub enum Told {
     Refused(u64, u64),
     LaidOut(u64, u64),
-}
-
-fn count_newlines(text: &[u8]) -> u64
-    ensures { λ r. ⌜ r ≡ count 10 (now (text .entry)) ⌝ }
-{
-    let mut n: u64 = 0;
-    let mut i: usize = 0;
-    while i < text.len() {
-        if text[i] == 10 {
-            n += 1;
-        }
-        i += 1;
-    }
-    n
 }
 
 // A job of a book has an end, so that nothing follows it.
@@ -36,5 +22,5 @@ pub fn tell(job: &[u8], work: &mut [u8]) -> Told
         return Told::Refused(answer.number, answer.value);
     }
     let end = answer.value as usize;
-    Told::LaidOut(answer.value, count_newlines(&work[..end]))
+    Told::LaidOut(answer.value, count_newlines(&work[..end]) as u64)
 }

@@ -188,7 +188,7 @@ pub(crate) fn trimmed_after(n: usize, k: usize, j: usize) -> usize
     if j == 0 { k } else { n + j }
 }
 
-pub(crate) fn count_newlines(text: &[u8]) -> usize
+pub fn count_newlines(text: &[u8]) -> usize
     ensures { λ r. ⌜ r ≡ count 10 (now (text .entry)) ⌝ }
 {
     let mut k: usize = 0;

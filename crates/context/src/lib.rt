@@ -3,6 +3,7 @@
 mod buffer;
 
 pub use buffer::copy;
+pub use buffer::count_newlines;
 pub use buffer::put;
 pub use buffer::put_in_case;
 pub use buffer::put_short;

@@ -57,7 +57,7 @@ unfolding leaves
 fitted-leaves true cs xs = bytes-leave cs xs
 fitted-leaves false cs xs = refl
 
-laid-leaves : (o : Outcome) (xs : List ℕ) → laidOut o xs ≡ leaves (answeredOutcome o (length xs)) xs
+pub laid-leaves : (o : Outcome) (xs : List ℕ) → laidOut o xs ≡ leaves (answeredOutcome o (length xs)) xs
 unfolding laidOut answeredOutcome leaves
 laid-leaves (refusal f p) xs = refl
 laid-leaves (laid cs) xs = fitted-leaves (leb (length cs) (length xs)) cs xs
@@ -82,7 +82,7 @@ laid-fits : (b : Bool) (cs : List Cell) (room : ℕ) → leb (length cs) room �
 laid-fits true cs room l = rw (length-map cs (λ (c : Cell). c .byte)) (leb-true (length cs) room l)
 laid-fits false cs room l = omega arith
 
-outcome-fits : (o : Outcome) (room : ℕ) → Fits (answeredOutcome o room) room
+pub outcome-fits : (o : Outcome) (room : ℕ) → Fits (answeredOutcome o room) room
 unfolding answeredOutcome
 outcome-fits (refusal f p) room = positive f
 outcome-fits (laid cs) room = laid-fits (leb (length cs) room) cs room refl

@@ -1,0 +1,4 @@
+-- From two reports to the masking rule for books.
+pub mod MaskedAnswers
+pub mod MaskedReports
+pub mod WorkedBooks
