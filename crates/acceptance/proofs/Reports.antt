@@ -1,4 +1,4 @@
--- Request E6 follows from what a report promises.
+-- Requests E6 and E7 follow from what reports promise.
 use mathlib.Core.Path.{_≡_, refl, sym, ap, subst, _∙_}
 use mathlib.Core.Bool.{Bool, false}
 use mathlib.Core.List.{List, [], _∷_, _++_, map}
@@ -16,7 +16,9 @@ use Rattle.book.specs.Tally.{zeros, tallied}
 use Rattle.book.specs.Report.{Called, jobLine, jobLines, totalLine, reportOf, reported}
 use Rattle.book.specs.Totals.{Totals}
 use Rattle.book.proofs.Totals.{totals}
-use Rattle.acceptance.specs.Requests.{LineOfJob, Puts, ReportOver}
+use Rattle.two_books.specs.declared.Reports.{Reports}
+use Rattle.two_books.specs.Both.{ReportsBoth}
+use Rattle.acceptance.specs.Requests.{LineOfJob, Puts, ReportOver, SameReport}
 
 line-of-job : (n : ℕ) (job : List ℕ) → LineOfJob n job (jobLine n (toldJob job))
 unfolding answeredJob toldOf jobLine printedAnswer
@@ -75,3 +77,12 @@ module _ (more : Bool) (book : List ℕ) (held : Tally) (work before : List ℕ)
         totals = λ jobs e. subst (Totals (map toldJob (jobsFrom jobs book 0))) (sym (tally-is jobs e)) (totals (map toldJob (jobsFrom jobs book 0)));
         empty = λ f e. empty-put (empty-opened more book f e);
       }
+
+pub same-report : {wa wb va vb : List ℕ} (more : Bool) (a b : List ℕ) (t : Tally) (xs us : List ℕ) (r : Reports) (ys zs : List ℕ)
+    → ReportsBoth more a b t wa wb xs us r va vb ys zs → SameReport more a b xs us r ys zs
+same-report more a b t xs us r ys zs h =
+    record {
+      put = λ m e. ap (λ (x : Reported). x .put) (h .masked m e .0);
+      bytes = λ m e. h .masked m e .1;
+      tally = λ m e. ap (λ (x : Reported). x .tally) (h .masked m e .0);
+    }

@@ -26,6 +26,8 @@ use Rattle.book.specs.Book.{opened, jobsFrom}
 use Rattle.book.specs.Told.{toldJob}
 use Rattle.book.specs.Report.{jobLine, jobLines, totalLine}
 use Rattle.book.specs.Totals.{Totals}
+use Rattle.two_books.specs.declared.Reports.{Reports}
+use Rattle.two_books.specs.MaskedBooks.{MaskedBooks}
 use Rattle.acceptance.specs.Demands.{formatted}
 
 -- "a listed word's place in the list, counted from 0 (the first, if it stands there twice)": the entry at i is w, and none before it is
@@ -84,3 +86,10 @@ module _ (more : Bool) (book : List ℕ) (held : Tally) (before : List ℕ) (r :
     pub totals : (jobs : ℕ) → opened more book ≡ Jobs jobs → Totals (map toldJob (jobsFrom jobs book 0)) (r .tally)
     -- "An empty book prints only the total line, all zeros."
     pub empty : more ≡ false → book ≡ [] → Puts (bytes "total jobs 0 refused 0 bytes 0 lines 0" ++ (10 ∷ []))
+
+-- E7: "Two books that differ only as the masking rule allows, in any number of jobs at the same time, must give the same report byte for byte",
+-- and the same tally; the output spaces hold beforeA and beforeB, and then afterA and afterB
+pub record SameReport (more : Bool) (a b beforeA beforeB : List ℕ) (r : Reports) (afterA afterB : List ℕ) : Type 0 where
+  pub put : MaskedBooks more a b → beforeA ≡ beforeB → r .first .put ≡ r .second .put
+  pub bytes : MaskedBooks more a b → beforeA ≡ beforeB → afterA ≡ afterB
+  pub tally : MaskedBooks more a b → beforeA ≡ beforeB → r .first .tally ≡ r .second .tally
