@@ -73,8 +73,8 @@ struct qdesk_answer {
 
 /*
  * 1 to 5 are tried in that order. Then the tape is read from its start, and the first faulty command decides; within one, the order is
- * 6, 7, 12, 8, 9, 10, 15, 16, 11. 13 comes last. The value of 6 to 12, 15 and 16 is the faulty command's offset in the tape. 14 is the
- * desk's program's own: no call answers it. 18 and 19 are numbers of a report's line, and no call answers them.
+ * 6, 7, 12, 8, 9, 10, 15, 16, 11. 13 comes last, and 17 after it. The value of 6 to 12, 15 and 16 is the faulty command's offset in the
+ * tape. 14 is the desk's program's own: no call answers it. 18 and 19 are numbers of a report's line, and no call answers them.
  */
 enum qdesk_number {
     QDESK_ACCEPTED = 0,         /* value: the layout's length */
@@ -95,6 +95,8 @@ enum qdesk_number {
     QDESK_SPACE_TOO_SHORT = 13, /* output space below the needed length; value: the needed length */
     QDESK_SPAN_INSIDE_CHARACTER = 15, /* token, or node with start not above end, that starts or ends inside a character */
     QDESK_WORD_NOT_ASCII = 16,  /* token of kind BareWord with a byte above 127 */
+    QDESK_MAP_TOO_SHORT = 17,   /* map space below two numbers per token (qdesk_layout_map only);
+                                   value: the count of numbers needed */
     QDESK_BOOK_COMMAND = 18,    /* book command wrong or cut short, a job's length past the book's end among them (place: its offset), or
                                    book above 65,536 bytes (place: 65536) */
     QDESK_TOO_MANY_JOBS = 19    /* a 257th job (place: its command's offset) */
@@ -123,6 +125,7 @@ static inline const char *qdesk_number_name(uint64_t number)
         QDESK_NAME(QDESK_SPACE_TOO_SHORT);
         QDESK_NAME(QDESK_SPAN_INSIDE_CHARACTER);
         QDESK_NAME(QDESK_WORD_NOT_ASCII);
+        QDESK_NAME(QDESK_MAP_TOO_SHORT);
         QDESK_NAME(QDESK_BOOK_COMMAND);
         QDESK_NAME(QDESK_TOO_MANY_JOBS);
     default:
@@ -134,6 +137,20 @@ static inline const char *qdesk_number_name(uint64_t number)
 /* The layout in `out`, and its length; or a refusal, of which 13 gives the length that is needed. */
 struct qdesk_answer qdesk_layout(const uint8_t *text, size_t text_len, const uint8_t *tape, size_t tape_len, uint64_t width,
                                  uint64_t case_byte, uint8_t *out, size_t out_len);
+
+/*
+ * Lays out as qdesk_layout does, and writes a map to `map`: for every token of the tape, in order, two numbers, the output line and column of
+ * its first byte, both from 1, columns in bytes. A fixed sign written for a token counts as its byte. A token that isn't written, lies below a
+ * node copied as typed, has empty text, or loses all its bytes to trimming gets 0 and 0.
+ *
+ *   map, map_len     the map space; map_len counts numbers, not bytes, and is at least two per token
+ *
+ * The answer is 0 and the layout's length, or a refusal. Numbers of `map` past the last token's stay as they were. A refusal leaves both spaces as
+ * they were; 17 is tried after 13. The caller answers for `map` as for `out`: it is valid for its length, aligned for uint64_t, and overlaps
+ * neither `out` nor what is read; at map_len 0, which is enough for a tape without tokens, it may be null.
+ */
+struct qdesk_answer qdesk_layout_map(const uint8_t *text, size_t text_len, const uint8_t *tape, size_t tape_len, uint64_t width,
+                                     uint64_t case_byte, uint8_t *out, size_t out_len, uint64_t *map, size_t map_len);
 
 /* The sorts of word. The list is clickhouse-analyzer's KEYWORDS; a place in it counts from 0. */
 enum qdesk_sort {

@@ -38,6 +38,7 @@ use mathlib.Core.Path.{_∙_, ap, refl, sym}
 use lib.Dec.{eqb}
 use lib.ListN.{length}
 use Rattle.tokens.proofs.Choices.{as-spaced}
+use Rattle.token_map.proofs.SignedRoutines.{USED}
 use Rattle.tokens.proofs.Runs.{no-spacing, spaced}
 use Rattle.formatter.proofs.RoutineLaws.{USED}
 use Rattle.formatter.proofs.Walks.{USED}
@@ -50,11 +51,12 @@ use Rattle.layout.specs.declared.Routine.the-variants as the-variants
 MODULES = {
     "RoutineLaws": "crates/formatter/proofs/RoutineLaws.antt",
     "Walks": "crates/formatter/proofs/Walks.antt",
+    "SignedRoutines": "crates/token_map/proofs/SignedRoutines.antt",
     "Routines": "crates/layout/specs/Routines.antt",
 }
 
 # The measure of a routine and of the dispatch.
-MEASURE = "2 * a .1 .1 .1 .1 .1 .1 .0"
+MEASURE = "2 * a .1 .1 .1 .1 .1 .1 .1 .0"
 NODE_MEASURE = MEASURE + " + 1"
 
 LOOP = "Loop source tape facts config left at "
@@ -66,25 +68,27 @@ SPACE_AFTER = "(spaced 0 (spaceIf (spaceAfter ((@loop .local) .prev))) (omega ar
 # The needs of a routine. The call for a token and a call `.._before` have the names TOKEN-requires and BEFORE-requires here, the addition
 # that gives the place after the loop is add-end. A call that is not named here is answered by `search needs`.
 ANSWERS = {
-    "Inv-loop": LOOP + "{done} {arms} ctx₀ out₀ out i ctx {local}",
+    "Inv-loop": LOOP + "{done} {arms} ctx₀ out₀ out map₀ map i ctx {local}",
     "μ-loop": "length tape - i",
     "add-i": "omega (arith, {ready} .inside, {ready} .sizes .tape-fits)",
-    "loop-holds": "loop-first {done} {arms} _ ({ready}) (λ all z. {known})",
+    "loop-holds": "loop-first {done} {arms} _ _ ({ready}) (λ all z. {known})",
     "shared-slice-read-if1": "omega (arith, @loop .inv .inside)",
     "head-at-requires": f"loop-fits {HERE} (@if1 .taken)",
     "shared-slice-read-if2": "omega (arith, @loop .inv .inside)",
     "TOKEN-requires": f"(token-ready {HERE} _ (@if2 .taken) (@head-at .ensures), ({{ready}}) .words)",
     "add-i-2": f"omega (arith, loop-fits {HERE} (@if1 .taken), {{ready}} .sizes .tape-fits)",
     "loop-less": "omega (arith, @loop .inv .inside)",
-    "loop-again": f"token-next {HERE} (@if2 .taken) (@head-at .ensures) {{acted}} (@{{token}} .kept .1 .1 .1 .0)",
+    "note-token-requires": f"let t = token-ready {HERE} _ (@if2 .taken) (@head-at .ensures) in (t .ordered, t .within)",
+    "loop-again": f"token-next {HERE} {{signed}} (@if2 .taken) (@head-at .ensures) {{acted}} (@note-token .ensures) (@{{token}} .kept .1 .1 .1 .0) (@note-token .kept .0)",
     "BEFORE-requires": f"let r = side-ready {HERE} in omega arith",
     "sub-node": f"left-pos {CHILD}",
     "node-requires": f"(omega (arith, @pre .0, left-pos {CHILD}), node-ready {CHILD} (@head-at .ensures) {{before}} (omega arith))",
     "loop-less-2": "omega (arith, @loop .inv .inside, @node .ensures .forward)",
     "loop-again-2": f"node-next {HERE} {{at-node}} (@if1 .taken) (@if2 .left) (@head-at .ensures) (λ k z. {{same-node}}) {{before}} "
-    "(@node .ensures) {next-local} {after} (omega arith) (omega arith) (@node .kept .1 .1 .1 .1 .1 .0{kept})",
+    "(@node .ensures) {next-local} {after} (omega arith) (omega arith) (@node .kept .1 .1 .1 .1 .1 .0{kept}) (@node .kept .1 .1 .1 .1 .1 .1 .0)",
     "add-end": "omega (arith, @loop .inv .inside, {ready} .sizes .tape-fits)",
     "same-length": "@loop .inv .same",
+    "same-length-2": "@loop .inv .same-map",
     "returns": f"loop-last {HERE} (@if1 .left) {{end}} (omega arith)",
     "multi-item-requires": "fact-fits ({ready})",
     "several-items-requires": f"omega (arith, loop-fits {HERE} (@if1 .taken), {{ready}} .sizes .facts-fit)",
@@ -100,7 +104,7 @@ NODE_ANSWERS = {
     "format-error-verbatim-requires": "copy-ready (@pre .1 .0) (@head-at .ensures)",
     "same-length": "@format-error-verbatim .kept .1 .1 .0",
     "returns": "node-copied (@pre .1 .0) (@pre .1 .1) (@head-at .ensures) (decided-copied (@pre .1 .0) (@pre .1 .1) (@has-error .ensures) (@if1 .taken) (@if2 .taken)) (@skip .ensures) "
-    "(@format-error-verbatim .ensures)",
+    "(@format-error-verbatim .ensures) (@note-none .ensures)",
     "routine-of-requires": "search needs",
     "enum-told": "search needs",
     "enum-known-r": "search needs",
@@ -129,7 +133,8 @@ ROWS = {
     "list-by": {
         "arms": f"(listClauseArms {LIST} {MULTI})",
         "done": f"(formatListClause {LIST})",
-        "Inv-loop": LOOP + "(formatListClause list) (listClauseArms list multi) ctx₀ out₀ out i ctx local",
+        "Inv-loop": LOOP + "(formatListClause list) (listClauseArms list multi) ctx₀ out₀ out map₀ map i ctx local",
+        "signed": f"(list-by-signed {LIST} {MULTI})",
         "ready": "@pre .1 .0",
         "known": f"list-known {LIST} all {MULTI} (@multi-item .ensures ∙ multi-noted (@pre .1 .1) (node-noted (@pre .1 .0) all z))",
         "at-node": f"(listNode {LIST_NODE} (@several-items .result))",
@@ -215,6 +220,7 @@ def pieces(routine, need):
         "done": f"(always {routine.definition})",
         "known": "refl",
         "token": routine.token,
+        "signed": f"{routine.name}-signed",
         "acted": f"({token} .acted) ({token} .local)" if "local" in trail else f"({token}) refl",
         "before": spacing,
         "kept": f" ∙ @{before} .kept .0" if before else "",

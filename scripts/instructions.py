@@ -1,6 +1,6 @@
 #!/usr/bin/env python3
 """Counts instructions by callgrind: what a token costs the port's call with no output space and its walk, the call with enough space and its
-walks, and the source's `format` on a ready tree.
+walks, the map call with enough space and its walks, and the source's `format` on a ready tree.
 
     scripts/instructions.py [--seed SEED] [CORPUS...]    the corpora of `cargo run --release --bin format -- --list`, or all
 
@@ -78,15 +78,17 @@ def profile(corpus, seed, side, function):
 def print_row(corpus, seed):
     layout = profile(corpus, seed, "layout", "qdesk_layout")
     no_space = profile(corpus, seed, "no-space", "qdesk_layout")
+    mapped = profile(corpus, seed, "map", "qdesk_layout_map")
     source = profile(corpus, seed, "ready-tree", "bench::rounds::ready_tree")
     walk, whole_no_space = no_space.instructions_in(WALK), no_space.a_token()[0]
     # One walk where the layout fits the space on the stack (4,096 bytes, or 16,384 for tapes above 8,206), else two.
     walks = layout.instructions_in(WALK)
     whole, mispredicted = layout.a_token()
+    map_walks, (map_whole, map_mispredicted) = mapped.instructions_in(WALK), mapped.a_token()
     source_whole, source_mispredicted = source.a_token()
     print(
-        f"{corpus:<14} {walk:>8.0f} {whole_no_space:>8.0f} {walks:>8.0f} {whole:>8.0f} {source_whole:>8.0f}"
-        f" | {mispredicted:>6.1f} {source_mispredicted:>6.1f}",
+        f"{corpus:<14} {walk:>8.0f} {whole_no_space:>8.0f} {walks:>8.0f} {whole:>8.0f} {map_walks:>8.0f} {map_whole:>8.0f} {source_whole:>8.0f}"
+        f" | {mispredicted:>6.1f} {map_mispredicted:>6.1f} {source_mispredicted:>6.1f} | {map_whole / whole:>10.2f}",
         flush=True,
     )
 
@@ -103,9 +105,12 @@ def main():
     unknown = set(asked.corpora) - set(known)
     if unknown:
         parser.error(f"no corpus {', '.join(sorted(unknown))}: there are {', '.join(known)}")
-    print(f"{'':<14} {'instructions a token':^44} | {'mispredicted':^13}")
-    print(f"{'':<14} {'in no space':^17} {'in enough':^17} {'':>8} |")
-    print(f"{'corpus':<14} {'walk':>8} {'all':>8} {'walks':>8} {'all':>8} {'source':>8} | {'layout':>6} {'source':>6}")
+    print(f"{'':<14} {'instructions a token':^62} | {'mispredicted':^20} | {'map over':>10}")
+    print(f"{'':<14} {'in no space':^17} {'in enough':^17} {'the map call':^17} {'':>8} | {'':20} |")
+    print(
+        f"{'corpus':<14} {'walk':>8} {'all':>8} {'walks':>8} {'all':>8} {'walks':>8} {'all':>8} {'source':>8}"
+        f" | {'layout':>6} {'map':>6} {'source':>6} | {'layout':>10}"
+    )
     for corpus in asked.corpora or known:
         print_row(corpus, asked.seed)
 

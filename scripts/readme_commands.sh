@@ -1,6 +1,6 @@
 #!/bin/sh
 # Runs each command of README.md and examples/README.md (a line that begins with four blanks and a dollar sign) as it is printed there, and holds
-# what it prints to the lines below it, where there are any. None leaves a file behind that git would show.
+# what it prints to the lines of its block below it, where there are any, empty ones among them. None leaves a file behind that git would show.
 set -eu
 cd "$(dirname "$0")/.."
 folder=$(mktemp -d)
@@ -13,8 +13,10 @@ untracked() {
 
 # Each command to N.command, and the block of lines below it to N.expected.
 awk -v folder="$folder" '
-    /^    \$ / { n++; print substr($0, 7) > (folder "/" n ".command"); below = 1; next }
-    /^    / && below { print substr($0, 5) > (folder "/" n ".expected"); next }
+    function expect(line) { print line > (folder "/" n ".expected") }
+    /^    \$ / { n++; print substr($0, 7) > (folder "/" n ".command"); below = 1; empty = 0; next }
+    /^    / && below { for (; empty > 0; empty--) expect(""); expect(substr($0, 5)); next }
+    /^$/ && below { empty++; next }
     { below = 0 }
 ' README.md examples/README.md
 untracked >"$folder/before"

@@ -1,6 +1,6 @@
 /*
- * Measures and lays out `select a,b from t` from a tape that is spelt by hand, and shows two refusals. Good C and good C++:
- * scripts/c_example.sh compiles it as both and holds what it prints to layout.out.
+ * Measures and lays out `select a,b from t` from a tape that is spelt by hand, says where its tokens stand, and shows two refusals. Good C and
+ * good C++: scripts/c_example.sh compiles it as both and holds what it prints to layout.out.
  */
 #include "qdesk.h"
 #include "qdesk_kinds.h"
@@ -113,6 +113,25 @@ static void print_layout(const char *query, const struct tape *tape)
     free(out);
 }
 
+/* Lays out with a map, and prints where each token stands. */
+static void print_places(const char *query, const struct tape *tape)
+{
+    enum { TOKENS = 9 };
+    uint8_t out[64];
+    uint64_t map[2 * TOKENS];
+    struct qdesk_answer answer = qdesk_layout_map((const uint8_t *)query, strlen(query), tape->bytes, tape->length, 4, 1, out, sizeof out, map,
+                                                  2 * TOKENS);
+    print_answer("with a map", answer);
+    for (int i = 0; answer.number == QDESK_ACCEPTED && i < TOKENS; i++) {
+        if (map[2 * i] == 0) {
+            printf("token %d: no place\n", i + 1);
+        } else {
+            printf("token %d: line %" PRIu64 ", column %" PRIu64 "\n", i + 1, map[2 * i], map[2 * i + 1]);
+        }
+    }
+    putchar('\n');
+}
+
 int main(void)
 {
     const char *query = "select a,b from t";
@@ -121,6 +140,7 @@ int main(void)
     put_query(&tape);
     printf("%s\n\n", query);
     print_layout(query, &tape);
+    print_places(query, &tape);
 
     print_answer("in 26 bytes", lay_out(query, &tape, short_space, sizeof short_space));
     tape.length -= 1;

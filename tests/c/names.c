@@ -50,7 +50,7 @@ static void check_names(void)
     unsigned long number;
     for (number = 0; number <= QDESK_TOO_MANY_JOBS + 1; number++) {
         const char *name = qdesk_number_name(number);
-        int known = number != 14 && number != 17 && number <= QDESK_TOO_MANY_JOBS;
+        int known = number != 14 && number <= QDESK_TOO_MANY_JOBS;
         check((name != NULL) == known, "a number has a name", number);
     }
     check(strcmp(qdesk_number_name(QDESK_SPAN_OUTSIDE), "QDESK_SPAN_OUTSIDE") == 0, "the name of 10", 10);

@@ -1,10 +1,11 @@
 -- From the walk to the call.
-use mathlib.Core.Bool.{Bool}
+use mathlib.Core.Bool.{Bool, true}
 use mathlib.Core.Path.{_≡_, refl, sym, ap, subst, _∙_}
-use mathlib.Core.List.{List, [], _∷_, _++_}
+use mathlib.Core.List.{List, [], _∷_, _++_, map}
 use Prim.Native.Nat.{ℕ, zero, suc, _+_, _*_, _^_, _≤_, _<_}
 use native.Mathlib.Omega.{arith}
-use lib.ListN.{length, take, drop, set}
+use lib.ListN.{length, take, drop, set, replicate, length-map, length-replicate}
+use lib.Dec.{leb}
 use lib.Seq.{length-take-le, take-take}
 use borrow.Author.Tests.{le-leb, lt-leb}
 use Rattle.utf8.specs.Trimming.{trimmedLength}
@@ -18,30 +19,38 @@ use Rattle.context.specs.declared.FormatterContext.{FormatterContext}
 use Rattle.context.proofs.Splicing.{splice-covers}
 use Rattle.context.proofs.Trimming.{after-none}
 use Rattle.tape.specs.declared.Head.{Head}
+use Rattle.tape.specs.declared.Passed.{Passed}
 use Rattle.tape.specs.declared.Fault.{Fault}
 use Rattle.tape.specs.declared.Checked.{Checked}
 use Rattle.tape.specs.declared.Checked.the-variants.{Accepted, Refused}
-use Rattle.tape.specs.Tree.{Tree}
+use Rattle.tape.specs.Tree.{Tree, tokens}
 use Rattle.tape.specs.NodeFacts.{Noted, NotedOf}
 use Rattle.tape.specs.Tape.{Read, refused, got, readTree, headAt, verdict}
 use Rattle.tape.specs.Call.{readCall}
 use Rattle.tape.specs.Faults.{number}
-use Rattle.tape.specs.SpelledAt.{AcceptedCall}
+use Rattle.tape.specs.SpelledAt.{AcceptedCall, NodeAt, Skipped}
 use Rattle.tape.proofs.Acceptance.{accepted-call}
 use Rattle.layout.specs.declared.Answer.{Answer}
 use Rattle.layout.specs.FormatNode.{formatNode}
 use Rattle.layout.specs.Calls.{calls}
 use Rattle.layout.specs.Layout.{original, piecesOf, format}
 use Rattle.layout.specs.Run.{run}
+use Rattle.layout.specs.TokenMap.{placesFrom, noSpot, entry, tokenMap}
+use Rattle.layout.specs.MapCall.{flat, numbersOf, numbers, Mapped, mapFitted, mappedAs, mapped}
 use Rattle.layout.specs.Outcome.{Outcome, refusal, laid, ofRead, configOf, outcome, Result, fitted, laidOut}
 use Rattle.layout.specs.SpanStarts.{SpansStart}
 use Rattle.layout.proofs.EachCall.{each-call}
+use Rattle.layout.proofs.TokenMaps.{tokens-size, places-count, map-count}
 use Rattle.layout.proofs.PieceStarts.{StartsAt, TokenStarts, spans-start}
 use Rattle.layout.proofs.Running.{after, run-appends, kept, finish-none, finish-length, finish-stored}
 use Rattle.formatter.specs.declared.Walk.{Walk}
 use Rattle.keywords.specs.Table.{table}
-use Rattle.formatter.specs.RoutinePromises.{NodeReady, NodeDone}
-use Rattle.formatter.specs.Entry.{Ready, allCells, Trims, WalkedInto, Fills, LaysOut}
+use Rattle.token_map.specs.Notes.{noteAll}
+use Rattle.token_map.specs.Spots.{spots}
+use Rattle.token_map.proofs.Noting.{length-noteAll}
+use Rattle.token_map.proofs.NotedSpots.{noted-spots}
+use Rattle.formatter.specs.RoutinePromises.{NodeReady, NodeDone, seat}
+use Rattle.formatter.specs.Entry.{Ready, allCells, Trims, Notes, WalkedInto, Fills, LaysOut, MapFits, MapFills, MapsOut}
 
 -- ── lists
 
@@ -80,10 +89,10 @@ record Walked (bs xs : List ℕ) (w : Walk) (ys : List ℕ) : Type 0 where
   bytes : ys ≡ splice 0 bs xs
   short : w .context .position .trimmed ≤ 2 ^ 60
 
-walked : {text keywords tape facts : List ℕ} {config : FormatConfig} {c : FormatterContext} {xs ys : List ℕ} {w : Walk} → Ready text keywords tape facts config → c ≡ new
-    → NodeDone text tape config 0 c xs w ys → (t : Tree) (p : ℕ) → readTree (length text) tape ≡ got t p → Walked (bytesOf (allCells config text t)) xs w ys
+walked : {text keywords tape facts : List ℕ} {config : FormatConfig} {c : FormatterContext} {xs ys ms ns : List ℕ} {w : Walk} → Ready text keywords tape facts config → c ≡ new
+    → NodeDone text tape config 0 c xs ms w ys ns → (t : Tree) (p : ℕ) → readTree (length text) tape ≡ got t p → Walked (bytesOf (allCells config text t)) xs w ys
 unfolding piecesOf original appended advanced
-walked {text} {tape} {facts} {config} {c} {xs} {ys} {w} r e d t p q =
+walked {text} {tape} {facts} {config} {c} {xs} {ys} {w = w} r e d t p q =
     let a = r .accepted in
     let u = d .all (a .tree .kids) (a .kids) in
     let k : a .tree ≡ t = same-tree (sym (a .read) ∙ q) in
@@ -105,10 +114,25 @@ walked {text} {tape} {facts} {config} {c} {xs} {ys} {w} r e d t p q =
       short = omega (arith, trimmed-le (bytesOf X), d .grew .length, d .inside, r .sizes .tape-fits, b);
     }
 
+-- the places that a walk from the start has noted
+walked-notes : {text keywords tape facts : List ℕ} {config : FormatConfig} {c : FormatterContext} {xs ys ms ns : List ℕ} {w : Walk} → Ready text keywords tape facts config → c ≡ new
+    → NodeDone text tape config 0 c xs ms w ys ns → Notes text tape config ms ns
+walked-notes {text} {tape} {config} {c} {ms = ms} r e d =
+    let a = r .accepted in
+    record {
+      all =
+          λ t p q.
+          d .all (a .tree .kids) (a .kids) .notes
+          ∙ ap (λ (h : Head). noteAll (placesFrom config text formatNode (record { head = h; kids = a .tree .kids }) (seat c)) ms) (sym (a .root .head))
+          ∙ ap (λ (z : Tree). noteAll (placesFrom config text formatNode z (seat c)) ms) (same-tree (sym (a .read) ∙ q))
+          ∙ ap (λ (z : FormatterContext). noteAll (placesFrom config text formatNode t (seat z)) ms) e;
+    }
+
 module _ {text keywords tape facts : List ℕ} {config : FormatConfig} {c : FormatterContext} {w : Walk} (r : Ready text keywords tape facts config) (e : c ≡ new) where
-  pub walked-into : {xs ys : List ℕ} → NodeDone text tape config 0 c xs w ys → WalkedInto text tape config xs (w .context .position .trimmed) ys
+  pub walked-into : {xs ys ms ns : List ℕ} → NodeDone text tape config 0 c xs ms w ys ns → WalkedInto text tape config xs ms (w .context .position .trimmed) ys ns
   walked-into d =
       record {
+        notes = walked-notes r e d;
         trims = record { short = walked r e d (r .accepted .tree) _ (r .accepted .read) .short; all = λ t p q. walked r e d t p q .trimmed };
         all = λ t p q. walked r e d t p q .bytes;
       }
@@ -116,13 +140,13 @@ module _ {text keywords tape facts : List ℕ} {config : FormatConfig} {c : Form
 -- ── the layout in front of the space
 
 module _ {text tape : List ℕ} {config : FormatConfig} (k : ℕ) (n : Trims text tape config k) (z : 0 < k) {xs : List ℕ} (h : k < length xs) where
-  pub fills : {m : ℕ} {ys : List ℕ} → WalkedInto text tape config (take k xs) m ys → Fills text tape config xs (set (ys ++ drop k xs) k 10)
+  pub fills : {m : ℕ} {ys ms ns : List ℕ} → WalkedInto text tape config (take k xs) ms m ys ns → Fills text tape config xs (set (ys ++ drop k xs) k 10)
   unfolding format
   fills {m} {ys} d =
       record { all = λ t p q. finish-stored (allCells config text t) k xs ys (n .all t p q) (λ x. omega arith) (omega arith) (d .all t p q) }
 
   -- the first k bytes of any space of at least k bytes are the layout's
-  pub copied : {m : ℕ} {us vs ys : List ℕ} → WalkedInto text tape config us m vs → k ≤ length us → ys ≡ set (splice 0 (take k vs) (take k xs) ++ drop k xs) k 10
+  pub copied : {m : ℕ} {us vs ys ms ns : List ℕ} → WalkedInto text tape config us ms m vs ns → k ≤ length us → ys ≡ set (splice 0 (take k vs) (take k xs) ++ drop k xs) k 10
       → Fills text tape config xs ys
   unfolding format
   copied {m} {us} {vs} {ys} d l e =
@@ -168,7 +192,148 @@ module _ (X : List Cell) (k : ℕ) (n : k ≡ kept X) where
       (ap (λ (m : ℕ). record { answer = record { number = 0; value = m }; space = bytesOf (finish X) ++ drop (length (finish X)) xs }) (sym (length-some z))
       ∙ ap (λ (b : Bool). fitted b (finish X) xs) (sym (le-leb (length (finish X)) (length xs) (omega (arith, length-some z)))))
 
--- ── the whole call
+-- ── the map where the tape is accepted
+
+pub root-at : {text keywords tape facts : List ℕ} {config : FormatConfig} → Ready text keywords tape facts config → NodeAt tape 0
+root-at r = let a = r .accepted in record { len = _; kids = a .tree .kids; inside = a .root .inside; spelled = a .kids }
+
+-- the tokens of the tape, counted from its root
+pub map-fits : {text keywords tape facts : List ℕ} {config : FormatConfig} {j : Passed} → Ready text keywords tape facts config → Skipped tape 0 j → MapFits text tape (2 * j .tokens)
+map-fits r s =
+    let a = r .accepted in
+    record { all = λ t p q. ap (λ (n : ℕ). 2 * n) (s .counted _ (a .tree .kids) (a .kids) ∙ ap (λ (z : Tree). length (tokens (z .kids))) (same-tree (sym (a .read) ∙ q))) }
+
+pub tokens-few : {text keywords tape facts : List ℕ} {config : FormatConfig} {j : Passed} → Ready text keywords tape facts config → Skipped tape 0 j → j .tokens ≤ length tape
+tokens-few r s = let a = r .accepted in omega (arith, s .counted _ (a .tree .kids) (a .kids), tokens-size (a .tree .kids), a .whole)
+
+take-all : (n : ℕ) (xs : List ℕ) → length xs ≡ n → take n xs ≡ xs
+take-all zero [] e = refl
+take-all zero (x ∷ xs) e = absurd (omega arith)
+take-all (suc n) [] e = refl
+take-all (suc n) (x ∷ xs) e = ap {B = List ℕ} (λ l. x ∷ l) (take-all n xs (omega arith))
+
+take-front : (as zs : List ℕ) (m : ℕ) → length as ≡ m → take m (as ++ zs) ≡ as
+take-front [] zs zero e = refl
+take-front [] zs (suc m) e = absurd (omega arith)
+take-front (a ∷ as) zs zero e = absurd (omega arith)
+take-front (a ∷ as) zs (suc m) e = ap {B = List ℕ} (λ l. a ∷ l) (take-front as zs m (omega arith))
+
+-- what was noted in a map of zeros that fits becomes the map's numbers
+pub map-fills : {text tape : List ℕ} {config : FormatConfig} {k n : ℕ} {xs ys ns ls : List ℕ} → Trims text tape config k → 0 < k → Fills text tape config xs ys
+    → MapFits text tape n → Notes text tape config (replicate n 0) ns → ls ≡ spots k (take (k + 1) ys) ns → MapFills text tape config ls
+unfolding tokenMap format original
+map-fills {text} {tape} {config} {k} {n} {xs} {ys} {ns} {ls} trims z f m o e =
+    record {
+      all =
+          λ t p q.
+          let X = allCells config text t in
+          let ps = placesFrom config text formatNode t (newState, 0) in
+          let size : n ≡ 2 * length ps = m .all t p q ∙ ap (λ (x : ℕ). 2 * x) (sym (places-count config text formatNode t (newState, 0))) in
+          let all : length (finish X) ≡ k + 1 = finish-length X (λ u. omega (arith, trims .all t p q)) ∙ ap (λ (x : ℕ). x + 1) (sym (trims .all t p q)) in
+          let bs = bytesOf (finish X) in
+          let first : take (k + 1) ys ≡ bs = ap (take (k + 1)) (f .all t p q) ∙ take-front bs (drop (length (finish X)) xs) (k + 1) (length-map (finish X) (λ (c : Cell). c .byte) ∙ all) in
+          let noted = noteAll ps (replicate n 0) in
+          let whole : ns ≡ take (2 * length ps) noted = o .all t p q ∙ sym (take-all (2 * length ps) noted (length-noteAll ps (replicate n 0) ∙ length-replicate {A = ℕ} n 0 ∙ size)) in
+          e
+          ∙ ap (λ (l : List ℕ). spots k l ns) first
+          ∙ ap (spots k bs) whole
+          ∙ noted-spots k bs ps n (omega arith)
+          ∙ ap (λ (j : ℕ). flat (map (entry j bs) ps)) (trims .all t p q);
+    }
+
+no-spot : (p : ℕ) (bs : List ℕ) → entry 0 bs p ≡ noSpot
+no-spot zero bs = refl
+no-spot (suc p) bs = refl
+
+no-spots : (bs ps : List ℕ) → replicate (2 * length ps) 0 ≡ flat (map (entry 0 bs) ps)
+no-spots bs [] = refl
+no-spots bs (p ∷ ps) =
+    let two : 2 * suc (length ps) ≡ suc (suc (2 * length ps)) = omega arith in
+    rw (two, no-spot p bs) (ap {B = List ℕ} (λ l. 0 ∷ 0 ∷ l) (no-spots bs ps))
+
+module _ {text tape : List ℕ} {config : FormatConfig} {k : ℕ} (n : Trims text tape config k) where
+  -- 13
+  pub map-short : {xs ms : List ℕ} → 0 < k → length xs ≤ k → MapsOut text tape config xs ms (record { number = 13; value = k + 1 }) xs ms
+  unfolding format
+  map-short {xs} {ms} z h =
+      record {
+        all =
+            λ t p q.
+            let X = allCells config text t in
+            let l = length-some X k (n .all t p q) (λ e. omega arith) in
+            ap (λ (m : ℕ). record { answer = record { number = 13; value = m }; space = xs; map = ms }) (sym l)
+            ∙ ap (λ (b : Bool). mapFitted b (leb (length (flat (tokenMap original config text t))) (length ms)) (finish X) (flat (tokenMap original config text t)) xs ms)
+            (sym (lt-leb (length (finish X)) (length xs) (omega (arith, l))));
+      }
+
+  laid-fits : {xs : List ℕ} → (0 < k → k < length xs) → (t : Tree) (p : ℕ) → readTree (length text) tape ≡ got t p → length (format original config text t) ≤ length xs
+  unfolding format
+  laid-fits {xs} h t p q = go k refl
+    where
+      X : List Cell
+      X = allCells config text t
+
+      go : (j : ℕ) → k ≡ j → length (finish X) ≤ length xs
+      go zero e = omega (arith, ap length (finish-none X (sym (n .all t p q) ∙ e)))
+      go (suc j) e = omega (arith, length-some X k (n .all t p q) (λ u. omega arith), h (omega arith))
+
+  -- 17
+  pub map-few : {xs ms : List ℕ} {c : ℕ} → (0 < k → k < length xs) → MapFits text tape c → length ms < c → MapsOut text tape config xs ms (record { number = 17; value = c }) xs ms
+  map-few {xs} {ms} {c} h m l =
+      record {
+        all =
+            λ t p q.
+            let cs = format original config text t in
+            let ls = flat (tokenMap original config text t) in
+            let size : c ≡ length ls = m .all t p q ∙ sym (map-count original config text t) in
+            ap (λ (x : ℕ). record { answer = record { number = 17; value = x }; space = xs; map = ms }) size
+            ∙ ap (λ (b : Bool). mapFitted true b cs ls xs ms) (sym (lt-leb (length ls) (length ms) (omega (arith, size))))
+            ∙ ap (λ (b : Bool). mapFitted b (leb (length ls) (length ms)) cs ls xs ms) (sym (le-leb (length cs) (length xs) (laid-fits h t p q)));
+      }
+
+  -- both fit
+  pub map-done : {xs ys ms ns : List ℕ} {c v : ℕ} → (0 < k → k < length xs) → MapFits text tape c → c ≤ length ms
+      → ((t : Tree) (p : ℕ) → readTree (length text) tape ≡ got t p → v ≡ length (format original config text t))
+      → Fills text tape config xs ys → MapFills text tape config ns → MapsOut text tape config xs ms (record { number = 0; value = v }) ys (ns ++ drop c ms)
+  map-done {xs} {ys} {ms} {ns} {c} {v} h m l w f g =
+      record {
+        all =
+            λ t p q.
+            let cs = format original config text t in
+            let ls = flat (tokenMap original config text t) in
+            let size : c ≡ length ls = m .all t p q ∙ sym (map-count original config text t) in
+            rw (w t p q, f .all t p q, g .all t p q, size)
+            (ap (λ (b : Bool). mapFitted true b cs ls xs ms) (sym (le-leb (length ls) (length ms) (omega (arith, size))))
+            ∙ ap (λ (b : Bool). mapFitted b (leb (length ls) (length ms)) cs ls xs ms) (sym (le-leb (length cs) (length xs) (laid-fits h t p q))));
+      }
+
+  pub laid-length : 0 < k → (t : Tree) (p : ℕ) → readTree (length text) tape ≡ got t p → k + 1 ≡ length (format original config text t)
+  unfolding format
+  laid-length z t p q = sym (length-some (allCells config text t) k (n .all t p q) (λ e. omega arith))
+
+  -- nothing is laid out, and no token has a spot
+  pub none-length : k ≡ 0 → (t : Tree) (p : ℕ) → readTree (length text) tape ≡ got t p → 0 ≡ length (format original config text t)
+  unfolding format
+  none-length z t p q = sym (ap length (finish-none (allCells config text t) (sym (n .all t p q) ∙ z)))
+
+  pub none-fills : k ≡ 0 → (xs : List ℕ) → Fills text tape config xs xs
+  unfolding format
+  none-fills z xs = record { all = λ t p q. rw (finish-none (allCells config text t) (sym (n .all t p q) ∙ z)) }
+
+  pub none-map : k ≡ 0 → {c : ℕ} → MapFits text tape c → MapFills text tape config (replicate c 0)
+  unfolding tokenMap original
+  none-map z {c} m =
+      record {
+        all =
+            λ t p q.
+            let ps = placesFrom config text formatNode t (newState, 0) in
+            let bs = bytesOf (format original config text t) in
+            ap (λ (x : ℕ). replicate x 0) (m .all t p q ∙ ap (λ (x : ℕ). 2 * x) (sym (places-count config text formatNode t (newState, 0))))
+            ∙ no-spots bs ps
+            ∙ ap (λ (j : ℕ). flat (map (entry j bs) ps)) (sym z ∙ n .all t p q);
+      }
+
+-- ── the whole calls
 
 module _ (width case : ℕ) (text tape : List ℕ) where
   refused-is : (f : Fault) (p : ℕ) → Refused f p ≡ verdict (readCall width case text tape) → outcome original width case text tape ≡ refusal f p
@@ -187,6 +352,13 @@ module _ (width case : ℕ) (text tape : List ℕ) where
   unfolding laidOut
   refused-layout {f} {n} {p} xs k e =
       ap (λ (m : ℕ). record { answer = record { number = m; value = p }; space = xs }) k ∙ sym (ap (λ (o : Outcome). laidOut o xs) (refused-is f p e))
+
+  pub refused-map : {f : Fault} {n p : ℕ} (xs ms : List ℕ) → n ≡ number f → Refused f p ≡ verdict (readCall width case text tape)
+      → _≡_ {A = Mapped} (record { answer = record { number = n; value = p }; space = xs; map = ms }) (mapped width case text tape xs ms)
+  unfolding mapped
+  refused-map {f} {n} {p} xs ms k e =
+      ap (λ (m : ℕ). record { answer = record { number = m; value = p }; space = xs; map = ms }) k
+      ∙ sym (ap (λ (o : Outcome). mappedAs o (numbers width case text tape) xs ms) (refused-is f p e))
 
   module _ (e : Accepted ≡ verdict (readCall width case text tape)) where
     call : AcceptedCall width case text tape
@@ -212,3 +384,13 @@ module _ (width case : ℕ) (text tape : List ℕ) where
     lays-out {config} {r} {xs} {ys} c m =
         let u = subst (λ (z : FormatConfig). LaysOut text tape z xs r ys) c m in
         u .all (call .accepted .tree) _ (call .accepted .read) ∙ ap (λ (o : Outcome). laidOut o xs) (sym accepted-is)
+
+    pub maps-out : {config : FormatConfig} {r : Answer} {xs ys ms ns : List ℕ} → config ≡ configOf width case → MapsOut text tape config xs ms r ys ns
+        → _≡_ {A = Mapped} (record { answer = r; space = ys; map = ns }) (mapped width case text tape xs ms)
+    unfolding mapped numbers
+    maps-out {config} {r} {xs} {ys} {ms} {ns} c m =
+        let u = subst (λ (z : FormatConfig). MapsOut text tape z xs ms r ys ns) c m in
+        let t = call .accepted .tree in
+        u .all t _ (call .accepted .read)
+        ∙ ap (λ (o : Outcome). mappedAs o (flat (tokenMap original (configOf width case) text t)) xs ms) (sym accepted-is)
+        ∙ ap (λ (x : Read Tree). mappedAs (outcome original width case text tape) (numbersOf x (tokenMap original (configOf width case) text)) xs ms) (sym (call .read))

@@ -4,7 +4,7 @@ use mathlib.Core.Bool.{Bool, true, false, cond, _||_}
 use mathlib.Core.List.{List, _++_, map}
 use Prim.Native.Nat.{ℕ, _+_, _-_, _*_, _≤_, _<_}
 use native.Mathlib.Omega.{arith}
-use lib.ListN.{length, getD}
+use lib.ListN.{length, getD, replicate}
 use lib.Dec.{eqb}
 use borrow.Author.Tests.{eqb-true, eqb-false}
 use Rattle.context.specs.Cells.{Text}
@@ -12,6 +12,7 @@ use Rattle.context.specs.Store.{Store, Room}
 use Rattle.context.specs.declared.FormatConfig.{FormatConfig}
 use Rattle.context.specs.declared.FormatterContext.{FormatterContext}
 use Rattle.tape.specs.declared.Head.{Head}
+use Rattle.tape.specs.declared.Passed.{Passed}
 use Rattle.tape.specs.Kinds.{Error, QueryList}
 use Rattle.tape.specs.Tree.{Children, done, token, node, size, height, hasErrorChild, countListItems, severalListItems, copied, EachNode}
 use Rattle.tape.specs.Tape.{headAt}
@@ -24,10 +25,17 @@ use Rattle.layout.specs.Arms.{Spacing, seen, Arms}
 use Rattle.layout.specs.FormatNode.{armsOf, routineOf, formatNode}
 use Rattle.layout.specs.Calls.{Call, putSpacing, actAt, formatErrorVerbatim, walk, calls}
 use Rattle.layout.specs.Run.{runSpacing, run}
+use Rattle.layout.specs.TokenMap.{Seat, seatAfter, placeOf, noPlaces, places, placesFrom}
 use Rattle.layout.proofs.Running.{run-append, run-spacing}
+use Rattle.token_map.specs.Notes.{noted, noteAll}
+use Rattle.token_map.specs.Signs.{placeBy}
+use Rattle.token_map.specs.declared.Signs.{Signs}
+use Rattle.token_map.proofs.Noting.{noteAll-append}
+use Rattle.token_map.specs.Signed.{Signed}
+use Rattle.token_map.proofs.Placing.{seat-of-run, note-right}
 use Rattle.tokens.specs.TokenPromises.{Ran, Spaced, TokenReady, Acted}
 use Rattle.formatter.specs.declared.Walk.{Walk}
-use Rattle.formatter.specs.RoutinePromises.{Grew, NodeReady, RoutineDone, NodeDone}
+use Rattle.formatter.specs.RoutinePromises.{Grew, NodeReady, RoutineDone, NodeDone, seat}
 use Rattle.formatter.proofs.Copied.{copied-noted, copied-list, copied-clean}
 
 -- ── the calls of a row of children
@@ -60,32 +68,76 @@ module _ (config : FormatConfig) (source : Text) (r : Arms) (l : Local) (w : Sto
       ∙ ap (play (walk formatNode source r (a .0) rest)) (run-spacing config source (a .2) _)
       ∙ ap (λ (n : Local × List Spacing × List Spacing). play (walk formatNode source r (n .0) rest) (runSpacing (n .2) (play inside (runSpacing (n .1) w)))) e
 
+-- ── the places of a row of children's tokens
+
+module _ (config : FormatConfig) (source : Text) where
+  abbrev seated : Store → Seat
+  seated w = seat (w .0)
+
+  -- what the calls make of a store, where they are known to have made w
+  seat-made : (cs : List Call) {v w : Store} → w ≡ run config source cs v → seatAfter config source cs (seated v) ≡ seated w
+  seat-made cs {v} e = sym (seat-of-run config source cs v) ∙ ap seated (sym e)
+
+  seat-spaced : (xs : List Spacing) {v w : Store} → w ≡ runSpacing xs v → seatAfter config source (map putSpacing xs) (seated v) ≡ seated w
+  seat-spaced xs {v} e = seat-made (map putSpacing xs) (e ∙ sym (run-spacing config source xs v))
+
+  module _ (r : Arms) (l : Local) where
+    abbrev from : Children → Seat → List ℕ
+    from = places config source formatNode r l
+
+    notes-token : {signs : Signs} → Signed signs r → (h : Head) (rest : Children) {v w : Store} (ns : List ℕ) → w ≡ run config source (map (actAt h) ((r .atToken l (seen source h)) .1)) v
+        → noteAll (from (token h rest) (seated v)) ns
+        ≡ noteAll (places config source formatNode r ((r .atToken l (seen source h)) .0) rest (seated w)) (noted (placeBy signs source h (w .0 .position)) ns)
+    unfolding places
+    notes-token {signs} g h rest {v} {w} ns e =
+        let a = r .atToken l (seen source h) in
+        let k = note-right g l h config source (v .0) (v .1) in
+        ap (λ (p : ℕ). noteAll (places config source formatNode r (a .0) rest (seatAfter config source (map (actAt h) (a .1)) (seated v))) (noted p ns)) (sym k ∙ ap (λ (x : Store). placeBy signs source h (x .0 .position)) (sym e))
+        ∙ ap (λ (x : Seat). noteAll (places config source formatNode r (a .0) rest x) (noted (placeBy signs source h (w .0 .position)) ns)) (seat-made (map (actAt h) (a .1)) e)
+
+    notes-node : (h : Head) (kids rest : Children) (N : Local × List Spacing × List Spacing) {v w x y : Store} (ns : List ℕ) → r .atNode l (h .kind) (countListItems kids) ≡ N
+        → w ≡ runSpacing (N .1) v → x ≡ run config source (calls formatNode source (record { head = h; kids = kids })) w → y ≡ runSpacing (N .2) x
+        → noteAll (from (node h kids rest) (seated v)) ns
+        ≡ noteAll (places config source formatNode r (N .0) rest (seated y)) (noteAll (placesFrom config source formatNode (record { head = h; kids = kids }) (seated w)) ns)
+    unfolding places placesFrom calls
+    notes-node h kids rest N {v} {w} {x} {y} ns e before inside after =
+        let cs = calls formatNode source (record { head = h; kids = kids }) in
+        let t = record { head = h; kids = kids } in
+        ap (λ (n : Local × List Spacing × List Spacing). noteAll (placesFrom config source formatNode t (seatAfter config source (map putSpacing (n .1)) (seated v)) ++ places config source formatNode r (n .0) rest (seatAfter config source (map putSpacing (n .2)) (seatAfter config source cs (seatAfter config source (map putSpacing (n .1)) (seated v))))) ns) e
+        ∙ ap (λ (u : Seat). noteAll (placesFrom config source formatNode t u ++ places config source formatNode r (N .0) rest (seatAfter config source (map putSpacing (N .2)) (seatAfter config source cs u))) ns) (seat-spaced (N .1) before)
+        ∙ ap (λ (u : Seat). noteAll (placesFrom config source formatNode t (seated w) ++ places config source formatNode r (N .0) rest (seatAfter config source (map putSpacing (N .2)) u)) ns) (seat-made cs inside)
+        ∙ ap (λ (u : Seat). noteAll (placesFrom config source formatNode t (seated w) ++ places config source formatNode r (N .0) rest u) ns) (seat-spaced (N .2) after)
+        ∙ noteAll-append (placesFrom config source formatNode t (seated w)) _ ns
+
 -- ── the loop over a node's children; Q is the routine, once it is known
 
-pub record Rest (source : Text) (config : FormatConfig) (at : ℕ) (R : Children → Arms) (Q : Arms) (c : FormatterContext) (xs ys : List ℕ) (i : ℕ) (ctx : FormatterContext) (l : Local) (left all : Children) : Type 0 where
+pub record Rest (source : Text) (config : FormatConfig) (at : ℕ) (R : Children → Arms) (Q : Arms) (c : FormatterContext) (xs ys ms ns : List ℕ) (i : ℕ) (ctx : FormatterContext) (l : Local) (left all : Children) : Type 0 where
   pub at-end : at + 11 + size all ≡ i + size left
   pub same-run : run config source (walk formatNode source (R all) (R all .begin) all) (c, xs) ≡ run config source (walk formatNode source Q l left) (ctx, ys)
+  pub same-notes : noteAll (places config source formatNode (R all) (R all .begin) all (seat c)) ms ≡ noteAll (places config source formatNode Q l left (seat ctx)) ns
 
-pub record Loop (source tape facts : List ℕ) (config : FormatConfig) (left at : ℕ) (R : Children → Arms) (Q : Arms) (c : FormatterContext) (xs ys : List ℕ) (i : ℕ) (ctx : FormatterContext) (l : Local) : Type 0 where
+pub record Loop (source tape facts : List ℕ) (config : FormatConfig) (left at : ℕ) (R : Children → Arms) (Q : Arms) (c : FormatterContext) (xs ys ms ns : List ℕ) (i : ℕ) (ctx : FormatterContext) (l : Local) : Type 0 where
   pub inside : i < length tape
   pub past : at + 11 ≤ i
   pub grew : Grew 11 at c i ctx
   pub same : length ys ≡ length xs
+  pub same-map : length ns ≡ length ms
   pub kids : Children
   pub spelled : SpelledAt (length source) tape i kids
   pub low : height kids ≤ left
   pub noted : EachNode (NotedNode facts) kids
-  pub rest : (all : Children) → SpelledAt (length source) tape (at + 11) all → Rest source config at R Q c xs ys i ctx l kids all
+  pub rest : (all : Children) → SpelledAt (length source) tape (at + 11) all → Rest source config at R Q c xs ys ms ns i ctx l kids all
 
-pub loop-first : {source keywords tape facts : List ℕ} {config : FormatConfig} {left at : ℕ} {c : FormatterContext} (R : Children → Arms) (Q : Arms) (xs : List ℕ)
+pub loop-first : {source keywords tape facts : List ℕ} {config : FormatConfig} {left at : ℕ} {c : FormatterContext} (R : Children → Arms) (Q : Arms) (xs ms : List ℕ)
     → NodeReady source keywords tape facts config left at c → ((all : Children) → SpelledAt (length source) tape (at + 11) all → R all ≡ Q)
-    → Loop source tape facts config left at R Q c xs xs (at + 11) c (Q .begin)
-loop-first {source} {tape} {facts} {config} {left} {at} {c} R Q xs p e =
+    → Loop source tape facts config left at R Q c xs xs ms ms (at + 11) c (Q .begin)
+loop-first {source} {tape} {facts} {config} {left} {at} {c} R Q xs ms p e =
     record {
       inside = spelled-inside _ _ _ (p .kids) (p .spelled);
       past = omega arith;
       grew = omega arith;
       same = refl;
+      same-map = refl;
       kids = p .kids;
       spelled = p .spelled;
       low = p .low;
@@ -97,6 +149,9 @@ loop-first {source} {tape} {facts} {config} {left} {at} {c} R Q xs p e =
             same-run =
                 ap (λ (r : Arms). run config source (walk formatNode source r (r .begin) all) (c, xs)) (e all z)
                 ∙ ap (λ (k : Children). run config source (walk formatNode source Q (Q .begin) k) (c, xs)) (sym s);
+            same-notes =
+                ap (λ (r : Arms). noteAll (places config source formatNode r (r .begin) all (seat c)) ms) (e all z)
+                ∙ ap (λ (k : Children). noteAll (places config source formatNode Q (Q .begin) k (seat c)) ms) (sym s);
           };
     }
 
@@ -114,8 +169,8 @@ node-noted {tape = tape} {facts = facts} {at = at} p kids z =
 pub opened-at : {source keywords tape facts : List ℕ} {config : FormatConfig} {left at : ℕ} {c : FormatterContext} → NodeReady source keywords tape facts config left at c → NodeAt tape at
 opened-at p = record { len = _; kids = p .kids; inside = p .inside; spelled = p .spelled }
 
-module _ {source keywords tape facts : List ℕ} {config : FormatConfig} {left at : ℕ} {R : Children → Arms} {Q : Arms} {c : FormatterContext} {xs ys : List ℕ} {i : ℕ} {ctx : FormatterContext} {l : Local}
-    (p : NodeReady source keywords tape facts config left at c) (v : Loop source tape facts config left at R Q c xs ys i ctx l) where
+module _ {source keywords tape facts : List ℕ} {config : FormatConfig} {left at : ℕ} {R : Children → Arms} {Q : Arms} {c : FormatterContext} {xs ys ms ns : List ℕ} {i : ℕ} {ctx : FormatterContext} {l : Local}
+    (p : NodeReady source keywords tape facts config left at c) (v : Loop source tape facts config left at R Q c xs ys ms ns i ctx l) where
   -- a command that is no close opens a node if it is no token
   opens : ((getD tape i 0 ≡ 3) → ⊥) → ((getD tape i 0 ≡ 2) → ⊥) → getD tape i 0 ≡ 1
   opens e f = let b = spelled-byte _ _ _ (v .kids) (v .spelled) in omega arith
@@ -134,17 +189,18 @@ module _ {source keywords tape facts : List ℕ} {config : FormatConfig} {left a
       let z = spelled-token _ _ _ (v .kids) (v .spelled) e in
       rw q (record { text-fits = p .sizes .text; width-fits = p .sizes .width; ordered = z .2 .ordered; within = z .2 .within; room = omega arith })
 
-  pub token-next : {h : Head} {zs : List ℕ} {a : FormatterContext} {k : Local} → getD tape i 0 ≡ 2 → h ≡ headAt tape i
-      → Acted 4 config source h ((Q .atToken l (seen source h)) .1) ctx ys a zs → k ≡ (Q .atToken l (seen source h)) .0 → length zs ≡ length ys
-      → Loop source tape facts config left at R Q c xs zs (i + 11) a k
+  pub token-next : {h : Head} {zs ls : List ℕ} {a : FormatterContext} {k : Local} {signs : Signs} → Signed signs Q → getD tape i 0 ≡ 2 → h ≡ headAt tape i
+      → Acted 4 config source h ((Q .atToken l (seen source h)) .1) ctx ys a zs → k ≡ (Q .atToken l (seen source h)) .0 → ls ≡ noted (placeBy signs source h (a .position)) ns → length zs ≡ length ys → length ls ≡ length ns
+      → Loop source tape facts config left at R Q c xs zs ms ls (i + 11) a k
   unfolding size height
-  token-next {h} {zs} {a} {k} e q d m n =
+  token-next {h} {zs} {ls} {a} {k} {signs} g e q d m o n j =
       let z = spelled-token _ _ _ (v .kids) (v .spelled) e in
       record {
         inside = spelled-inside _ _ _ (z .0) (z .3);
         past = omega arith;
         grew = omega (arith, d .spent .level, d .spent .length, z .2 .inside);
         same = n ∙ v .same;
+        same-map = j ∙ v .same-map;
         kids = z .0;
         spelled = z .3;
         low = omega (arith, v .low, ap height (z .1));
@@ -157,6 +213,12 @@ module _ {source keywords tape facts : List ℕ} {config : FormatConfig} {left a
               ∙ run-token config source Q l (ctx, ys) h (z .0)
               ∙ ap (run config source (walk formatNode source Q ((Q .atToken l (seen source h)) .0) (z .0))) (sym (d .did))
               ∙ ap (λ (x : Local). run config source (walk formatNode source Q x (z .0)) (a, zs)) (sym m);
+          same-notes =
+              v .rest all y .same-notes
+              ∙ ap (λ (x : Children). noteAll (places config source formatNode Q l x (seat ctx)) ns) (z .1 ∙ ap (λ (x : Head). token x (z .0)) (sym q))
+              ∙ notes-token config source Q l g h (z .0) ns (d .did)
+              ∙ ap (noteAll (places config source formatNode Q ((Q .atToken l (seen source h)) .0) (z .0) (seat a))) (sym o)
+              ∙ ap (λ (x : Local). noteAll (places config source formatNode Q x (z .0) (seat a)) ls) (sym m);
         };
       }
 
@@ -198,13 +260,13 @@ module _ {source keywords tape facts : List ℕ} {config : FormatConfig} {left a
         ap (λ (x : Head). x .kind) r,
       )
 
-  pub node-next : {h : Head} {m n : ℕ} {a b : FormatterContext} {k : Local} {w : Walk} {zs us vs : List ℕ} (N : Local × List Spacing × List Spacing)
+  pub node-next : {h : Head} {m n : ℕ} {a b : FormatterContext} {k : Local} {w : Walk} {zs us vs ls : List ℕ} (N : Local × List Spacing × List Spacing)
       → ((getD tape i 0 ≡ 3) → ⊥) → ((getD tape i 0 ≡ 2) → ⊥) → h ≡ headAt tape i
       → ((kids : Children) → SpelledAt (length source) tape (i + 11) kids → Q .atNode l (h .kind) (countListItems kids) ≡ N)
-      → Spaced m (N .1) ctx ys a zs → NodeDone source tape config i a zs w us → k ≡ N .0 → Spaced n (N .2) (w .context) us b vs
-      → m ≤ 4 → n ≤ 4 → length vs ≡ length ys → Loop source tape facts config left at R Q c xs vs (w .at) b k
+      → Spaced m (N .1) ctx ys a zs → NodeDone source tape config i a zs ns w us ls → k ≡ N .0 → Spaced n (N .2) (w .context) us b vs
+      → m ≤ 4 → n ≤ 4 → length vs ≡ length ys → length ls ≡ length ns → Loop source tape facts config left at R Q c xs vs ms ls (w .at) b k
   unfolding size height
-  node-next {h} {a = a} {b = b} {k = k} {w = w} {zs = zs} {us = us} {vs = vs} N e f q j before d kept after m4 n4 n =
+  node-next {h} {a = a} {b = b} {k = k} {w = w} {zs = zs} {us = us} {vs = vs} {ls = ls} N e f q j before d kept after m4 n4 n o-map =
       let z = spelled-node _ _ _ (v .kids) (v .spelled) (opens e f) in
       let y = d .all (z .0) (z .4) in
       let o : SpelledAt (length source) tape (w .at) (z .1) = subst (λ (x : ℕ). SpelledAt (length source) tape x (z .1)) (sym (y .at)) (z .5) in
@@ -213,6 +275,7 @@ module _ {source keywords tape facts : List ℕ} {config : FormatConfig} {left a
         past = omega (arith, d .forward);
         grew = omega (arith, before .spent .level, before .spent .length, after .spent .level, after .spent .length, d .grew .level, d .grew .length);
         same = n ∙ v .same;
+        same-map = o-map ∙ v .same-map;
         kids = z .1;
         spelled = o;
         low = omega (arith, v .low, ap height (z .2));
@@ -228,13 +291,21 @@ module _ {source keywords tape facts : List ℕ} {config : FormatConfig} {left a
               ∙ ap (λ (u : Store). run config source (walk formatNode source Q (N .0) (z .1)) (runSpacing (N .2) u)) (sym (y .did))
               ∙ ap (run config source (walk formatNode source Q (N .0) (z .1))) (sym (after .did))
               ∙ ap (λ (t : Local). run config source (walk formatNode source Q t (z .1)) (b, vs)) (sym kept);
+          same-notes =
+              v .rest all x .same-notes
+              ∙ ap (λ (t : Children). noteAll (places config source formatNode Q l t (seat ctx)) ns) (z .2 ∙ ap (λ (t : Head). node t (z .0) (z .1)) (sym q))
+              ∙ notes-node config source Q l h (z .0) (z .1) N ns (j (z .0) (z .4)) (before .did)
+              (y .did ∙ ap (λ (t : Head). run config source (calls formatNode source (record { head = t; kids = z .0 })) (a, zs)) (sym q)) (after .did)
+              ∙ ap (λ (t : Head). noteAll (places config source formatNode Q (N .0) (z .1) (seat b)) (noteAll (placesFrom config source formatNode (record { head = t; kids = z .0 }) (seat a)) ns)) q
+              ∙ ap (noteAll (places config source formatNode Q (N .0) (z .1) (seat b))) (sym (y .notes))
+              ∙ ap (λ (t : Local). noteAll (places config source formatNode Q t (z .1) (seat b)) ls) (sym kept);
         };
       }
 
   -- the end
   pub loop-last : {n : ℕ} {e : FormatterContext} {zs : List ℕ} → getD tape i 0 ≡ 3 → Spaced n (Q .atEnd l) ctx ys e zs → n ≤ 4
-      → RoutineDone source tape config at R c xs (record { at = i + 1; context = e }) zs
-  unfolding size
+      → RoutineDone source tape config at R c xs ms (record { at = i + 1; context = e }) zs ns
+  unfolding size places
   loop-last {e = e} {zs = zs} q d h =
       let z = spelled-close _ _ _ (v .kids) (v .spelled) q in
       record {
@@ -246,6 +317,7 @@ module _ {source keywords tape facts : List ℕ} {config : FormatConfig} {left a
           did =
               d .did ∙ sym (run-done config source Q l (ctx, ys))
               ∙ ap (λ (k : Children). run config source (walk formatNode source Q l k) (ctx, ys)) (sym z) ∙ sym (v .rest all x .same-run);
+          notes = sym (v .rest all x .same-notes ∙ ap (λ (k : Children). noteAll (places config source formatNode Q l k (seat ctx)) ns) z);
         };
       }
 
@@ -282,10 +354,20 @@ by-kind config source h kids w {kind} q e =
     ap (λ (x : Bool). run config source (cond x (formatErrorVerbatim h) (walk formatNode source (formatNode kind kids) (formatNode kind kids .begin) kids)) w) e
     ∙ ap (λ (x : ℕ). run config source (cond (copied x kids) (formatErrorVerbatim h) (walk formatNode source (formatNode x kids) (formatNode x kids .begin) kids)) w) q
 
-pub node-copied : {source keywords tape facts : List ℕ} {config : FormatConfig} {left at kind j : ℕ} {c a : FormatterContext} {h : Head} {xs ys : List ℕ}
+-- the same of the places
+by-kind-places : (config : FormatConfig) (source : Text) (h : Head) (kids : Children) (w : Seat) (ms : List ℕ) {kind : ℕ} {b : Bool} → kind ≡ h .kind → b ≡ copied kind kids
+    → noteAll (cond b (noPlaces config source kids) (places config source formatNode (formatNode kind kids) (formatNode kind kids .begin) kids w)) ms
+    ≡ noteAll (placesFrom config source formatNode (record { head = h; kids = kids }) w) ms
+unfolding placesFrom
+by-kind-places config source h kids w ms {kind} q e =
+    ap (λ (x : Bool). noteAll (cond x (noPlaces config source kids) (places config source formatNode (formatNode kind kids) (formatNode kind kids .begin) kids w)) ms) e
+    ∙ ap (λ (x : ℕ). noteAll (cond (copied x kids) (noPlaces config source kids) (places config source formatNode (formatNode x kids) (formatNode x kids .begin) kids w)) ms) q
+
+pub node-copied : {source keywords tape facts : List ℕ} {config : FormatConfig} {left at kind : ℕ} {j : Passed} {c a : FormatterContext} {h : Head} {xs ys ms ns : List ℕ}
     → NodeReady source keywords tape facts config left at c → kind ≡ headAt tape at .kind → h ≡ headAt tape at → Decided source tape at kind true
-    → Skipped tape at j → Ran 1 config source (formatErrorVerbatim h) c xs a ys → NodeDone source tape config at c xs (record { at = j; context = a }) ys
-node-copied {source} {tape} {config} {at = at} {c = c} {xs = xs} p q e o s d =
+    → Skipped tape at j → Ran 1 config source (formatErrorVerbatim h) c xs a ys → ns ≡ noteAll (replicate (j .tokens) 0) ms
+    → NodeDone source tape config at c xs ms (record { at = j .at; context = a }) ys ns
+node-copied {source} {tape} {config} {at = at} {c = c} {xs = xs} {ms = ms} p q e o s d n =
     record {
       forward = s .forward;
       inside = s .inside;
@@ -295,14 +377,17 @@ node-copied {source} {tape} {config} {at = at} {c = c} {xs = xs} p q e o s d =
         did =
             d .did ∙ ap (λ (x : Head). run config source (formatErrorVerbatim x) (c, xs)) e
             ∙ by-kind config source (headAt tape at) kids (c, xs) q (o kids z);
+        notes =
+            n ∙ ap (λ (x : ℕ). noteAll (replicate x 0) ms) (s .counted _ kids z)
+            ∙ by-kind-places config source (headAt tape at) kids (seat c) ms q (o kids z);
       };
     }
 
-pub node-by : {source tape : List ℕ} {config : FormatConfig} {at kind : ℕ} {c : FormatterContext} {xs ys : List ℕ} {w : Walk} (r : Routine)
+pub node-by : {source tape : List ℕ} {config : FormatConfig} {at kind : ℕ} {c : FormatterContext} {xs ys ms ns : List ℕ} {w : Walk} (r : Routine)
     → kind ≡ headAt tape at .kind → Decided source tape at kind false → r ≡ routineOf kind
-    → RoutineDone source tape config at (armsOf r) c xs w ys → NodeDone source tape config at c xs w ys
+    → RoutineDone source tape config at (armsOf r) c xs ms w ys ns → NodeDone source tape config at c xs ms w ys ns
 unfolding formatNode
-node-by {source} {tape} {config} {at} {kind} {c} {xs} r q o e d =
+node-by {source} {tape} {config} {at} {kind} {c} {xs} {ms = ms} r q o e d =
     record {
       forward = d .forward;
       inside = d .inside;
@@ -315,5 +400,9 @@ node-by {source} {tape} {config} {at} {kind} {c} {xs} r q o e d =
                 y .did
                 ∙ ap (λ (x : Routine). run config source (walk formatNode source (armsOf x kids) (armsOf x kids .begin) kids) (c, xs)) e
                 ∙ by-kind config source (headAt tape at) kids (c, xs) q (o kids z);
+            notes =
+                y .notes
+                ∙ ap (λ (x : Routine). noteAll (places config source formatNode (armsOf x kids) (armsOf x kids .begin) kids (seat c)) ms) e
+                ∙ by-kind-places config source (headAt tape at) kids (seat c) ms q (o kids z);
           };
     }

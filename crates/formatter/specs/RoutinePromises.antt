@@ -18,6 +18,8 @@ use Rattle.layout.specs.Arms.{Arms}
 use Rattle.layout.specs.FormatNode.{formatNode}
 use Rattle.layout.specs.Calls.{Call, walk, calls}
 use Rattle.layout.specs.Run.{run}
+use Rattle.layout.specs.TokenMap.{Seat, places, placesFrom}
+use Rattle.token_map.specs.Notes.{noteAll}
 use Rattle.formatter.specs.declared.Walk.{Walk}
 
 -- the limits that the entry tests, and room for what the check notes
@@ -50,10 +52,15 @@ pub record NodeReady (source keywords tape facts : List ℕ) (config : FormatCon
   pub low : height kids ≤ left
   pub noted : Noted facts (record { head = headAt tape i; kids = kids })
 
--- for these children: the walk w ends after them, and with ys it is what the calls make of c and xs
-pub record WalkDone (source : Text) (config : FormatConfig) (i : ℕ) (cs : List Call) (c : FormatterContext) (xs : List ℕ) (w : Walk) (ys : List ℕ) (kids : Children) : Type 0 where
+-- where the token map's definition begins with the children
+abbrev pub seat : FormatterContext → Seat
+seat c = (c .state, c .position .length)
+
+-- for these children: the walk w ends after them, with ys it is what the calls make of c and xs, and the places ps of their tokens were noted in the map, from ms to ns
+pub record WalkDone (source : Text) (config : FormatConfig) (i : ℕ) (cs : List Call) (ps : List ℕ) (c : FormatterContext) (xs ms : List ℕ) (w : Walk) (ys ns : List ℕ) (kids : Children) : Type 0 where
   pub at : w .at ≡ i + 11 + size kids
   pub did : _≡_ {A = Store} (w .context, ys) (run config source cs (c, xs))
+  pub notes : ns ≡ noteAll ps ms
 
 -- the lists of which the check notes whether a clause has one
 abbrev pub IsList : ℕ → Type 0
@@ -64,15 +71,17 @@ abbrev pub always : Arms → Children → Arms
 always r kids = r
 
 -- by a routine
-pub record RoutineDone (source tape : List ℕ) (config : FormatConfig) (i : ℕ) (R : Children → Arms) (c : FormatterContext) (xs : List ℕ) (w : Walk) (ys : List ℕ) : Type 0 where
+pub record RoutineDone (source tape : List ℕ) (config : FormatConfig) (i : ℕ) (R : Children → Arms) (c : FormatterContext) (xs ms : List ℕ) (w : Walk) (ys ns : List ℕ) : Type 0 where
   pub forward : i < w .at
   pub inside : w .at ≤ length tape
   pub grew : Grew 8 i c (w .at) (w .context)
-  pub all : (kids : Children) → SpelledAt (length source) tape (i + 11) kids → WalkDone source config i (walk formatNode source (R kids) (R kids .begin) kids) c xs w ys kids
+  pub all : (kids : Children) → SpelledAt (length source) tape (i + 11) kids
+      → WalkDone source config i (walk formatNode source (R kids) (R kids .begin) kids) (places config source formatNode (R kids) (R kids .begin) kids (seat c)) c xs ms w ys ns kids
 
 -- by the node's own routine, or copied as typed
-pub record NodeDone (source tape : List ℕ) (config : FormatConfig) (i : ℕ) (c : FormatterContext) (xs : List ℕ) (w : Walk) (ys : List ℕ) : Type 0 where
+pub record NodeDone (source tape : List ℕ) (config : FormatConfig) (i : ℕ) (c : FormatterContext) (xs ms : List ℕ) (w : Walk) (ys ns : List ℕ) : Type 0 where
   pub forward : i < w .at
   pub inside : w .at ≤ length tape
   pub grew : Grew 8 i c (w .at) (w .context)
-  pub all : (kids : Children) → SpelledAt (length source) tape (i + 11) kids → WalkDone source config i (calls formatNode source (record { head = headAt tape i; kids = kids })) c xs w ys kids
+  pub all : (kids : Children) → SpelledAt (length source) tape (i + 11) kids
+      → WalkDone source config i (calls formatNode source (record { head = headAt tape i; kids = kids })) (placesFrom config source formatNode (record { head = headAt tape i; kids = kids }) (seat c)) c xs ms w ys ns kids

@@ -1,6 +1,6 @@
 // format_node.rs: each routine's loop over the children of its node, and the dispatch. They form one cycle of calls over the tape: with
 // each call of `node` a level less is left, and each pass of a loop moves on along the tape. A child's context is a copy (`a`): the loop's own, which
-// no pointer leads to, stays in registers. The proof of a cycle is named after all of its
+// no pointer leads to, stays in registers. `map` is where the places of tokens are noted; a plain layout lends one of no numbers. The proof of a cycle is named after all of its
 // members, and a file's name has at most 255 bytes, so the source's names are shortened:
 //
 //     format_node                                     node
@@ -85,6 +85,9 @@ use tape::commands::head_at;
 use tape::facts::has_error;
 use tape::scan::skip;
 use tape::syntax_kind;
+use token_map::Signs;
+use token_map::note_none;
+use token_map::note_token;
 use tokens::emit_other;
 use tokens::format_error_verbatim;
 use tokens::space_after;
@@ -102,12 +105,13 @@ fn file(
     config: FormatConfig,
     facts: &[u8],
     out: &mut [u8],
+    map: &mut [u64],
     left: usize,
     at: usize,
     c: FormatterContext,
 ) -> Walk
     requires { ⌜ NodeReady (now source) (now keywords) (now tape) (now facts) config left at c ⌝ }
-    ensures { λ r. ⌜ RoutineDone (now (source .entry)) (now (tape .entry)) config at (always formatFile) c (now (out .entry)) r (now (out .exit)) ⌝ }
+    ensures { λ r. ⌜ RoutineDone (now (source .entry)) (now (tape .entry)) config at (always formatFile) c (now (out .entry)) (now (map .entry)) r (now (out .exit)) (now (map .exit)) ⌝ }
 {
     let mut i = at + 11;
     let mut ctx = c;
@@ -119,6 +123,8 @@ fn file(
         let h = head_at(tape, i);
         if tape[i] == 2 {
             ctx = file_token(source, keywords, config, out, ctx, h);
+            let p = ctx.position;
+            note_token(map, source, h, p, Signs::Semicolon);
             i += 11;
         } else {
             let a = file_before(out, ctx, local);
@@ -129,6 +135,7 @@ fn file(
                 config,
                 facts,
                 out,
+                map,
                 left - 1,
                 i,
                 h.kind,
@@ -156,12 +163,13 @@ fn queries(
     config: FormatConfig,
     facts: &[u8],
     out: &mut [u8],
+    map: &mut [u64],
     left: usize,
     at: usize,
     c: FormatterContext,
 ) -> Walk
     requires { ⌜ NodeReady (now source) (now keywords) (now tape) (now facts) config left at c ⌝ }
-    ensures { λ r. ⌜ RoutineDone (now (source .entry)) (now (tape .entry)) config at (always formatQueryList) c (now (out .entry)) r (now (out .exit)) ⌝ }
+    ensures { λ r. ⌜ RoutineDone (now (source .entry)) (now (tape .entry)) config at (always formatQueryList) c (now (out .entry)) (now (map .entry)) r (now (out .exit)) (now (map .exit)) ⌝ }
 {
     let mut i = at + 11;
     let mut ctx = c;
@@ -173,6 +181,8 @@ fn queries(
         let h = head_at(tape, i);
         if tape[i] == 2 {
             ctx = query_list_token(source, keywords, config, out, ctx, h);
+            let p = ctx.position;
+            note_token(map, source, h, p, Signs::Semicolon);
             i += 11;
         } else {
             let a = query_list_before(out, ctx, local);
@@ -183,6 +193,7 @@ fn queries(
                 config,
                 facts,
                 out,
+                map,
                 left - 1,
                 i,
                 h.kind,
@@ -210,12 +221,13 @@ fn sel_stmt(
     config: FormatConfig,
     facts: &[u8],
     out: &mut [u8],
+    map: &mut [u64],
     left: usize,
     at: usize,
     c: FormatterContext,
 ) -> Walk
     requires { ⌜ NodeReady (now source) (now keywords) (now tape) (now facts) config left at c ⌝ }
-    ensures { λ r. ⌜ RoutineDone (now (source .entry)) (now (tape .entry)) config at (always formatSelectStatement) c (now (out .entry)) r (now (out .exit)) ⌝ }
+    ensures { λ r. ⌜ RoutineDone (now (source .entry)) (now (tape .entry)) config at (always formatSelectStatement) c (now (out .entry)) (now (map .entry)) r (now (out .exit)) (now (map .exit)) ⌝ }
 {
     let mut i = at + 11;
     let mut ctx = c;
@@ -227,6 +239,8 @@ fn sel_stmt(
         let h = head_at(tape, i);
         if tape[i] == 2 {
             ctx = select_statement_token(source, keywords, config, out, ctx, h);
+            let p = ctx.position;
+            note_token(map, source, h, p, Signs::NoSemicolon);
             i += 11;
         } else {
             let a = select_statement_before(out, ctx, local);
@@ -237,6 +251,7 @@ fn sel_stmt(
                 config,
                 facts,
                 out,
+                map,
                 left - 1,
                 i,
                 h.kind,
@@ -264,12 +279,13 @@ fn select(
     config: FormatConfig,
     facts: &[u8],
     out: &mut [u8],
+    map: &mut [u64],
     left: usize,
     at: usize,
     c: FormatterContext,
 ) -> Walk
     requires { ⌜ NodeReady (now source) (now keywords) (now tape) (now facts) config left at c ⌝ }
-    ensures { λ r. ⌜ RoutineDone (now (source .entry)) (now (tape .entry)) config at (always formatSelectClause) c (now (out .entry)) r (now (out .exit)) ⌝ }
+    ensures { λ r. ⌜ RoutineDone (now (source .entry)) (now (tape .entry)) config at (always formatSelectClause) c (now (out .entry)) (now (map .entry)) r (now (out .exit)) (now (map .exit)) ⌝ }
 {
     let mut i = at + 11;
     let mut ctx = c;
@@ -281,6 +297,8 @@ fn select(
         let h = head_at(tape, i);
         if tape[i] == 2 {
             ctx = select_clause_token(source, keywords, config, out, ctx, h);
+            let p = ctx.position;
+            note_token(map, source, h, p, Signs::Nothing);
             i += 11;
         } else {
             let a = select_clause_before(out, ctx, local, h.kind);
@@ -291,6 +309,7 @@ fn select(
                 config,
                 facts,
                 out,
+                map,
                 left - 1,
                 i,
                 h.kind,
@@ -315,12 +334,13 @@ fn simple(
     config: FormatConfig,
     facts: &[u8],
     out: &mut [u8],
+    map: &mut [u64],
     left: usize,
     at: usize,
     c: FormatterContext,
 ) -> Walk
     requires { ⌜ NodeReady (now source) (now keywords) (now tape) (now facts) config left at c ⌝ }
-    ensures { λ r. ⌜ RoutineDone (now (source .entry)) (now (tape .entry)) config at (always formatSimpleClause) c (now (out .entry)) r (now (out .exit)) ⌝ }
+    ensures { λ r. ⌜ RoutineDone (now (source .entry)) (now (tape .entry)) config at (always formatSimpleClause) c (now (out .entry)) (now (map .entry)) r (now (out .exit)) (now (map .exit)) ⌝ }
 {
     let mut i = at + 11;
     let mut ctx = c;
@@ -334,6 +354,8 @@ fn simple(
             let a = simple_clause_token(source, keywords, config, out, ctx, local, h);
             ctx = a.context;
             local = a.local;
+            let p = ctx.position;
+            note_token(map, source, h, p, Signs::Nothing);
             i += 11;
         } else {
             let a = space_if(ctx, local.flag);
@@ -344,6 +366,7 @@ fn simple(
                 config,
                 facts,
                 out,
+                map,
                 left - 1,
                 i,
                 h.kind,
@@ -371,13 +394,14 @@ fn list_by(
     config: FormatConfig,
     facts: &[u8],
     out: &mut [u8],
+    map: &mut [u64],
     left: usize,
     at: usize,
     c: FormatterContext,
     list: u16,
 ) -> Walk
     requires { ⌜ NodeReady (now source) (now keywords) (now tape) (now facts) config left at c × IsList list ⌝ }
-    ensures { λ r. ⌜ RoutineDone (now (source .entry)) (now (tape .entry)) config at (formatListClause list) c (now (out .entry)) r (now (out .exit)) ⌝ }
+    ensures { λ r. ⌜ RoutineDone (now (source .entry)) (now (tape .entry)) config at (formatListClause list) c (now (out .entry)) (now (map .entry)) r (now (out .exit)) (now (map .exit)) ⌝ }
 {
     let multi = multi_item(facts, at, list);
     let mut i = at + 11;
@@ -390,6 +414,8 @@ fn list_by(
         let h = head_at(tape, i);
         if tape[i] == 2 {
             ctx = list_clause_token(source, keywords, config, out, ctx, multi, h);
+            let p = ctx.position;
+            note_token(map, source, h, p, Signs::Comma);
             i += 11;
         } else {
             let several = several_items(facts, i, list, h.kind);
@@ -401,6 +427,7 @@ fn list_by(
                 config,
                 facts,
                 out,
+                map,
                 left - 1,
                 i,
                 h.kind,
@@ -427,12 +454,13 @@ fn join(
     config: FormatConfig,
     facts: &[u8],
     out: &mut [u8],
+    map: &mut [u64],
     left: usize,
     at: usize,
     c: FormatterContext,
 ) -> Walk
     requires { ⌜ NodeReady (now source) (now keywords) (now tape) (now facts) config left at c ⌝ }
-    ensures { λ r. ⌜ RoutineDone (now (source .entry)) (now (tape .entry)) config at (always formatJoinClause) c (now (out .entry)) r (now (out .exit)) ⌝ }
+    ensures { λ r. ⌜ RoutineDone (now (source .entry)) (now (tape .entry)) config at (always formatJoinClause) c (now (out .entry)) (now (map .entry)) r (now (out .exit)) (now (map .exit)) ⌝ }
 {
     let mut i = at + 11;
     let mut ctx = c;
@@ -446,6 +474,8 @@ fn join(
             let a = join_clause_token(source, keywords, config, out, ctx, local, h);
             ctx = a.context;
             local = a.local;
+            let p = ctx.position;
+            note_token(map, source, h, p, Signs::Nothing);
             i += 11;
         } else {
             let a = space_if(ctx, local.flag);
@@ -456,6 +486,7 @@ fn join(
                 config,
                 facts,
                 out,
+                map,
                 left - 1,
                 i,
                 h.kind,
@@ -483,12 +514,13 @@ fn settings(
     config: FormatConfig,
     facts: &[u8],
     out: &mut [u8],
+    map: &mut [u64],
     left: usize,
     at: usize,
     c: FormatterContext,
 ) -> Walk
     requires { ⌜ NodeReady (now source) (now keywords) (now tape) (now facts) config left at c ⌝ }
-    ensures { λ r. ⌜ RoutineDone (now (source .entry)) (now (tape .entry)) config at (always formatSettingsClause) c (now (out .entry)) r (now (out .exit)) ⌝ }
+    ensures { λ r. ⌜ RoutineDone (now (source .entry)) (now (tape .entry)) config at (always formatSettingsClause) c (now (out .entry)) (now (map .entry)) r (now (out .exit)) (now (map .exit)) ⌝ }
 {
     let mut i = at + 11;
     let mut ctx = c;
@@ -500,6 +532,8 @@ fn settings(
         let h = head_at(tape, i);
         if tape[i] == 2 {
             ctx = select_clause_token(source, keywords, config, out, ctx, h);
+            let p = ctx.position;
+            note_token(map, source, h, p, Signs::Nothing);
             i += 11;
         } else {
             let a = settings_clause_before(out, ctx, local, h.kind);
@@ -510,6 +544,7 @@ fn settings(
                 config,
                 facts,
                 out,
+                map,
                 left - 1,
                 i,
                 h.kind,
@@ -534,12 +569,13 @@ fn with(
     config: FormatConfig,
     facts: &[u8],
     out: &mut [u8],
+    map: &mut [u64],
     left: usize,
     at: usize,
     c: FormatterContext,
 ) -> Walk
     requires { ⌜ NodeReady (now source) (now keywords) (now tape) (now facts) config left at c ⌝ }
-    ensures { λ r. ⌜ RoutineDone (now (source .entry)) (now (tape .entry)) config at (always formatWithClause) c (now (out .entry)) r (now (out .exit)) ⌝ }
+    ensures { λ r. ⌜ RoutineDone (now (source .entry)) (now (tape .entry)) config at (always formatWithClause) c (now (out .entry)) (now (map .entry)) r (now (out .exit)) (now (map .exit)) ⌝ }
 {
     let mut i = at + 11;
     let mut ctx = c;
@@ -547,6 +583,8 @@ fn with(
         let h = head_at(tape, i);
         if tape[i] == 2 {
             ctx = select_clause_token(source, keywords, config, out, ctx, h);
+            let p = ctx.position;
+            note_token(map, source, h, p, Signs::Nothing);
             i += 11;
         } else {
             let a = with_clause_before(out, ctx);
@@ -557,6 +595,7 @@ fn with(
                 config,
                 facts,
                 out,
+                map,
                 left - 1,
                 i,
                 h.kind,
@@ -581,12 +620,13 @@ fn comma(
     config: FormatConfig,
     facts: &[u8],
     out: &mut [u8],
+    map: &mut [u64],
     left: usize,
     at: usize,
     c: FormatterContext,
 ) -> Walk
     requires { ⌜ NodeReady (now source) (now keywords) (now tape) (now facts) config left at c ⌝ }
-    ensures { λ r. ⌜ RoutineDone (now (source .entry)) (now (tape .entry)) config at (always formatCommaList) c (now (out .entry)) r (now (out .exit)) ⌝ }
+    ensures { λ r. ⌜ RoutineDone (now (source .entry)) (now (tape .entry)) config at (always formatCommaList) c (now (out .entry)) (now (map .entry)) r (now (out .exit)) (now (map .exit)) ⌝ }
 {
     let mut i = at + 11;
     let mut ctx = c;
@@ -600,6 +640,8 @@ fn comma(
             let a = comma_list_token(source, keywords, config, out, ctx, local, h);
             ctx = a.context;
             local = a.local;
+            let p = ctx.position;
+            note_token(map, source, h, p, Signs::Comma);
             i += 11;
         } else {
             let a = space_if(ctx, !local.flag);
@@ -610,6 +652,7 @@ fn comma(
                 config,
                 facts,
                 out,
+                map,
                 left - 1,
                 i,
                 h.kind,
@@ -637,12 +680,13 @@ fn inl_list(
     config: FormatConfig,
     facts: &[u8],
     out: &mut [u8],
+    map: &mut [u64],
     left: usize,
     at: usize,
     c: FormatterContext,
 ) -> Walk
     requires { ⌜ NodeReady (now source) (now keywords) (now tape) (now facts) config left at c ⌝ }
-    ensures { λ r. ⌜ RoutineDone (now (source .entry)) (now (tape .entry)) config at (always formatInlineCommaList) c (now (out .entry)) r (now (out .exit)) ⌝ }
+    ensures { λ r. ⌜ RoutineDone (now (source .entry)) (now (tape .entry)) config at (always formatInlineCommaList) c (now (out .entry)) (now (map .entry)) r (now (out .exit)) (now (map .exit)) ⌝ }
 {
     let mut i = at + 11;
     let mut ctx = c;
@@ -650,6 +694,8 @@ fn inl_list(
         let h = head_at(tape, i);
         if tape[i] == 2 {
             ctx = inline_comma_list_token(source, keywords, config, out, ctx, h);
+            let p = ctx.position;
+            note_token(map, source, h, p, Signs::Comma);
             i += 11;
         } else {
             let a = ctx;
@@ -660,6 +706,7 @@ fn inl_list(
                 config,
                 facts,
                 out,
+                map,
                 left - 1,
                 i,
                 h.kind,
@@ -683,12 +730,13 @@ fn binary(
     config: FormatConfig,
     facts: &[u8],
     out: &mut [u8],
+    map: &mut [u64],
     left: usize,
     at: usize,
     c: FormatterContext,
 ) -> Walk
     requires { ⌜ NodeReady (now source) (now keywords) (now tape) (now facts) config left at c ⌝ }
-    ensures { λ r. ⌜ RoutineDone (now (source .entry)) (now (tape .entry)) config at (always formatBinaryExpression) c (now (out .entry)) r (now (out .exit)) ⌝ }
+    ensures { λ r. ⌜ RoutineDone (now (source .entry)) (now (tape .entry)) config at (always formatBinaryExpression) c (now (out .entry)) (now (map .entry)) r (now (out .exit)) (now (map .exit)) ⌝ }
 {
     let mut i = at + 11;
     let mut ctx = c;
@@ -696,6 +744,8 @@ fn binary(
         let h = head_at(tape, i);
         if tape[i] == 2 {
             ctx = binary_expression_token(source, keywords, config, out, ctx, h);
+            let p = ctx.position;
+            note_token(map, source, h, p, Signs::Nothing);
             i += 11;
         } else {
             let a = ctx;
@@ -706,6 +756,7 @@ fn binary(
                 config,
                 facts,
                 out,
+                map,
                 left - 1,
                 i,
                 h.kind,
@@ -729,12 +780,13 @@ fn unary(
     config: FormatConfig,
     facts: &[u8],
     out: &mut [u8],
+    map: &mut [u64],
     left: usize,
     at: usize,
     c: FormatterContext,
 ) -> Walk
     requires { ⌜ NodeReady (now source) (now keywords) (now tape) (now facts) config left at c ⌝ }
-    ensures { λ r. ⌜ RoutineDone (now (source .entry)) (now (tape .entry)) config at (always formatUnaryExpression) c (now (out .entry)) r (now (out .exit)) ⌝ }
+    ensures { λ r. ⌜ RoutineDone (now (source .entry)) (now (tape .entry)) config at (always formatUnaryExpression) c (now (out .entry)) (now (map .entry)) r (now (out .exit)) (now (map .exit)) ⌝ }
 {
     let mut i = at + 11;
     let mut ctx = c;
@@ -742,6 +794,8 @@ fn unary(
         let h = head_at(tape, i);
         if tape[i] == 2 {
             ctx = unary_expression_token(source, keywords, config, out, ctx, h);
+            let p = ctx.position;
+            note_token(map, source, h, p, Signs::Minus);
             i += 11;
         } else {
             let a = ctx;
@@ -752,6 +806,7 @@ fn unary(
                 config,
                 facts,
                 out,
+                map,
                 left - 1,
                 i,
                 h.kind,
@@ -775,12 +830,13 @@ fn call(
     config: FormatConfig,
     facts: &[u8],
     out: &mut [u8],
+    map: &mut [u64],
     left: usize,
     at: usize,
     c: FormatterContext,
 ) -> Walk
     requires { ⌜ NodeReady (now source) (now keywords) (now tape) (now facts) config left at c ⌝ }
-    ensures { λ r. ⌜ RoutineDone (now (source .entry)) (now (tape .entry)) config at (always formatFunctionCall) c (now (out .entry)) r (now (out .exit)) ⌝ }
+    ensures { λ r. ⌜ RoutineDone (now (source .entry)) (now (tape .entry)) config at (always formatFunctionCall) c (now (out .entry)) (now (map .entry)) r (now (out .exit)) (now (map .exit)) ⌝ }
 {
     let mut i = at + 11;
     let mut ctx = c;
@@ -788,6 +844,8 @@ fn call(
         let h = head_at(tape, i);
         if tape[i] == 2 {
             ctx = function_call_token(source, keywords, config, out, ctx, h);
+            let p = ctx.position;
+            note_token(map, source, h, p, Signs::RoundBrackets);
             i += 11;
         } else {
             let a = ctx;
@@ -798,6 +856,7 @@ fn call(
                 config,
                 facts,
                 out,
+                map,
                 left - 1,
                 i,
                 h.kind,
@@ -821,12 +880,13 @@ fn case(
     config: FormatConfig,
     facts: &[u8],
     out: &mut [u8],
+    map: &mut [u64],
     left: usize,
     at: usize,
     c: FormatterContext,
 ) -> Walk
     requires { ⌜ NodeReady (now source) (now keywords) (now tape) (now facts) config left at c ⌝ }
-    ensures { λ r. ⌜ RoutineDone (now (source .entry)) (now (tape .entry)) config at (always formatCaseExpression) c (now (out .entry)) r (now (out .exit)) ⌝ }
+    ensures { λ r. ⌜ RoutineDone (now (source .entry)) (now (tape .entry)) config at (always formatCaseExpression) c (now (out .entry)) (now (map .entry)) r (now (out .exit)) (now (map .exit)) ⌝ }
 {
     let mut i = at + 11;
     let mut ctx = c;
@@ -838,6 +898,8 @@ fn case(
         let h = head_at(tape, i);
         if tape[i] == 2 {
             ctx = case_expression_token(source, keywords, config, out, ctx, h);
+            let p = ctx.position;
+            note_token(map, source, h, p, Signs::Nothing);
             i += 11;
         } else {
             let a = case_expression_before(out, ctx, local, h.kind);
@@ -848,6 +910,7 @@ fn case(
                 config,
                 facts,
                 out,
+                map,
                 left - 1,
                 i,
                 h.kind,
@@ -871,12 +934,13 @@ fn when(
     config: FormatConfig,
     facts: &[u8],
     out: &mut [u8],
+    map: &mut [u64],
     left: usize,
     at: usize,
     c: FormatterContext,
 ) -> Walk
     requires { ⌜ NodeReady (now source) (now keywords) (now tape) (now facts) config left at c ⌝ }
-    ensures { λ r. ⌜ RoutineDone (now (source .entry)) (now (tape .entry)) config at (always formatWhenClause) c (now (out .entry)) r (now (out .exit)) ⌝ }
+    ensures { λ r. ⌜ RoutineDone (now (source .entry)) (now (tape .entry)) config at (always formatWhenClause) c (now (out .entry)) (now (map .entry)) r (now (out .exit)) (now (map .exit)) ⌝ }
 {
     let mut i = at + 11;
     let mut ctx = c;
@@ -884,6 +948,8 @@ fn when(
         let h = head_at(tape, i);
         if tape[i] == 2 {
             ctx = when_clause_token(source, keywords, config, out, ctx, h);
+            let p = ctx.position;
+            note_token(map, source, h, p, Signs::Nothing);
             i += 11;
         } else {
             let a = ctx;
@@ -894,6 +960,7 @@ fn when(
                 config,
                 facts,
                 out,
+                map,
                 left - 1,
                 i,
                 h.kind,
@@ -917,12 +984,13 @@ fn subquery(
     config: FormatConfig,
     facts: &[u8],
     out: &mut [u8],
+    map: &mut [u64],
     left: usize,
     at: usize,
     c: FormatterContext,
 ) -> Walk
     requires { ⌜ NodeReady (now source) (now keywords) (now tape) (now facts) config left at c ⌝ }
-    ensures { λ r. ⌜ RoutineDone (now (source .entry)) (now (tape .entry)) config at (always formatSubquery) c (now (out .entry)) r (now (out .exit)) ⌝ }
+    ensures { λ r. ⌜ RoutineDone (now (source .entry)) (now (tape .entry)) config at (always formatSubquery) c (now (out .entry)) (now (map .entry)) r (now (out .exit)) (now (map .exit)) ⌝ }
 {
     let mut i = at + 11;
     let mut ctx = c;
@@ -930,6 +998,8 @@ fn subquery(
         let h = head_at(tape, i);
         if tape[i] == 2 {
             ctx = subquery_token(source, keywords, config, out, ctx, h);
+            let p = ctx.position;
+            note_token(map, source, h, p, Signs::RoundBrackets);
             i += 11;
         } else {
             let a = ctx;
@@ -940,6 +1010,7 @@ fn subquery(
                 config,
                 facts,
                 out,
+                map,
                 left - 1,
                 i,
                 h.kind,
@@ -963,12 +1034,13 @@ fn paren(
     config: FormatConfig,
     facts: &[u8],
     out: &mut [u8],
+    map: &mut [u64],
     left: usize,
     at: usize,
     c: FormatterContext,
 ) -> Walk
     requires { ⌜ NodeReady (now source) (now keywords) (now tape) (now facts) config left at c ⌝ }
-    ensures { λ r. ⌜ RoutineDone (now (source .entry)) (now (tape .entry)) config at (always formatParenList) c (now (out .entry)) r (now (out .exit)) ⌝ }
+    ensures { λ r. ⌜ RoutineDone (now (source .entry)) (now (tape .entry)) config at (always formatParenList) c (now (out .entry)) (now (map .entry)) r (now (out .exit)) (now (map .exit)) ⌝ }
 {
     let mut i = at + 11;
     let mut ctx = c;
@@ -976,6 +1048,8 @@ fn paren(
         let h = head_at(tape, i);
         if tape[i] == 2 {
             ctx = paren_list_token(source, keywords, config, out, ctx, h);
+            let p = ctx.position;
+            note_token(map, source, h, p, Signs::CommaRoundBrackets);
             i += 11;
         } else {
             let a = ctx;
@@ -986,6 +1060,7 @@ fn paren(
                 config,
                 facts,
                 out,
+                map,
                 left - 1,
                 i,
                 h.kind,
@@ -1009,12 +1084,13 @@ fn bracket(
     config: FormatConfig,
     facts: &[u8],
     out: &mut [u8],
+    map: &mut [u64],
     left: usize,
     at: usize,
     c: FormatterContext,
 ) -> Walk
     requires { ⌜ NodeReady (now source) (now keywords) (now tape) (now facts) config left at c ⌝ }
-    ensures { λ r. ⌜ RoutineDone (now (source .entry)) (now (tape .entry)) config at (always formatBracketList) c (now (out .entry)) r (now (out .exit)) ⌝ }
+    ensures { λ r. ⌜ RoutineDone (now (source .entry)) (now (tape .entry)) config at (always formatBracketList) c (now (out .entry)) (now (map .entry)) r (now (out .exit)) (now (map .exit)) ⌝ }
 {
     let mut i = at + 11;
     let mut ctx = c;
@@ -1022,6 +1098,8 @@ fn bracket(
         let h = head_at(tape, i);
         if tape[i] == 2 {
             ctx = bracket_list_token(source, keywords, config, out, ctx, h);
+            let p = ctx.position;
+            note_token(map, source, h, p, Signs::CommaSquareBrackets);
             i += 11;
         } else {
             let a = ctx;
@@ -1032,6 +1110,7 @@ fn bracket(
                 config,
                 facts,
                 out,
+                map,
                 left - 1,
                 i,
                 h.kind,
@@ -1055,12 +1134,13 @@ fn brace(
     config: FormatConfig,
     facts: &[u8],
     out: &mut [u8],
+    map: &mut [u64],
     left: usize,
     at: usize,
     c: FormatterContext,
 ) -> Walk
     requires { ⌜ NodeReady (now source) (now keywords) (now tape) (now facts) config left at c ⌝ }
-    ensures { λ r. ⌜ RoutineDone (now (source .entry)) (now (tape .entry)) config at (always formatBraceList) c (now (out .entry)) r (now (out .exit)) ⌝ }
+    ensures { λ r. ⌜ RoutineDone (now (source .entry)) (now (tape .entry)) config at (always formatBraceList) c (now (out .entry)) (now (map .entry)) r (now (out .exit)) (now (map .exit)) ⌝ }
 {
     let mut i = at + 11;
     let mut ctx = c;
@@ -1068,6 +1148,8 @@ fn brace(
         let h = head_at(tape, i);
         if tape[i] == 2 {
             ctx = brace_list_token(source, keywords, config, out, ctx, h);
+            let p = ctx.position;
+            note_token(map, source, h, p, Signs::CommaColonCurlyBraces);
             i += 11;
         } else {
             let a = ctx;
@@ -1078,6 +1160,7 @@ fn brace(
                 config,
                 facts,
                 out,
+                map,
                 left - 1,
                 i,
                 h.kind,
@@ -1101,12 +1184,13 @@ fn dtype(
     config: FormatConfig,
     facts: &[u8],
     out: &mut [u8],
+    map: &mut [u64],
     left: usize,
     at: usize,
     c: FormatterContext,
 ) -> Walk
     requires { ⌜ NodeReady (now source) (now keywords) (now tape) (now facts) config left at c ⌝ }
-    ensures { λ r. ⌜ RoutineDone (now (source .entry)) (now (tape .entry)) config at (always formatDataType) c (now (out .entry)) r (now (out .exit)) ⌝ }
+    ensures { λ r. ⌜ RoutineDone (now (source .entry)) (now (tape .entry)) config at (always formatDataType) c (now (out .entry)) (now (map .entry)) r (now (out .exit)) (now (map .exit)) ⌝ }
 {
     let mut i = at + 11;
     let mut ctx = c;
@@ -1114,6 +1198,8 @@ fn dtype(
         let h = head_at(tape, i);
         if tape[i] == 2 {
             ctx = data_type_token(source, keywords, config, out, ctx, h);
+            let p = ctx.position;
+            note_token(map, source, h, p, Signs::CommaRoundBrackets);
             i += 11;
         } else {
             let a = ctx;
@@ -1124,6 +1210,7 @@ fn dtype(
                 config,
                 facts,
                 out,
+                map,
                 left - 1,
                 i,
                 h.kind,
@@ -1147,12 +1234,13 @@ fn tight_paren(
     config: FormatConfig,
     facts: &[u8],
     out: &mut [u8],
+    map: &mut [u64],
     left: usize,
     at: usize,
     c: FormatterContext,
 ) -> Walk
     requires { ⌜ NodeReady (now source) (now keywords) (now tape) (now facts) config left at c ⌝ }
-    ensures { λ r. ⌜ RoutineDone (now (source .entry)) (now (tape .entry)) config at (always formatInlineTightParens) c (now (out .entry)) r (now (out .exit)) ⌝ }
+    ensures { λ r. ⌜ RoutineDone (now (source .entry)) (now (tape .entry)) config at (always formatInlineTightParens) c (now (out .entry)) (now (map .entry)) r (now (out .exit)) (now (map .exit)) ⌝ }
 {
     let mut i = at + 11;
     let mut ctx = c;
@@ -1166,6 +1254,8 @@ fn tight_paren(
             let a = inline_tight_parens_token(source, keywords, config, out, ctx, local, h);
             ctx = a.context;
             local = a.local;
+            let p = ctx.position;
+            note_token(map, source, h, p, Signs::Nothing);
             i += 11;
         } else {
             let prev = local.prev;
@@ -1177,6 +1267,7 @@ fn tight_paren(
                 config,
                 facts,
                 out,
+                map,
                 left - 1,
                 i,
                 h.kind,
@@ -1204,12 +1295,13 @@ fn inline(
     config: FormatConfig,
     facts: &[u8],
     out: &mut [u8],
+    map: &mut [u64],
     left: usize,
     at: usize,
     c: FormatterContext,
 ) -> Walk
     requires { ⌜ NodeReady (now source) (now keywords) (now tape) (now facts) config left at c ⌝ }
-    ensures { λ r. ⌜ RoutineDone (now (source .entry)) (now (tape .entry)) config at (always formatInline) c (now (out .entry)) r (now (out .exit)) ⌝ }
+    ensures { λ r. ⌜ RoutineDone (now (source .entry)) (now (tape .entry)) config at (always formatInline) c (now (out .entry)) (now (map .entry)) r (now (out .exit)) (now (map .exit)) ⌝ }
 {
     let mut i = at + 11;
     let mut ctx = c;
@@ -1223,6 +1315,8 @@ fn inline(
             let a = inline_token(source, keywords, config, out, ctx, local, h);
             ctx = a.context;
             local = a.local;
+            let p = ctx.position;
+            note_token(map, source, h, p, Signs::Nothing);
             i += 11;
         } else {
             let prev = local.prev;
@@ -1234,6 +1328,7 @@ fn inline(
                 config,
                 facts,
                 out,
+                map,
                 left - 1,
                 i,
                 h.kind,
@@ -1261,12 +1356,13 @@ fn no_spaces(
     config: FormatConfig,
     facts: &[u8],
     out: &mut [u8],
+    map: &mut [u64],
     left: usize,
     at: usize,
     c: FormatterContext,
 ) -> Walk
     requires { ⌜ NodeReady (now source) (now keywords) (now tape) (now facts) config left at c ⌝ }
-    ensures { λ r. ⌜ RoutineDone (now (source .entry)) (now (tape .entry)) config at (always formatInlineNoSpaces) c (now (out .entry)) r (now (out .exit)) ⌝ }
+    ensures { λ r. ⌜ RoutineDone (now (source .entry)) (now (tape .entry)) config at (always formatInlineNoSpaces) c (now (out .entry)) (now (map .entry)) r (now (out .exit)) (now (map .exit)) ⌝ }
 {
     let mut i = at + 11;
     let mut ctx = c;
@@ -1274,6 +1370,8 @@ fn no_spaces(
         let h = head_at(tape, i);
         if tape[i] == 2 {
             ctx = emit_other(source, keywords, config, out, ctx, h);
+            let p = ctx.position;
+            note_token(map, source, h, p, Signs::Nothing);
             i += 11;
         } else {
             let a = ctx;
@@ -1284,6 +1382,7 @@ fn no_spaces(
                 config,
                 facts,
                 out,
+                map,
                 left - 1,
                 i,
                 h.kind,
@@ -1307,12 +1406,13 @@ fn pass(
     config: FormatConfig,
     facts: &[u8],
     out: &mut [u8],
+    map: &mut [u64],
     left: usize,
     at: usize,
     c: FormatterContext,
 ) -> Walk
     requires { ⌜ NodeReady (now source) (now keywords) (now tape) (now facts) config left at c ⌝ }
-    ensures { λ r. ⌜ RoutineDone (now (source .entry)) (now (tape .entry)) config at (always formatPassthrough) c (now (out .entry)) r (now (out .exit)) ⌝ }
+    ensures { λ r. ⌜ RoutineDone (now (source .entry)) (now (tape .entry)) config at (always formatPassthrough) c (now (out .entry)) (now (map .entry)) r (now (out .exit)) (now (map .exit)) ⌝ }
 {
     let mut i = at + 11;
     let mut ctx = c;
@@ -1320,6 +1420,8 @@ fn pass(
         let h = head_at(tape, i);
         if tape[i] == 2 {
             ctx = passthrough_token(source, keywords, config, out, ctx, h);
+            let p = ctx.position;
+            note_token(map, source, h, p, Signs::Nothing);
             i += 11;
         } else {
             let a = ctx;
@@ -1330,6 +1432,7 @@ fn pass(
                 config,
                 facts,
                 out,
+                map,
                 left - 1,
                 i,
                 h.kind,
@@ -1353,12 +1456,13 @@ fn alter(
     config: FormatConfig,
     facts: &[u8],
     out: &mut [u8],
+    map: &mut [u64],
     left: usize,
     at: usize,
     c: FormatterContext,
 ) -> Walk
     requires { ⌜ NodeReady (now source) (now keywords) (now tape) (now facts) config left at c ⌝ }
-    ensures { λ r. ⌜ RoutineDone (now (source .entry)) (now (tape .entry)) config at (always formatAlterCommandList) c (now (out .entry)) r (now (out .exit)) ⌝ }
+    ensures { λ r. ⌜ RoutineDone (now (source .entry)) (now (tape .entry)) config at (always formatAlterCommandList) c (now (out .entry)) (now (map .entry)) r (now (out .exit)) (now (map .exit)) ⌝ }
 {
     let mut i = at + 11;
     let mut ctx = c;
@@ -1366,6 +1470,8 @@ fn alter(
         let h = head_at(tape, i);
         if tape[i] == 2 {
             ctx = alter_command_list_token(source, keywords, config, out, ctx, h);
+            let p = ctx.position;
+            note_token(map, source, h, p, Signs::Comma);
             i += 11;
         } else {
             let a = ctx;
@@ -1376,6 +1482,7 @@ fn alter(
                 config,
                 facts,
                 out,
+                map,
                 left - 1,
                 i,
                 h.kind,
@@ -1399,12 +1506,13 @@ fn union(
     config: FormatConfig,
     facts: &[u8],
     out: &mut [u8],
+    map: &mut [u64],
     left: usize,
     at: usize,
     c: FormatterContext,
 ) -> Walk
     requires { ⌜ NodeReady (now source) (now keywords) (now tape) (now facts) config left at c ⌝ }
-    ensures { λ r. ⌜ RoutineDone (now (source .entry)) (now (tape .entry)) config at (always formatUnionClause) c (now (out .entry)) r (now (out .exit)) ⌝ }
+    ensures { λ r. ⌜ RoutineDone (now (source .entry)) (now (tape .entry)) config at (always formatUnionClause) c (now (out .entry)) (now (map .entry)) r (now (out .exit)) (now (map .exit)) ⌝ }
 {
     let mut i = at + 11;
     let mut ctx = c;
@@ -1416,6 +1524,8 @@ fn union(
         let h = head_at(tape, i);
         if tape[i] == 2 {
             ctx = union_clause_token(source, keywords, config, out, ctx, local, h);
+            let p = ctx.position;
+            note_token(map, source, h, p, Signs::Nothing);
             i += 11;
         } else {
             let a = union_clause_before(out, ctx, local, h.kind);
@@ -1426,6 +1536,7 @@ fn union(
                 config,
                 facts,
                 out,
+                map,
                 left - 1,
                 i,
                 h.kind,
@@ -1451,29 +1562,31 @@ pub(crate) fn node(
     config: FormatConfig,
     facts: &[u8],
     out: &mut [u8],
+    map: &mut [u64],
     left: usize,
     at: usize,
     kind: u16,
     c: FormatterContext,
 ) -> Walk
     requires { ⌜ NodeReady (now source) (now keywords) (now tape) (now facts) config left at c × (kind ≡ headAt (now tape) at .kind) ⌝ }
-    ensures { λ r. ⌜ NodeDone (now (source .entry)) (now (tape .entry)) config at c (now (out .entry)) r (now (out .exit)) ⌝ }
+    ensures { λ r. ⌜ NodeDone (now (source .entry)) (now (tape .entry)) config at c (now (out .entry)) (now (map .entry)) r (now (out .exit)) (now (map .exit)) ⌝ }
 {
     if has_error(facts, at) {
         if kind != syntax_kind::QUERY_LIST {
             let h = head_at(tape, at);
             let end = skip(tape, at);
+            note_none(map, end.tokens);
             let ctx = format_error_verbatim(source, config, out, c, h);
             return Walk {
-                at: end,
+                at: end.at,
                 context: ctx,
             };
         }
     }
     let r = routine_of(kind);
     match r {
-        Routine::File => file(source, keywords, tape, config, facts, out, left, at, c),
-        Routine::QueryList => queries(source, keywords, tape, config, facts, out, left, at, c),
+        Routine::File => file(source, keywords, tape, config, facts, out, map, left, at, c),
+        Routine::QueryList => queries(source, keywords, tape, config, facts, out, map, left, at, c),
         Routine::SelectStatement => sel_stmt(
             source,
             keywords,
@@ -1481,12 +1594,35 @@ pub(crate) fn node(
             config,
             facts,
             out,
+            map,
             left,
             at,
             c,
         ),
-        Routine::SelectClause => select(source, keywords, tape, config, facts, out, left, at, c),
-        Routine::SimpleClause => simple(source, keywords, tape, config, facts, out, left, at, c),
+        Routine::SelectClause => select(
+            source,
+            keywords,
+            tape,
+            config,
+            facts,
+            out,
+            map,
+            left,
+            at,
+            c,
+        ),
+        Routine::SimpleClause => simple(
+            source,
+            keywords,
+            tape,
+            config,
+            facts,
+            out,
+            map,
+            left,
+            at,
+            c,
+        ),
         Routine::ListClause(list) => list_by(
             source,
             keywords,
@@ -1494,6 +1630,7 @@ pub(crate) fn node(
             config,
             facts,
             out,
+            map,
             left,
             at,
             c,
@@ -1506,14 +1643,15 @@ pub(crate) fn node(
             config,
             facts,
             out,
+            map,
             left,
             at,
             c,
         ),
-        Routine::WithClause => with(source, keywords, tape, config, facts, out, left, at, c),
-        Routine::JoinClause => join(source, keywords, tape, config, facts, out, left, at, c),
-        Routine::Inline => inline(source, keywords, tape, config, facts, out, left, at, c),
-        Routine::CommaList => comma(source, keywords, tape, config, facts, out, left, at, c),
+        Routine::WithClause => with(source, keywords, tape, config, facts, out, map, left, at, c),
+        Routine::JoinClause => join(source, keywords, tape, config, facts, out, map, left, at, c),
+        Routine::Inline => inline(source, keywords, tape, config, facts, out, map, left, at, c),
+        Routine::CommaList => comma(source, keywords, tape, config, facts, out, map, left, at, c),
         Routine::InlineCommaList => inl_list(
             source,
             keywords,
@@ -1521,6 +1659,7 @@ pub(crate) fn node(
             config,
             facts,
             out,
+            map,
             left,
             at,
             c,
@@ -1532,17 +1671,51 @@ pub(crate) fn node(
             config,
             facts,
             out,
+            map,
             left,
             at,
             c,
         ),
-        Routine::UnaryExpression => unary(source, keywords, tape, config, facts, out, left, at, c),
-        Routine::FunctionCall => call(source, keywords, tape, config, facts, out, left, at, c),
-        Routine::CaseExpression => case(source, keywords, tape, config, facts, out, left, at, c),
-        Routine::WhenClause => when(source, keywords, tape, config, facts, out, left, at, c),
-        Routine::Subquery => subquery(source, keywords, tape, config, facts, out, left, at, c),
-        Routine::ParenList => paren(source, keywords, tape, config, facts, out, left, at, c),
-        Routine::BracketList => bracket(source, keywords, tape, config, facts, out, left, at, c),
+        Routine::UnaryExpression => unary(
+            source,
+            keywords,
+            tape,
+            config,
+            facts,
+            out,
+            map,
+            left,
+            at,
+            c,
+        ),
+        Routine::FunctionCall => call(source, keywords, tape, config, facts, out, map, left, at, c),
+        Routine::CaseExpression => case(
+            source,
+            keywords,
+            tape,
+            config,
+            facts,
+            out,
+            map,
+            left,
+            at,
+            c,
+        ),
+        Routine::WhenClause => when(source, keywords, tape, config, facts, out, map, left, at, c),
+        Routine::Subquery => subquery(source, keywords, tape, config, facts, out, map, left, at, c),
+        Routine::ParenList => paren(source, keywords, tape, config, facts, out, map, left, at, c),
+        Routine::BracketList => bracket(
+            source,
+            keywords,
+            tape,
+            config,
+            facts,
+            out,
+            map,
+            left,
+            at,
+            c,
+        ),
         Routine::InlineNoSpaces => no_spaces(
             source,
             keywords,
@@ -1550,12 +1723,13 @@ pub(crate) fn node(
             config,
             facts,
             out,
+            map,
             left,
             at,
             c,
         ),
-        Routine::BraceList => brace(source, keywords, tape, config, facts, out, left, at, c),
-        Routine::DataType => dtype(source, keywords, tape, config, facts, out, left, at, c),
+        Routine::BraceList => brace(source, keywords, tape, config, facts, out, map, left, at, c),
+        Routine::DataType => dtype(source, keywords, tape, config, facts, out, map, left, at, c),
         Routine::InlineTightParens => tight_paren(
             source,
             keywords,
@@ -1563,12 +1737,24 @@ pub(crate) fn node(
             config,
             facts,
             out,
+            map,
             left,
             at,
             c,
         ),
-        Routine::AlterCommandList => alter(source, keywords, tape, config, facts, out, left, at, c),
-        Routine::UnionClause => union(source, keywords, tape, config, facts, out, left, at, c),
-        Routine::Passthrough => pass(source, keywords, tape, config, facts, out, left, at, c),
+        Routine::AlterCommandList => alter(
+            source,
+            keywords,
+            tape,
+            config,
+            facts,
+            out,
+            map,
+            left,
+            at,
+            c,
+        ),
+        Routine::UnionClause => union(source, keywords, tape, config, facts, out, map, left, at, c),
+        Routine::Passthrough => pass(source, keywords, tape, config, facts, out, map, left, at, c),
     }
 }

@@ -12,6 +12,9 @@ use tape::Checked;
 use tape::check::check_call;
 use tape::check::number;
 use tape::commands::head_at;
+use tape::scan::skip;
+use token_map::clear;
+use token_map::place_tokens;
 ghost use mathlib.Core.Path.{_≡_};
 ghost use mathlib.Core.List.{_++_};
 ghost use Prim.Native.Nat.{_*_, _≤_, _<_};
@@ -19,8 +22,9 @@ ghost use lib.ListN.{drop, length, set, take};
 ghost use Rattle.context.specs.Splice.{splice};
 ghost use Rattle.keywords.specs.Table.{table};
 ghost use Rattle.layout.specs.Layout.{original};
+ghost use Rattle.layout.specs.MapCall.{Mapped, mapped};
 ghost use Rattle.layout.specs.Outcome.{Result, configOf, laidOut, outcome};
-ghost use Rattle.formatter.specs.Entry.{Fills, LaysOut, Ready, Trims, WalkedInto};
+ghost use Rattle.formatter.specs.Entry.{Fills, LaysOut, MapFills, MapFits, MapsOut, Notes, Ready, Trims, WalkedInto};
 
 // Where a walk stands after a node: the place on the tape, and the context.
 pub(crate) struct Walk {
@@ -28,7 +32,7 @@ pub(crate) struct Walk {
     pub context: FormatterContext,
 }
 
-// The trimmed length of the layout. What is written for it goes into `space`, as far as that goes.
+// The trimmed length of the layout. What is written for it goes into `space`, as far as that goes, and the places of tokens are noted in `map`.
 fn walk_tree(
     text: &[u8],
     keywords: &[u8; TABLE_LENGTH],
@@ -36,9 +40,10 @@ fn walk_tree(
     config: FormatConfig,
     facts: &[u8],
     space: &mut [u8],
+    map: &mut [u64],
 ) -> usize
     requires { ⌜ Ready (now text) (now keywords) (now tape) (now facts) config ⌝ }
-    ensures { λ r. ⌜ WalkedInto (now (text .entry)) (now (tape .entry)) config (now (space .entry)) r (now (space .exit)) ⌝ }
+    ensures { λ r. ⌜ WalkedInto (now (text .entry)) (now (tape .entry)) config (now (space .entry)) (now (map .entry)) r (now (space .exit)) (now (map .exit)) ⌝ }
 {
     let root = head_at(tape, 0);
     let w = node(
@@ -48,6 +53,7 @@ fn walk_tree(
         config,
         facts,
         space,
+        map,
         63,
         0,
         root.kind,
@@ -66,13 +72,15 @@ fn write_layout(
     config: FormatConfig,
     facts: &[u8],
     out: &mut [u8],
+    map: &mut [u64],
     k: usize,
 )
     requires { ⌜ Ready (now text) (now keywords) (now tape) (now facts) config ⌝ }
     requires { ⌜ Trims (now text) (now tape) config k × (0 < k) × (k < length (now out)) ⌝ }
     ensures { λ _. ⌜ Fills (now (text .entry)) (now (tape .entry)) config (now (out .entry)) (now (out .exit)) ⌝ }
+    ensures { λ _. ⌜ Notes (now (text .entry)) (now (tape .entry)) config (now (map .entry)) (now (map .exit)) ⌝ }
 {
-    walk_tree(text, keywords, tape, config, facts, &mut out[..k]);
+    walk_tree(text, keywords, tape, config, facts, &mut out[..k], map);
     out[k] = 10;
 }
 
@@ -98,7 +106,8 @@ fn layout_accepted(
     requires { ⌜ Ready (now text) (now keywords) (now tape) (now facts) config ⌝ }
     ensures { λ r. ⌜ LaysOut (now (text .entry)) (now (tape .entry)) config (now (out .entry)) r (now (out .exit)) ⌝ }
 {
-    let k = walk_tree(text, keywords, tape, config, facts, space);
+    let mut no_map = [0u64; 1];
+    let k = walk_tree(text, keywords, tape, config, facts, space, &mut no_map[..0]);
     if k == 0 {
         return Answer {
             number: 0,
@@ -118,7 +127,114 @@ fn layout_accepted(
             value: k as u64 + 1,
         };
     }
-    write_layout(text, keywords, tape, config, facts, out, k);
+    write_layout(
+        text,
+        keywords,
+        tape,
+        config,
+        facts,
+        out,
+        &mut no_map[..0],
+        k,
+    );
+    Answer {
+        number: 0,
+        value: k as u64 + 1,
+    }
+}
+
+// The layout and the map, once 13 and 17 are decided: the places are noted as the layout is written, and become lines and columns of it.
+fn write_map(
+    text: &[u8],
+    keywords: &[u8; TABLE_LENGTH],
+    tape: &[u8],
+    config: FormatConfig,
+    facts: &[u8],
+    out: &mut [u8],
+    map: &mut [u64],
+    k: usize,
+)
+    requires { ⌜ Ready (now text) (now keywords) (now tape) (now facts) config ⌝ }
+    requires { ⌜ Trims (now text) (now tape) config k × (0 < k) × (k < length (now out)) × MapFits (now text) (now tape) (length (now map)) ⌝ }
+    ensures { λ _. ⌜ Fills (now (text .entry)) (now (tape .entry)) config (now (out .entry)) (now (out .exit)) × MapFills (now (text .entry)) (now (tape .entry)) config (now (map .exit)) ⌝ }
+{
+    clear(map);
+    write_layout(text, keywords, tape, config, facts, out, map, k);
+    let end = k + 1;
+    place_tokens(map, &out[..end], k);
+}
+
+// Two numbers for each token of the tape.
+fn numbers_needed(
+    text: &[u8],
+    keywords: &[u8; TABLE_LENGTH],
+    tape: &[u8],
+    config: FormatConfig,
+    facts: &[u8],
+) -> usize
+    requires { ⌜ Ready (now text) (now keywords) (now tape) (now facts) config ⌝ }
+    ensures { λ r. ⌜ MapFits (now (text .entry)) (now (tape .entry)) r ⌝ }
+{
+    let root = skip(tape, 0);
+    2 * root.tokens
+}
+
+// The first walk only finds the length. Nothing is written before 13 and 17 are decided.
+fn map_accepted(
+    text: &[u8],
+    keywords: &[u8; TABLE_LENGTH],
+    tape: &[u8],
+    config: FormatConfig,
+    facts: &[u8],
+    out: &mut [u8],
+    map: &mut [u64],
+) -> Answer
+    requires { ⌜ Ready (now text) (now keywords) (now tape) (now facts) config ⌝ }
+    ensures { λ r. ⌜ MapsOut (now (text .entry)) (now (tape .entry)) config (now (out .entry)) (now (map .entry)) r (now (out .exit)) (now (map .exit)) ⌝ }
+{
+    let mut no_space = [0u8; 1];
+    let mut no_map = [0u64; 1];
+    let k = walk_tree(
+        text,
+        keywords,
+        tape,
+        config,
+        facts,
+        &mut no_space[..0],
+        &mut no_map[..0],
+    );
+    if 0 < k {
+        if out.len() <= k {
+            return Answer {
+                number: 13,
+                value: k as u64 + 1,
+            };
+        }
+    }
+    let count = numbers_needed(text, keywords, tape, config, facts);
+    if map.len() < count {
+        return Answer {
+            number: 17,
+            value: count as u64,
+        };
+    }
+    if k == 0 {
+        clear(&mut map[..count]);
+        return Answer {
+            number: 0,
+            value: 0,
+        };
+    }
+    write_map(
+        text,
+        keywords,
+        tape,
+        config,
+        facts,
+        out,
+        &mut map[..count],
+        k,
+    );
     Answer {
         number: 0,
         value: k as u64 + 1,
@@ -249,4 +365,84 @@ pub fn layout(text: &[u8], tape: &[u8], width: u64, case: u64, out: &mut [u8]) -
         return layout_short(text, tape, width, case, out);
     }
     layout_long(text, tape, width, case, out)
+}
+
+// `facts` has room for what the check notes of each node.
+fn layout_map_in(
+    text: &[u8],
+    keywords: &[u8; TABLE_LENGTH],
+    tape: &[u8],
+    width: u64,
+    case: u64,
+    facts: &mut [u8],
+    out: &mut [u8],
+    map: &mut [u64],
+) -> Answer
+    requires { ⌜ (length (now tape) ≤ 262144 → length (now tape) ≤ 11 * length (now facts)) × (now keywords ≡ table) ⌝ }
+    ensures { λ r. ⌜ _≡_ {A = Mapped} (record { answer = r; space = now (out .exit); map = now (map .exit) }) (mapped width case (now (text .entry)) (now (tape .entry)) (now (out .entry)) (now (map .entry))) ⌝ }
+{
+    let checked = check_call(width, case, text, tape, facts);
+    match checked {
+        Checked::Refused(fault, place) => Answer {
+            number: number(fault),
+            value: place as u64,
+        },
+        Checked::Accepted => map_accepted(
+            text,
+            keywords,
+            tape,
+            config_of(width, case),
+            facts,
+            out,
+            map,
+        ),
+    }
+}
+
+fn layout_map_short(
+    text: &[u8],
+    tape: &[u8],
+    width: u64,
+    case: u64,
+    out: &mut [u8],
+    map: &mut [u64],
+) -> Answer
+    requires { ⌜ length (now tape) ≤ 8206 ⌝ }
+    ensures { λ r. ⌜ _≡_ {A = Mapped} (record { answer = r; space = now (out .exit); map = now (map .exit) }) (mapped width case (now (text .entry)) (now (tape .entry)) (now (out .entry)) (now (map .entry))) ⌝ }
+{
+    let keywords = table();
+    let mut facts = [0u8; 746];
+    layout_map_in(text, &keywords, tape, width, case, &mut facts, out, map)
+}
+
+fn layout_map_long(
+    text: &[u8],
+    tape: &[u8],
+    width: u64,
+    case: u64,
+    out: &mut [u8],
+    map: &mut [u64],
+) -> Answer
+    ensures { λ r. ⌜ _≡_ {A = Mapped} (record { answer = r; space = now (out .exit); map = now (map .exit) }) (mapped width case (now (text .entry)) (now (tape .entry)) (now (out .entry)) (now (map .entry))) ⌝ }
+{
+    let keywords = table();
+    let mut facts = [0u8; 23832];
+    layout_map_in(text, &keywords, tape, width, case, &mut facts, out, map)
+}
+
+// The layout, and line and column of each token in `map`.
+pub fn layout_map(
+    text: &[u8],
+    tape: &[u8],
+    width: u64,
+    case: u64,
+    out: &mut [u8],
+    map: &mut [u64],
+) -> Answer
+    ensures { λ r. ⌜ _≡_ {A = Mapped} (record { answer = r; space = now (out .exit); map = now (map .exit) }) (mapped width case (now (text .entry)) (now (tape .entry)) (now (out .entry)) (now (map .entry))) ⌝ }
+{
+    if tape.len() <= 8206 {
+        return layout_map_short(text, tape, width, case, out, map);
+    }
+    layout_map_long(text, tape, width, case, out, map)
 }

@@ -38,20 +38,20 @@ module _ (P : Head → Type 0) (Q : ℕ → ℕ → Type 0) where
   every-append [] y u v = v
   every-append (c ∷ x) y u v = (u .0, every-append x y (u .1) v)
 
-  every-spacing : (xs : List Spacing) → Every (map putSpacing xs)
+  pub every-spacing : (xs : List Spacing) → Every (map putSpacing xs)
   unfolding Every
   every-spacing [] = tt
   every-spacing (x ∷ xs) = (tt, every-spacing xs)
 
-  every-act : (h : Head) → P h → (xs : List Act) → Every (map (actAt h) xs)
+  pub every-act : (h : Head) → P h → (xs : List Act) → Every (map (actAt h) xs)
   unfolding Every
   every-act h w [] = tt
   every-act h w (x ∷ xs) = (w, every-act h w xs)
 
-  abbrev OfCopy : Head → Type 0
+  abbrev pub OfCopy : Head → Type 0
   OfCopy h = Q (h .start) (h .end)
 
-  every-verbatim : (h : Head) → OfCopy h → Every (formatErrorVerbatim h)
+  pub every-verbatim : (h : Head) → OfCopy h → Every (formatErrorVerbatim h)
   unfolding formatErrorVerbatim Every
   every-verbatim h w = go (leb (h .start) (h .end))
     where
@@ -59,12 +59,12 @@ module _ (P : Head → Type 0) (Q : ℕ → ℕ → Type 0) where
       go true = (w, tt)
       go false = tt
 
-  every-cond : (t : Bool) (x y : List Call) (A B : Type 0) → OfCopied t A B → (A → Every x) → (B → Every y) → Every (cond t x y)
+  pub every-cond : (t : Bool) (x y : List Call) (A B : Type 0) → OfCopied t A B → (A → Every x) → (B → Every y) → Every (cond t x y)
   every-cond true x y A B w f g = f w
   every-cond false x y A B w f g = g w
 
   module _ (pick : ℕ → Children → Arms) (text : Text) where
-    each-walk : (c : Children) → EachToken P c → EachReachedBelow OfCopy c → (r : Arms) (l : Local) → Every (walk pick text r l c)
+    pub each-walk : (c : Children) → EachToken P c → EachReachedBelow OfCopy c → (r : Arms) (l : Local) → Every (walk pick text r l c)
     unfolding walk
     each-walk done w v r l = every-spacing (r .atEnd l)
     each-walk (token h rest) w v r l =

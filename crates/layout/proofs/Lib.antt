@@ -2,8 +2,11 @@
 pub mod EachCall
 pub mod PieceStarts
 pub mod MaskedLayouts
+pub mod TokenMaps
+pub mod MaskedMaps
 pub mod TwoCalls
 pub mod OneLength
+pub mod MapCalls
 pub mod AsciiPairs
 pub mod MaskingTests
 pub mod Origins

@@ -14,10 +14,10 @@ use Rattle.utf8.specs.WhiteSpace.{isWhiteSpace}
 use Rattle.utf8.specs.Trimming.{trimmedLength, trimmedAfter}
 use Rattle.utf8.specs.Steps.{endWhite}
 use Rattle.utf8.proofs.Trimming.{trimmed-append, trimmed-whole}
-use Rattle.context.specs.Cells.{Text, Cell, tokenText, bytesOf, spanCells, copiedFrom, cellInCase}
+use Rattle.context.specs.Cells.{Text, Origin, made, from, Cell, tokenText, bytesOf, spanCells, copiedFrom, cellInCase}
 use Rattle.context.specs.Context.{Piece, newState, writeToken}
 use Rattle.context.specs.Context as context
-use Rattle.context.specs.Alike.{Like}
+use Rattle.context.specs.Alike.{LinesAgree, Like}
 use Rattle.context.specs.declared.FormatConfig.{FormatConfig}
 use Rattle.context.specs.declared.State.{State}
 use Rattle.context.proofs.Bytes.{bytes-append, bytes-span, bytes-in-case, token-length-same, token-same, trimmed-in-case}
@@ -69,7 +69,7 @@ ends-solid (c ∷ []) n = go (isWhiteSpace c) refl n
 ends-solid (c ∷ d ∷ cs) n = ends-solid (d ∷ cs) n
 
 module _ (a b : Text) (sameLength : length a ≡ length b) where
-  abbrev trimmed : List Cell → ℕ
+  abbrev pub trimmed : List Cell → ℕ
   trimmed cs = trimmedLength (bytesOf cs)
 
   trimmed-both : (xs ys : List Cell) → Starts (bytesOf ys) → trimmed (xs ++ ys) ≡ trimmedAfter (length xs) (trimmed xs) (trimmed ys)
@@ -80,28 +80,28 @@ module _ (a b : Text) (sameLength : length a ≡ length b) where
 
   -- ── what a masked pair gives of each token, and of each node that is copied
 
-  record TokenAlike (h : Head) : Type 0 where
-    seenSame : seen a h ≡ seen b h
-    trims : trimmed (spanCells a (h .start) (h .end)) ≡ trimmed (spanCells b (h .start) (h .end))
-    startsA : Starts (tokenText a (h .start) (h .end))
-    startsB : Starts (tokenText b (h .start) (h .end))
+  pub record TokenAlike (h : Head) : Type 0 where
+    pub seenSame : seen a h ≡ seen b h
+    pub trims : trimmed (spanCells a (h .start) (h .end)) ≡ trimmed (spanCells b (h .start) (h .end))
+    pub startsA : Starts (tokenText a (h .start) (h .end))
+    pub startsB : Starts (tokenText b (h .start) (h .end))
 
-  abbrev SameSpan : ℕ → ℕ → Type 0
+  abbrev pub SameSpan : ℕ → ℕ → Type 0
   SameSpan s e = tokenText a s e ≡ tokenText b s e
 
-  abbrev CopySpan : ℕ → ℕ → Type 0
+  abbrev pub CopySpan : ℕ → ℕ → Type 0
   CopySpan s e = SameSpan s e × Starts (tokenText a s e)
 
-  abbrev CopyAlike : Head → Type 0
+  abbrev pub CopyAlike : Head → Type 0
   CopyAlike h = CopySpan (h .start) (h .end)
 
-  abbrev EachAlike : List Call → Type 0
+  abbrev pub EachAlike : List Call → Type 0
   EachAlike = Every TokenAlike CopySpan
 
   -- ── the calls are equal
 
   module _ (pick : ℕ → Children → Arms) where
-    walk-same : (c : Children) → EachToken TokenAlike c → (r : Arms) (l : Local) → walk pick a r l c ≡ walk pick b r l c
+    pub walk-same : (c : Children) → EachToken TokenAlike c → (r : Arms) (l : Local) → walk pick a r l c ≡ walk pick b r l c
     unfolding walk
     walk-same done w r l = refl
     walk-same (token h rest) w r l = rw (w .0 .seenSame, walk-same rest (w .1) r ((r .atToken l (seen b h)) .0))
@@ -151,7 +151,7 @@ module _ (a b : Text) (sameLength : length a ≡ length b) where
       rw (k .leads) (like-append a b (q .lead) (q .lead) (p .body ++ written ps′) (q .body ++ written qs′) (like-self a b (q .lead))
       (like-append a b (p .body) (q .body) (written ps′) (written qs′) (k .bodies) (written-like ps′ qs′ r)))
 
-  written-trims : (ps qs : List Piece) → PiecesLike ps qs → trimmed (written ps) ≡ trimmed (written qs)
+  pub written-trims : (ps qs : List Piece) → PiecesLike ps qs → trimmed (written ps) ≡ trimmed (written qs)
   unfolding written
   written-trims ps qs nil = refl
   written-trims ps qs (next {p} {q} {ps = ps′} {qs = qs′} k r) =
@@ -173,7 +173,7 @@ module _ (a b : Text) (sameLength : length a ≡ length b) where
   span-same s e w = ap (copiedFrom s) w
 
   module _ (config : FormatConfig) where
-    step-state : (c : Call) → EachAlike (c ∷ []) → (s : State) → (step config a c s) .0 ≡ (step config b c s) .0
+    pub step-state : (c : Call) → EachAlike (c ∷ []) → (s : State) → (step config a c s) .0 ≡ (step config b c s) .0
     unfolding step writeToken context.writeKeyword Every
     step-state (putSpacing x) w s = refl
     step-state (actAt h (spacing x)) w s = refl
@@ -209,7 +209,7 @@ module _ (a b : Text) (sameLength : length a ≡ length b) where
         in-case : (u : Bool) (cs : List Cell) → trimmed (map (cellInCase u) cs) ≡ trimmed cs
         in-case u cs = ap trimmedLength (bytes-in-case u cs) ∙ trimmed-in-case u (bytesOf cs)
 
-    step-piece : (c : Call) → EachAlike (c ∷ []) → (s : State) → PieceLike ((step config a c s) .1) ((step config b c s) .1)
+    pub step-piece : (c : Call) → EachAlike (c ∷ []) → (s : State) → PieceLike ((step config a c s) .1) ((step config b c s) .1)
     unfolding step writeToken Every
     step-piece (putSpacing x) w s = same-piece _ (spacing-starts x s)
     step-piece (actAt h (spacing x)) w s = same-piece _ (spacing-starts x s)
@@ -314,28 +314,27 @@ module _ (a b : Text) (sameLength : length a ≡ length b) where
   unfolding original
   original-keeps-alike ps qs k = k
 
-  same-pieces : (v : Version) → KeepsAlike v → (config : FormatConfig) (t : Tree) → TokenSpans (length a) (t .kids) → SpansStart a t → SpansStart b t → MaskedForLayout a b t
-      → PiecesLike (piecesOf v config a t) (piecesOf v config b t)
-  unfolding piecesOf
-  same-pieces v keeps config t s x y m =
-      subst (λ cs. PiecesLike (v .between (pieces config a (calls (v .pick) a t) newState)) (v .between (pieces config b cs newState)))
-      (calls-same (v .pick) t tokens)
-      (keeps _ _ (pieces-like config (calls (v .pick) a t) (each-call TokenAlike CopySpan (v .pick) a t tokens copies) newState))
-    where
-      tokens : EachToken TokenAlike (t .kids)
-      tokens = alike-tokens (t .kids) s (x .tokens) (y .tokens) (m .inQuotes) (m .noWhiteSpaceEnd)
+  module _ (t : Tree) (s : TokenSpans (length a) (t .kids)) (x : SpansStart a t) (y : SpansStart b t) (m : MaskedForLayout a b t) where
+    pub tokens-alike : EachToken TokenAlike (t .kids)
+    tokens-alike = alike-tokens (t .kids) s (x .tokens) (y .tokens) (m .inQuotes) (m .noWhiteSpaceEnd)
 
-      copies : EachReachedCopy CopyAlike t
-      copies = of-copied (copied (t .head .kind) (t .kids)) _ _ _ _ _ _ (x .copies) (m .notCopied) (alike-copy (t .head)) (alike-copies (t .kids))
+    pub copies-alike : EachReachedCopy CopyAlike t
+    copies-alike = of-copied (copied (t .head .kind) (t .kids)) _ _ _ _ _ _ (x .copies) (m .notCopied) (alike-copy (t .head)) (alike-copies (t .kids))
 
-  pub masking : (v : Version) → KeepsAlike v → (config : FormatConfig) (t : Tree) → TokenSpans (length a) (t .kids) → SpansStart a t → SpansStart b t → MaskedForLayout a b t
-      → Like a b (format v config a t) (format v config b t)
-  unfolding format
-  masking v keeps config t s x y m =
-      let k = same-pieces v keeps config t s x y m in
-      let ps = piecesOf v config a t in
-      let qs = piecesOf v config b t in
-      finish-like a b (written ps) (written qs) (written-like ps qs k) (written-trims ps qs k)
+    module _ (v : Version) (keeps : KeepsAlike v) (config : FormatConfig) where
+      pub same-pieces : PiecesLike (piecesOf v config a t) (piecesOf v config b t)
+      unfolding piecesOf
+      same-pieces =
+          subst (λ cs. PiecesLike (v .between (pieces config a (calls (v .pick) a t) newState)) (v .between (pieces config b cs newState)))
+          (calls-same (v .pick) t tokens-alike)
+          (keeps _ _ (pieces-like config (calls (v .pick) a t) (each-call TokenAlike CopySpan (v .pick) a t tokens-alike copies-alike) newState))
+
+      pub masking : Like a b (format v config a t) (format v config b t)
+      unfolding format
+      masking =
+          let ps = piecesOf v config a t in
+          let qs = piecesOf v config b t in
+          finish-like a b (written ps) (written qs) (written-like ps qs same-pieces) (written-trims ps qs same-pieces)
 
 -- ── demand 3's own conditions ask for more
 
@@ -360,3 +359,8 @@ module _ (a b : Text) where
       go true e = ap (λ (n : ℕ). eqb n 10) (eqb-true (getD a p 0) (getD b p 0) e)
       go false e =
           let u = m .noNewline p (eqb-false (getD a p 0) (getD b p 0) e) in ne-eqb (getD a p 0) 10 (u .0) ∙ sym (ne-eqb (getD b p 0) 10 (u .1))
+
+  -- newlines at the same places of both texts stand at the same origins
+  pub lines-agree : SameLines a b → (o : Origin) → LinesAgree a b o
+  lines-agree w made = tt
+  lines-agree w (from p) = w p

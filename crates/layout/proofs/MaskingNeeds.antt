@@ -8,6 +8,8 @@ use lib.ListN.{length, getD}
 use lib.Dec.{T, T-not, eqb, lit<}
 use lib.Ieee.Fits.{and-l, and-r}
 use borrow.Author.Tests.{ne-eqb}
+use Rattle.keywords.specs.Words.{same}
+use Rattle.keywords.proofs.Places.{same-self}
 use Rattle.context.specs.Cells.{Text}
 use Rattle.tape.specs.Tree.{Tree}
 use Rattle.tape.specs.Tape.{Read, refused, got, readTree}
@@ -15,9 +17,11 @@ use Rattle.tape.specs.Call.{letPass, readCall}
 use Rattle.layout.specs.Layout.{original}
 use Rattle.layout.specs.Outcome.{outcome}
 use Rattle.layout.specs.Masking.{Differ, MaskedPair, MaskedPairForLayout}
+use Rattle.layout.specs.MapCall.{MapsAlikeByLines}
 use Rattle.layout.specs.MaskingTests.{Condition, sameLength, noNewline, inSomeToken, strictlyInside, inQuotes, notCopied, noWhiteSpaceEnd, Asks, holds, holdsForLayout}
-use Rattle.layout.specs.MaskingNeeds.{Pair, space, Claim, claimed, conditions, ofTree, allHold, bothPass, meets, masked, meetsForLayout, maskedForLayout, Broken, number, needed, allNeeded, pairs, Needed, EachNeeded}
+use Rattle.layout.specs.MaskingNeeds.{Pair, space, mapSpace, Claim, claimed, mapOf, MapClaim, mapClaimed, conditions, ofTree, allHold, bothPass, meets, masked, meetsForLayout, maskedForLayout, Broken, number, needed, allNeeded, pairs, mapPairs, Needed, EachNeeded}
 use Rattle.layout.proofs.TwoCalls.{demand-3}
+use Rattle.layout.proofs.MapCalls.{maps-masked}
 use Rattle.layout.proofs.MaskingTests.{asked, asked-for-layout, says}
 use Rattle.layout.proofs.Tables.{tables}
 
@@ -127,6 +131,10 @@ met-for-layout = meets-pair-for-layout maskedForLayout (and-r (meets masked) (me
 pub worked : Claim masked
 worked = demand-3 4 1 (masked .first) (masked .second) (masked .tape) met space
 
+-- and the two calls with a map
+pub worked-map : MapsAlikeByLines 4 1 (masked .first) (masked .second) (masked .tape) space mapSpace
+worked-map = maps-masked 4 1 (masked .first) (masked .second) (masked .tape) met space mapSpace
+
 -- its texts differ
 pub masked-differs : Differ (masked .first) (masked .second) 8
 unfolding masked
@@ -134,35 +142,48 @@ masked-differs e = T-not (eqb 0xC3 0xF0) tt (subst (λ (n : ℕ). T (eqb 0xC3 n)
 
 -- ── each condition is needed
 
-is-needed : (x : Broken) → T (needed x) → Needed x
-is-needed x u = go (readTree (length (x .pair .first)) (x .pair .tape)) refl (and-l read (bothPass (x .pair) && not (claimed (x .pair))) u)
-  where
-    f : Tree → Bool
-    f = allHold (λ c. eqb (number c) (number (x .without))) (x .pair .first) (x .pair .second) conditions
+-- of a claim that its test says
+module _ (claim : Pair → Bool) (Claimed : Pair → Type 0) (said : (x : Pair) → Claimed x → T (claim x)) where
+  is-needed : (x : Broken) → T (needed claim x) → Needed Claimed x
+  is-needed x u = go (readTree (length (x .pair .first)) (x .pair .tape)) refl (and-l read rest u)
+    where
+      f : Tree → Bool
+      f = allHold (λ c. eqb (number c) (number (x .without))) (x .pair .first) (x .pair .second) conditions
 
-    read : Bool
-    read = ofTree f (readTree (length (x .pair .first)) (x .pair .tape))
+      read : Bool
+      read = ofTree f (readTree (length (x .pair .first)) (x .pair .tape))
 
-    go : (r : Read Tree) → readTree (length (x .pair .first)) (x .pair .tape) ≡ r → T (ofTree f r) → Needed x
-    go (refused y p) e v = absurd v
-    go (got t p) e v =
-        record {
-          tree = t;
-          place = p;
-          read = e;
-          passes = and-l (bothPass (x .pair)) (not (claimed (x .pair))) (and-r read (bothPass (x .pair) && not (claimed (x .pair))) u);
-          others =
-              λ c ne.
-              all-asked (λ d. eqb (number d) (number (x .without))) (x .pair .first) (x .pair .second) t v c (ne-eqb (number c) (number (x .without)) ne);
-          broken =
-              λ k.
-              T-not (claimed (x .pair)) (and-r (bothPass (x .pair)) (not (claimed (x .pair))) (and-r read (bothPass (x .pair) && not (claimed (x .pair))) u))
-              (says (x .pair .first) (x .pair .second) (outcome original 4 1 (x .pair .first) (x .pair .tape)) (outcome original 4 1 (x .pair .second) (x .pair .tape)) space k);
-        }
+      unclaimed : Bool
+      unclaimed = not (claim (x .pair))
 
-are-needed : (xs : List Broken) → T (allNeeded xs) → EachNeeded xs
-are-needed [] u = tt
-are-needed (x ∷ xs) u = (is-needed x (and-l (needed x) (allNeeded xs) u), are-needed xs (and-r (needed x) (allNeeded xs) u))
+      rest : Bool
+      rest = bothPass (x .pair) && unclaimed
 
-pub each-needed : EachNeeded pairs
-each-needed = are-needed pairs (tables .conditions)
+      go : (r : Read Tree) → readTree (length (x .pair .first)) (x .pair .tape) ≡ r → T (ofTree f r) → Needed Claimed x
+      go (refused y p) e v = absurd v
+      go (got t p) e v =
+          record {
+            tree = t;
+            place = p;
+            read = e;
+            passes = and-l (bothPass (x .pair)) unclaimed (and-r read rest u);
+            others =
+                λ c ne.
+                all-asked (λ d. eqb (number d) (number (x .without))) (x .pair .first) (x .pair .second) t v c (ne-eqb (number c) (number (x .without)) ne);
+            broken = λ k. T-not (claim (x .pair)) (and-r (bothPass (x .pair)) unclaimed (and-r read rest u)) (said (x .pair) k);
+          }
+
+  are-needed : (xs : List Broken) → T (allNeeded claim xs) → EachNeeded Claimed xs
+  are-needed [] u = tt
+  are-needed (x ∷ xs) u = (is-needed x (and-l (needed claim x) (allNeeded claim xs) u), are-needed xs (and-r (needed claim x) (allNeeded claim xs) u))
+
+pub each-needed : EachNeeded Claim pairs
+each-needed =
+    are-needed claimed Claim
+    (λ x k. says (x .first) (x .second) (outcome original 4 1 (x .first) (x .tape)) (outcome original 4 1 (x .second) (x .tape)) space k)
+    pairs (tables .conditions)
+
+-- and for the maps
+pub each-needed-for-maps : EachNeeded MapClaim mapPairs
+each-needed-for-maps =
+    are-needed mapClaimed MapClaim (λ x k. subst (λ (ns : List ℕ). T (same (mapOf (x .first) (x .tape)) ns)) k (rw (same-self (mapOf (x .first) (x .tape))) tt)) mapPairs (tables .mapConditions)

@@ -13,7 +13,7 @@ use Rattle.utf8.specs.WhiteSpace.{isWhiteSpace}
 use Rattle.utf8.specs.Trim.{trim}
 use Rattle.utf8.specs.Trimming.{trimmed, trimmedLength, isWhiteByte}
 use Rattle.tape.specs.Kinds.{kinds, notCarried}
-use Rattle.tape.specs.Tree.{hasChild, countListItems, copied}
+use Rattle.tape.specs.Tree.{tokens, hasChild, countListItems, copied}
 use Rattle.tape.specs.Tape.{headAt, commandAt, checkOpen, checkToken, checkedAt, readChildren, readTape, readTree}
 use Rattle.tape.specs.Call.{readInput, readCall}
 use Rattle.tape.specs.ReadingInputs.{smallInputs}
@@ -24,19 +24,26 @@ use Rattle.layout.specs.FormatNode.{armsOf, routines, routineOf, formatN
 use Rattle.layout.specs.Calls.{formatErrorVerbatim, walk, calls}
 use Rattle.layout.specs.Layout.{doSpacing, step, pieces, written, original, piecesOf, format}
 use Rattle.layout.specs.Outcome.{outcome, laidOut}
+use Rattle.layout.specs.Lines.{spotAfter}
+use Rattle.layout.specs.TokenMap.{seatAfter, writtenAt, places, placesFrom, tokenMap}
+use Rattle.layout.specs.MapCall.{numbers, mapped}
+use Rattle.layout.specs.MapInputs.{allRightlyMapped, mapCalls}
 use Rattle.layout.specs.CourseSheet.{courseSheet, allRight}
 use Rattle.layout.specs.CallInputs.{allBothAnswer, allAnswered, smallLayouts}
-use Rattle.layout.specs.MaskingNeeds.{pairs, allNeeded, masked, meets, maskedForLayout, meetsForLayout, maskedLayouts, refusedByFour, refusedByFifteen, passNeeded}
+use Rattle.layout.specs.MaskingNeeds.{claimed, mapClaimed, pairs, mapPairs, allNeeded, masked, meets, maskedForLayout, meetsForLayout, maskedLayouts, maskedMaps, refusedByFour, refusedByFifteen, passNeeded}
 
 pub record Tables : Type 0 where
   pub sheet : T (allRight courseSheet)
   pub refusals : T (allBothAnswer smallInputs)
   pub layouts : T (allAnswered smallLayouts)
-  pub conditions : T (allNeeded pairs)
+  pub maps : T (allRightlyMapped mapCalls)
+  pub conditions : T (allNeeded claimed pairs)
+  pub mapConditions : T (allNeeded mapClaimed mapPairs)
   pub met : T (meets masked && meetsForLayout maskedForLayout)
-  pub masked : T maskedLayouts
-  pub passes : T (passNeeded refusedByFour && passNeeded refusedByFifteen)
+  pub masked : T (maskedLayouts && maskedMaps)
+  pub passes : T (passNeeded claimed refusedByFour && passNeeded claimed refusedByFifteen)
+  pub mapPasses : T (passNeeded mapClaimed refusedByFour && passNeeded mapClaimed refusedByFifteen)
 
 pub tables : Tables
-unfolding names words same listed isTrailing isWhiteSpace isWhiteByte trimmed trimEnd toUppercase toLowercase tokenText trim trimmedLength writeNewline lead writeToken writeKeyword writeSpace noteSkippedWhitespace takePendingNewline takePendingBlankLine indent dedent writeRaw finish kinds notCarried hasChild countListItems copied headAt commandAt checkOpen checkToken checkedAt readChildren readTape readTree holds characterLength cut firstIllFormed readInput readCall seen noSpaceBefore noSpaceAfter isLineComment emitComment emitToken emitOther isOperator fileToken formatFile queryListToken formatQueryList selectStatementToken formatSelectStatement selectClauseToken formatSelectClause simpleClauseToken formatSimpleClause multiItem listClauseToken listClauseNode listClauseArms formatListClause joinClauseToken formatJoinClause formatSettingsClause formatWithClause commaListToken formatCommaList inlineCommaListToken formatInlineCommaList binaryToken formatBinaryExpression unaryToken formatUnaryExpression functionCallToken formatFunctionCall caseWord caseToken formatCaseExpression whenWord whenToken formatWhenClause subqueryToken formatSubquery parenListToken formatParenList bracketListToken formatBracketList braceListToken formatBraceList dataTypeToken formatDataType spaceAfter inlineNode nameBefore inlineTightParensToken formatInlineTightParens inlineToken formatInline formatInlineNoSpaces passthroughToken formatPassthrough alterCommandListToken formatAlterCommandList unionToken formatUnionClause armsOf routines routineOf formatNode formatErrorVerbatim walk calls doSpacing step pieces written original piecesOf format outcome laidOut courseSheet smallLayouts pairs masked maskedForLayout refusedByFour refusedByFifteen
-tables = record { sheet = tt; refusals = tt; layouts = tt; conditions = tt; met = tt; masked = tt; passes = tt }
+unfolding spotAfter tokens seatAfter writtenAt places placesFrom tokenMap numbers mapped mapCalls mapPairs names words same listed isTrailing isWhiteSpace isWhiteByte trimmed trimEnd toUppercase toLowercase tokenText trim trimmedLength writeNewline lead writeToken writeKeyword writeSpace noteSkippedWhitespace takePendingNewline takePendingBlankLine indent dedent writeRaw finish kinds notCarried hasChild countListItems copied headAt commandAt checkOpen checkToken checkedAt readChildren readTape readTree holds characterLength cut firstIllFormed readInput readCall seen noSpaceBefore noSpaceAfter isLineComment emitComment emitToken emitOther isOperator fileToken formatFile queryListToken formatQueryList selectStatementToken formatSelectStatement selectClauseToken formatSelectClause simpleClauseToken formatSimpleClause multiItem listClauseToken listClauseNode listClauseArms formatListClause joinClauseToken formatJoinClause formatSettingsClause formatWithClause commaListToken formatCommaList inlineCommaListToken formatInlineCommaList binaryToken formatBinaryExpression unaryToken formatUnaryExpression functionCallToken formatFunctionCall caseWord caseToken formatCaseExpression whenWord whenToken formatWhenClause subqueryToken formatSubquery parenListToken formatParenList bracketListToken formatBracketList braceListToken formatBraceList dataTypeToken formatDataType spaceAfter inlineNode nameBefore inlineTightParensToken formatInlineTightParens inlineToken formatInline formatInlineNoSpaces passthroughToken formatPassthrough alterCommandListToken formatAlterCommandList unionToken formatUnionClause armsOf routines routineOf formatNode formatErrorVerbatim walk calls doSpacing step pieces written original piecesOf format outcome laidOut courseSheet smallLayouts pairs masked maskedForLayout refusedByFour refusedByFifteen
+tables = record { sheet = tt; refusals = tt; layouts = tt; maps = tt; conditions = tt; mapConditions = tt; met = tt; masked = tt; passes = tt; mapPasses = tt }

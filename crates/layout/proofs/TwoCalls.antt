@@ -5,8 +5,8 @@ use mathlib.Core.Bool.{Bool, true, false}
 use mathlib.Core.List.{List, [], _∷_, _++_}
 use lib.ListN.{length, drop}
 use lib.Dec.{leb}
-use Rattle.context.specs.Cells.{Text, Origin, made, from, Cell, bytesOf, fixed}
-use Rattle.context.specs.Alike.{LinesAgree, Like}
+use Rattle.context.specs.Cells.{Text, Cell, bytesOf, fixed}
+use Rattle.context.specs.Alike.{Like}
 use Rattle.context.proofs.Bytes.{bytes-append, bytes-fixed}
 use Rattle.context.proofs.AlikeWrites.{like-self, like-append, like-length}
 use Rattle.tape.specs.Tree.{Tree}
@@ -16,10 +16,10 @@ use Rattle.tape.proofs.Trees.{tokens-fit}
 use Rattle.tape.proofs.Acceptance.{accepted-call, same-reading}
 use Rattle.layout.specs.Layout.{Version, original, format}
 use Rattle.layout.specs.Outcome.{Outcome, refusal, laid, ofRead, configOf, outcome, fitted, laidOut}
-use Rattle.layout.specs.Masking.{MaskedPair, MaskedPairForLayout, fittedCells, cellsAfter, SameLines, Alike, AlikeByLines}
+use Rattle.layout.specs.Masking.{MaskedForLayout, MaskedPair, MaskedPairForLayout, fittedCells, cellsAfter, SameLines, Alike, AlikeByLines}
 use Rattle.layout.specs.SpanStarts.{SpansStart}
 use Rattle.layout.proofs.PieceStarts.{spans-start}
-use Rattle.layout.proofs.MaskedLayouts.{KeepsAlike, original-keeps-alike, masking, masked-for-layout, masked-lines}
+use Rattle.layout.proofs.MaskedLayouts.{TokenSpans, KeepsAlike, original-keeps-alike, masking, masked-for-layout, masked-lines, lines-agree}
 
 -- the cells after a call are the space after it
 pub cells-after : (x : Outcome) (space : List ℕ) → bytesOf (cellsAfter x space) ≡ (laidOut x space) .space
@@ -35,27 +35,23 @@ cells-after (laid cs) space = go (leb (length cs) (length space))
 
 module _ (a b : Text) where
   -- line for line: where newlines stand at the same places of both texts, they do in both outputs
-  like-lines : SameLines a b → (X Y : List Cell) → Like a b X Y → SameLines (bytesOf X) (bytesOf Y)
+  pub like-lines : SameLines a b → (X Y : List Cell) → Like a b X Y → SameLines (bytesOf X) (bytesOf Y)
   like-lines w [] [] h i = refl
   like-lines w [] (y ∷ ys) h i = absurd h
   like-lines w (x ∷ xs) [] h i = absurd h
-  like-lines w (x ∷ xs) (y ∷ ys) h zero = h .0 .lines (at (x .origin))
-    where
-      at : (o : Origin) → LinesAgree a b o
-      at made = tt
-      at (from p) = w p
+  like-lines w (x ∷ xs) (y ∷ ys) h zero = h .0 .lines (lines-agree a b w (x .origin))
   like-lines w (x ∷ xs) (y ∷ ys) h (suc i) = like-lines w xs ys (h .1) i
 
   -- ── two outcomes
 
   -- refused alike, or laid out alike
-  abbrev OutcomesLike : Outcome → Outcome → Type 0
+  abbrev pub OutcomesLike : Outcome → Outcome → Type 0
   OutcomesLike (refusal f p) (refusal g q) = (f ≡ g) × (p ≡ q)
   OutcomesLike (refusal f p) (laid ds) = ⊥
   OutcomesLike (laid cs) (refusal g q) = ⊥
   OutcomesLike (laid cs) (laid ds) = Like a b cs ds
 
-  alike : (x y : Outcome) → OutcomesLike x y → (space : List ℕ) → Alike a b x y space
+  pub alike : (x y : Outcome) → OutcomesLike x y → (space : List ℕ) → Alike a b x y space
   unfolding laidOut
   alike (refusal f p) (refusal g q) h space =
       record { answers = rw (h .0, h .1); spaces = like-self a b (fixed space); lines = λ w i. refl }
@@ -89,23 +85,33 @@ got-same e = cc
 
 module _ (width case : ℕ) (a b : Text) (tape : List ℕ) where
   module _ (m : MaskedPairForLayout width case a b tape) where
-    outcomes-like : (v : Version) → KeepsAlike a b (m .sameLength) v → OutcomesLike a b (outcome v width case a tape) (outcome v width case b tape)
+    pub reading : readCall width case a tape ≡ readCall width case b tape
+    reading = same-reading width case a b tape (m .sameLength) (m .passA) (m .passB)
+
+    -- what is known of the tree that both calls read
+    pub read-both : (t : Tree) (p : ℕ) → readCall width case a tape ≡ got t p → TokenSpans (length a) (t .kids) × SpansStart a t × SpansStart b t × MaskedForLayout a b t
+    read-both t p e =
+        let k = accepted-call width case a tape (ap verdict e) in
+        let j = accepted-call width case b tape (ap verdict (sym reading ∙ e)) in
+        let same : k .accepted .tree ≡ t = got-same (sym (k .read) ∙ e) in
+        let other : j .accepted .tree ≡ t = got-same (sym (j .read) ∙ sym reading ∙ e) in
+        let spans = tokens-fit (length a) tape 11 (k .accepted .tree .kids) (k .accepted .kids) in (
+          subst (λ (u : Tree). TokenSpans (length a) (u .kids)) same spans,
+          subst (SpansStart a) same (spans-start k),
+          subst (SpansStart b) other (spans-start j),
+          m .rule t p e,
+        )
+
+    pub outcomes-like : (v : Version) → KeepsAlike a b (m .sameLength) v → OutcomesLike a b (outcome v width case a tape) (outcome v width case b tape)
     unfolding outcome
-    outcomes-like v keeps =
-        rw (← (same-reading width case a b tape (m .sameLength) (m .passA) (m .passB))) (go (readCall width case a tape) refl)
+    outcomes-like v keeps = rw (← reading) (go (readCall width case a tape) refl)
       where
         go : (r : Read Tree) → readCall width case a tape ≡ r
             → OutcomesLike a b (ofRead r (format v (configOf width case) a)) (ofRead r (format v (configOf width case) b))
         go (refused f p) e = (refl, refl)
         go (got t p) e =
-            let k = accepted-call width case a tape (ap verdict e) in
-            let u = k .accepted .tree in
-            let same : u ≡ t = got-same (sym (k .read) ∙ e) in
-            let spans = tokens-fit (length a) tape 11 (u .kids) (k .accepted .kids) in
-            let j = accepted-call width case b tape (ap verdict (sym (same-reading width case a b tape (m .sameLength) (m .passA) (m .passB)) ∙ e)) in
-            let other : j .accepted .tree ≡ u = got-same (sym (j .read) ∙ sym (same-reading width case a b tape (m .sameLength) (m .passA) (m .passB)) ∙ k .read) in
-            let l = masking a b (m .sameLength) v keeps (configOf width case) u spans (spans-start k) (subst (SpansStart b) other (spans-start j)) (m .rule u (length tape) (k .read)) in
-            subst (λ (x : Tree). Like a b (format v (configOf width case) a x) (format v (configOf width case) b x)) same l
+            let k = read-both t p e in
+            masking a b (m .sameLength) t (k .0) (k .1) (k .2) (k .3) v keeps (configOf width case)
 
     pub masking-rule : (v : Version) → KeepsAlike a b (m .sameLength) v → (space : List ℕ)
         → Alike a b (outcome v width case a tape) (outcome v width case b tape) space
@@ -131,5 +137,5 @@ module _ (width case : ℕ) (a b : Text) (tape : List ℕ) where
 
       go : (r : Read Tree) → readCall width case a tape ≡ r
           → SameLines ((laidOut (outcome original width case a tape) space) .space) ((laidOut (outcome original width case b tape) space) .space)
-      go (refused f p) e = λ i. rw (← (same-reading width case a b tape (m .sameLength) (m .passA) (m .passB)), e) refl
+      go (refused f p) e = λ i. rw (← (reading (pair-for-layout m)), e) refl
       go (got t p) e = k .lines (masked-lines a b t (m .rule t p e))

@@ -7,10 +7,14 @@ pub mod Calls
 pub mod Layout
 pub mod Run
 pub mod Outcome
+pub mod Lines
+pub mod TokenMap
 pub mod CourseSheet
 pub mod CallInputs
 pub mod Origins
 pub mod Masking
+pub mod MapCall
+pub mod MapInputs
 pub mod SpanStarts
 pub mod MaskingTests
 pub mod MaskingNeeds

@@ -2,6 +2,7 @@
 use book::Tally;
 use book::report_from;
 use formatter::layout;
+use formatter::layout_map;
 use keywords::Word;
 use keywords::word_of;
 use layout::Answer;
@@ -10,6 +11,7 @@ ghost use lib.Dec.{ltb};
 ghost use Rattle.book.specs.Report.{Called, reported};
 ghost use Rattle.keywords.specs.Words.{wordOf};
 ghost use Rattle.layout.specs.Layout.{original};
+ghost use Rattle.layout.specs.MapCall.{Mapped, mapped};
 ghost use Rattle.layout.specs.Outcome.{Result, laidOut, outcome};
 ghost use Rattle.qdesk.specs.TallyNumbers.{tallyOf};
 ghost use Rattle.qdesk.specs.WordAnswer.{wordAnswer};
@@ -25,6 +27,20 @@ pub extern "C" fn qdesk_layout(
     ensures { λ r. ⌜ _≡_ {A = Result} (record { answer = r; space = now (out .exit) }) (laidOut (outcome original width case (now (text .entry)) (now (tape .entry))) (now (out .entry))) ⌝ }
 {
     layout(text, tape, width, case, out)
+}
+
+#[no_mangle]
+pub extern "C" fn qdesk_layout_map(
+    text: &[u8],
+    tape: &[u8],
+    width: u64,
+    case: u64,
+    out: &mut [u8],
+    map: &mut [u64],
+) -> Answer
+    ensures { λ r. ⌜ _≡_ {A = Mapped} (record { answer = r; space = now (out .exit); map = now (map .exit) }) (mapped width case (now (text .entry)) (now (tape .entry)) (now (out .entry)) (now (map .entry))) ⌝ }
+{
+    layout_map(text, tape, width, case, out, map)
 }
 
 #[no_mangle]

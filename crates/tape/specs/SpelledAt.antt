@@ -8,8 +8,9 @@ use Rattle.basics.specs.Bytes.{tokenText}
 use Rattle.utf8.specs.Table.{isAscii}
 use Rattle.utf8.specs.Pieces.{WellFormed, Boundary}
 use Rattle.tape.specs.declared.Head.{Head}
+use Rattle.tape.specs.declared.Passed.{Passed}
 use Rattle.tape.specs.Kinds.{notCarried, BareWord}
-use Rattle.tape.specs.Tree.{Children, done, token, node, Tree, size, height, EachToken, EachNode}
+use Rattle.tape.specs.Tree.{Children, done, token, node, Tree, size, height, tokens, EachToken, EachNode}
 use Rattle.tape.specs.Tape.{headAt, got, readTree}
 use Rattle.tape.specs.Call.{readCall}
 
@@ -85,8 +86,9 @@ pub record NodeAt (tape : List ℕ) (p : ℕ) : Type 0 where
   pub inside : p + 11 ≤ length tape
   pub spelled : SpelledAt len tape (p + 11) kids
 
--- r is the place after the close of the node that opens at p
-pub record Skipped (tape : List ℕ) (p r : ℕ) : Type 0 where
-  pub forward : p < r
-  pub inside : r ≤ length tape
-  pub past : (len : ℕ) (kids : Children) → SpelledAt len tape (p + 11) kids → r ≡ p + 11 + size kids
+-- r is the place after the close of the node that opens at p, and the number of its tokens, those below its nodes too
+pub record Skipped (tape : List ℕ) (p : ℕ) (r : Passed) : Type 0 where
+  pub forward : p < r .at
+  pub inside : r .at ≤ length tape
+  pub past : (len : ℕ) (kids : Children) → SpelledAt len tape (p + 11) kids → r .at ≡ p + 11 + size kids
+  pub counted : (len : ℕ) (kids : Children) → SpelledAt len tape (p + 11) kids → r .tokens ≡ length (tokens kids)

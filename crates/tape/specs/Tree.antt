@@ -1,6 +1,7 @@
 -- The syntax tree: the children of a node, first to last, and a root; what the routines look ahead for.
 use Prim.Native.Nat.{ℕ, suc, _+_, max}
 use mathlib.Core.Bool.{Bool, false, not, _&&_, _||_}
+use mathlib.Core.List.{List, [], _∷_, _++_}
 use lib.Dec.{eqb, ltb}
 use Rattle.tape.specs.declared.Head.{Head}
 use Rattle.tape.specs.Kinds.{Error, QueryList}
@@ -26,6 +27,12 @@ unfoldable pub height : Children → ℕ
 height done = 0
 height (token h rest) = height rest
 height (node h kids rest) = max (suc (height kids)) (height rest)
+
+-- the tokens in order, those below the nodes too
+unfoldable pub tokens : Children → List Head
+tokens done = []
+tokens (token h rest) = h ∷ tokens rest
+tokens (node h kids rest) = tokens kids ++ tokens rest
 
 -- some direct child is a node of the kind
 unfoldable pub hasChild : ℕ → Children → Bool

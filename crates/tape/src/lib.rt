@@ -13,6 +13,12 @@ pub struct Head {
     pub at: usize,
 }
 
+// What `skip` passes over: `at` is the place after it, `tokens` how many tokens are in it.
+pub struct Passed {
+    pub at: usize,
+    pub tokens: usize,
+}
+
 // What a refusal is for: 1 to 12 in this order, then 15 and 16.
 pub enum Fault {
     IndentWidth,

@@ -3,14 +3,14 @@
 pub mod map;
 pub mod report;
 
-use crate::{layout, word};
+use crate::{layout, layout_map, word};
 use oracle::answers::{accepted_tree, answer, formatted, Answer, Answered, Case};
 use oracle::cases::{make, Class, Made};
 use oracle::masking::{claim, Pair};
 use oracle::words;
 
 /// The classes whose cases are calls that the library has, or books for it.
-pub const CLASSES: [Class; 16] = [
+pub const CLASSES: [Class; 20] = [
     Class::Parser,
     Class::Wild,
     Class::Damaged,
@@ -23,6 +23,10 @@ pub const CLASSES: [Class; 16] = [
     Class::Utf8Masked,
     Class::Utf8Limits,
     Class::Words,
+    Class::Map,
+    Class::MapDamaged,
+    Class::MapMasked,
+    Class::MapLimits,
     Class::Books,
     Class::BooksDamaged,
     Class::BooksMasked,
@@ -43,7 +47,8 @@ pub fn compare(seed: u64, class: Class, index: u64) -> Result<(), String> {
         Made::Pair(pair) => masked(&pair),
         Made::Word(bytes) => same_word(&bytes),
         Made::Job(_) => panic!("a job is no call"),
-        Made::MapCall(_) | Made::MapPair(_) => panic!("the library has no map call yet"),
+        Made::MapCall(case) => map::call(&case, &layout_map),
+        Made::MapPair(pair) => map::masked(&pair, &layout_map),
         Made::Book(_) | Made::BookPair(_) => panic!("a book is no call"),
     }
     .map_err(differs)

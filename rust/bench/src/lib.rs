@@ -3,6 +3,7 @@
 pub mod compare;
 pub mod corpora;
 pub mod rounds;
+pub mod search;
 
 /// Whether the library was at hand when this crate was built.
 pub const AT_HAND: bool = cfg!(has_library);
@@ -24,6 +25,11 @@ mod present {
     /// The port's laying out.
     pub fn layout(text: &[u8], tape: &[u8], width: u64, case: u64, out: &mut [u8]) -> Answer {
         answer(library::layout(text, tape, width, case, out))
+    }
+
+    /// The port's laying out with a map.
+    pub fn layout_map(text: &[u8], tape: &[u8], width: u64, case: u64, out: &mut [u8], map: &mut [u64]) -> Answer {
+        answer(library::layout_map(text, tape, width, case, out, map))
     }
 
     /// What the port says of a word.
@@ -52,6 +58,10 @@ mod absent {
     use oracle::job::BUFFER;
 
     pub fn layout(_text: &[u8], _tape: &[u8], _width: u64, _case: u64, _out: &mut [u8]) -> Answer {
+        panic!("{HINT}")
+    }
+
+    pub fn layout_map(_: &[u8], _: &[u8], _width: u64, _case: u64, _out: &mut [u8], _map: &mut [u64]) -> Answer {
         panic!("{HINT}")
     }
 

@@ -4,10 +4,11 @@ use command_line::rules;
 
 const COMPARE: &str = env!("CARGO_BIN_EXE_compare");
 const FORMAT: &str = env!("CARGO_BIN_EXE_format");
-const PROGRAMS: [(&str, &str); 5] = [
+const PROGRAMS: [(&str, &str); 6] = [
     (COMPARE, "compare"),
     (FORMAT, "format"),
     (env!("CARGO_BIN_EXE_keywords"), "keywords"),
+    (env!("CARGO_BIN_EXE_map"), "map"),
     (env!("CARGO_BIN_EXE_reports"), "reports"),
     (env!("CARGO_BIN_EXE_stack"), "stack"),
 ];
@@ -52,6 +53,7 @@ fn as_many_cases_are_compared_as_the_call_says() {
     }
     assert_eq!(compared(&["1", "3", "limits"]), "Limits: 3 cases agree\n");
     assert_eq!(compared(&["1", "3", "words"]), "Words: 3 cases agree\n");
+    assert_eq!(compared(&["1", "3", "map-masked"]), "MapMasked: 3 cases agree\n");
     assert_eq!(compared(&["1", "2", "utf8-limits", "small"]), "Utf8Limits: 2 cases agree\nSmall: 2 cases agree\n");
     let all = compared(&["1", "2"]);
     assert_eq!(all.lines().count(), bench::compare::CLASSES.len());

@@ -190,7 +190,7 @@ fn the_program_prints_a_row_and_runs_a_side_once() {
     let printed = String::from_utf8(table.stdout).expect("ASCII");
     assert!(printed.starts_with("seed 2, 1 rounds"), "{printed}");
     assert!(printed.lines().last().is_some_and(|row| row.starts_with("wide-50 ")), "{printed}");
-    for side in ["ready-tree", "from-tape", "layout", "no-space"] {
+    for side in ["ready-tree", "from-tape", "layout", "no-space", "map"] {
         let once = format(&["--once", side, "wide-50"]);
         assert_eq!(String::from_utf8_lossy(&once.stdout), "150 tokens, 2298 tape bytes\n", "{side}");
     }

@@ -1,5 +1,5 @@
-//! The comparison of a map call with the oracle: it finds nothing where the oracle itself stands in for the call, and each of many faults.
-//! Needs the source alone, not the library.
+//! The comparison of a map call with the oracle finds nothing where the oracle itself stands in for the call, and each of many faults; the
+//! stored list shows each, too. Needs the source alone, not the library.
 
 mod faults;
 
@@ -8,9 +8,12 @@ use faults::Fault;
 use oracle::answers::{Answer, Case};
 use oracle::cases::Class;
 use oracle::map::{answer, MapCase, Mapped};
+use oracle::stored::maps::{read, MapRecord};
 use std::cell::Cell;
 
 const SEED: u64 = 24;
+
+const LIST: &[u8] = include_bytes!("../../../vectors/maps.bin");
 
 /// The oracle as a call, with a change of what it gives.
 fn stand_in(change: impl Fn(&MapCase, &mut Mapped)) -> impl MapCall {
@@ -24,40 +27,6 @@ fn stand_in(change: impl Fn(&MapCase, &mut Mapped)) -> impl MapCall {
         given.answer
     }
 }
-
-// Without a fault
-
-fn agrees(test: &str, class: Class, count: u64) {
-    if !oracle::source::at_hand_for(test) {
-        return;
-    }
-    let port = stand_in(|_, _| {});
-    for index in 0..count {
-        compare(SEED, class, index, &port).unwrap_or_else(|difference| panic!("{difference}"));
-    }
-}
-
-#[test]
-fn good_calls() {
-    agrees("good_calls", Class::Map, 30_000);
-}
-
-#[test]
-fn damaged_calls() {
-    agrees("damaged_calls", Class::MapDamaged, 20_000);
-}
-
-#[test]
-fn masked_pairs() {
-    agrees("masked_pairs", Class::MapMasked, 1_000);
-}
-
-#[test]
-fn limits() {
-    agrees("limits", Class::MapLimits, 72);
-}
-
-// With a fault
 
 /// How many cases of each class every fault is tried on; of the limits those that are short.
 const TRIED: [u64; CLASSES.len()] = [700, 100, 20, 16];
@@ -87,6 +56,29 @@ fn assert_reported(faults: &[(&str, Fault)]) {
     for (name, fault) in faults {
         let count = reported(name, fault);
         assert!(count >= 50, "{name}: {count} cases are too few");
+    }
+}
+
+/// The records of the stored list for which a call with the fault gives something else.
+fn stored(records: &[MapRecord], fault: &Fault) -> usize {
+    let shows = |record: &&MapRecord| {
+        let mut given = record.mapped();
+        fault.change(&record.case(), &mut given);
+        given != record.mapped()
+    };
+    records.iter().filter(shows).count()
+}
+
+#[test]
+fn the_stored_list_shows_every_fault() {
+    if !oracle::source::at_hand_for("the_stored_list_shows_every_fault") {
+        return;
+    }
+    let records = read(LIST).expect("a whole list");
+    assert_eq!(stored(&records, &faults::NONE), 0);
+    for (name, fault) in faults::MAPS.iter().chain(&faults::ANSWERS).chain(&faults::SPACES) {
+        let count = stored(&records, fault);
+        assert!(count >= 3, "{name}: {count} records are too few");
     }
 }
 

@@ -72,6 +72,22 @@ impl Job {
         let mut bytes = vec![WIDTH, self.width, CASE, self.case, TEXT];
         bytes.extend((self.text.len() as u32).to_le_bytes());
         bytes.extend(&self.text);
+        bytes.extend(self.tape());
+        bytes
+    }
+
+    /// Width and case.
+    pub fn settings(&self) -> (u8, u8) {
+        (self.width, self.case)
+    }
+
+    pub fn text(&self) -> &[u8] {
+        &self.text
+    }
+
+    /// The tape's bytes.
+    pub fn tape(&self) -> Vec<u8> {
+        let mut bytes = Vec::new();
         self.tape.iter().for_each(|command| command.write(&mut bytes));
         bytes.extend(&self.rest);
         bytes

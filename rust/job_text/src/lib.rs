@@ -12,6 +12,7 @@ mod visible;
 
 pub use job::{HeaderFault, Job};
 pub use line::Fault;
+pub use quote::quoted;
 
 use std::io::{self, Write};
 

@@ -20,6 +20,7 @@ const USAGE: &str = "usage: oracle case SEED CLASS INDEX            prints a cas
        oracle report < FILE                    reports on a book as the report program does
        oracle map < FILE                       prints the job's call with line and column of each token
        oracle stored < FILE                    writes the stored list of the calls that FILE names, a line each
+       oracle stored-maps                      writes the stored list of map calls
        oracle words                            prints the stored list of words
        oracle source                           says whether the source is at hand, which all of these need
        oracle --help, oracle --version
@@ -39,6 +40,7 @@ fn run(arguments: &[&str]) -> Result<Vec<u8>, String> {
         ["report"] => report_book(),
         ["map"] => map_job().map(String::into_bytes),
         ["stored"] => stored_list(),
+        ["stored-maps"] => stored_maps(),
         ["case", seed, class, index] => print_case(seed, class, index).map(String::into_bytes),
         ["vectors", seed, class, first, count] => print_vectors(seed, class, first, count).map(String::into_bytes),
         ["arms"] => print_arms().map(String::into_bytes),
@@ -84,6 +86,11 @@ fn stored_list() -> Result<Vec<u8>, String> {
     let lines = io::read_to_string(io::stdin()).map_err(|error| format!("the names cannot be read: {error}"))?;
     let records: Result<Vec<Record>, String> = lines.lines().map(|line| names::call(line).map(Record::of)).collect();
     stored::write(&records?)
+}
+
+fn stored_maps() -> Result<Vec<u8>, String> {
+    source_at_hand()?;
+    Ok(stored::maps::write(&stored::maps::every()).expect("records that suit the list"))
 }
 
 fn number(text: &str) -> Result<u64, String> {

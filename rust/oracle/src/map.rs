@@ -54,10 +54,16 @@ pub struct Layout {
 impl Layout {
     /// By the source, and by the recorder's walk of the same routines, which must give the same bytes.
     pub fn of(text: &str, root: &Node, call: &Case) -> Layout {
-        let (width, upper) = (usize::try_from(call.width).expect("1 was tried"), call.case == 1);
-        let output = source::format(root, width, upper, text);
-        let (recorded, starts) = source::recorded(root, width, upper, text);
-        assert_eq!(recorded, output, "the recorder's layout is not the source's");
+        let recorded = Layout::recorded(text, root, call);
+        let output = source::format(root, call.width as usize, call.case == 1, text);
+        assert_eq!(recorded.output, output, "the recorder's layout is not the source's");
+        recorded
+    }
+
+    /// By the recorder's walk alone.
+    pub fn recorded(text: &str, root: &Node, call: &Case) -> Layout {
+        let width = usize::try_from(call.width).expect("1 was tried");
+        let (output, starts) = source::recorded(root, width, call.case == 1, text);
         let places = tokens(root).iter().zip(starts).map(|(token, start)| place(token, start, &output)).collect();
         Layout { output, places }
     }

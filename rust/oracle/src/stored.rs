@@ -1,6 +1,7 @@
 //! The stored list of calls and their answers: its bytes, written and read. vectors/README.md describes them.
 
 pub mod by_hand;
+pub mod maps;
 pub mod names;
 pub mod words;
 

@@ -8,8 +8,9 @@ use std::fmt;
 /// The refusals, each with its number.
 ///
 /// 1 to 5 are tried in that order. Then the tape is read from its start, and the first faulty command decides; within one, the order is
-/// 6, 7, 12, 8, 9, 10, 15, 16, 11. 13 comes last. 14 is the desk's program's own. 18 and 19 refuse a book: first its length is tried, then its
-/// commands from the start, before any job is answered; the first faulty one decides, and there 18 comes before 19.
+/// 6, 7, 12, 8, 9, 10, 15, 16, 11. 13 comes last, and 17 of a map call after it. 14 is the desk's program's own. 18 and 19 refuse a book: first
+/// its length is tried, then its commands from the start, before any job is answered; the first faulty one decides, and there 18 comes
+/// before 19.
 #[derive(Clone, Copy, Debug, PartialEq, Eq)]
 #[non_exhaustive]
 pub enum Refusal {
@@ -44,6 +45,8 @@ pub enum Refusal {
     SpanInsideCharacter = 15,
     /// A token of kind `BareWord` holds a byte above 127.
     WordNotAscii = 16,
+    /// The map space is below two numbers per token. In place of a place stands the count of numbers needed.
+    MapTooShort = 17,
     /// A command of a book is wrong or cut short; or the book is longer than [`MOST_BOOK`](crate::MOST_BOOK), and the place is 65536.
     BookCommand = 18,
     /// A 257th job.
@@ -68,6 +71,7 @@ impl Refusal {
         Refusal::SpaceTooShort,
         Refusal::SpanInsideCharacter,
         Refusal::WordNotAscii,
+        Refusal::MapTooShort,
         Refusal::BookCommand,
         Refusal::TooManyJobs,
     ];
@@ -89,6 +93,7 @@ impl Refusal {
             Refusal::SpaceTooShort => "output space too short",
             Refusal::SpanInsideCharacter => "token or node starts or ends inside a character",
             Refusal::WordNotAscii => "bare word with a byte above 127",
+            Refusal::MapTooShort => "map space too short",
             Refusal::BookCommand => "book command wrong or cut short, or book longer than 65,536 bytes",
             Refusal::TooManyJobs => "257th job",
         }
@@ -130,7 +135,7 @@ impl Error {
         self.refusal
     }
 
-    /// The refusal's number: 1 to 13, 15, 16, 18 or 19.
+    /// The refusal's number: 1 to 13 or 15 to 19.
     pub fn number(self) -> u64 {
         self.refusal as u64
     }
@@ -145,7 +150,7 @@ impl Error {
     }
 
     /// An offset in the text for 4, the faulty command's offset in the tape for 6 to 12, 15 and 16, in the book for 18 and 19, the needed
-    /// length for 13, else 0.
+    /// length for 13, the count of numbers needed for 17, else 0.
     pub fn place(self) -> u64 {
         self.place
     }
@@ -158,6 +163,7 @@ impl fmt::Display for Error {
             4 => write!(f, " at text offset {}", self.place),
             6..=12 | 15 | 16 => write!(f, " at tape offset {}", self.place),
             13 => write!(f, ": {} bytes are needed", self.place),
+            17 => write!(f, ": {} numbers are needed", self.place),
             18 | 19 => write!(f, " at book offset {}", self.place),
             _ => Ok(()),
         }

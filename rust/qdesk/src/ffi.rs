@@ -19,6 +19,19 @@ extern "C" {
         out_length: usize,
     ) -> Answer;
 
+    fn qdesk_layout_map(
+        text: *const u8,
+        text_length: usize,
+        tape: *const u8,
+        tape_length: usize,
+        width: u64,
+        case: u64,
+        out: *mut u8,
+        out_length: usize,
+        map: *mut u64,
+        map_length: usize,
+    ) -> Answer;
+
     fn qdesk_word(word: *const u8, word_length: usize) -> Answer;
 
     fn qdesk_report(
@@ -42,6 +55,15 @@ pub fn layout(text: &[u8], tape: &[u8], width: u64, case: u64, out: &mut [u8]) -
     // SAFETY: the function asks nothing of the bytes and numbers. All pointers come from slices, so they are valid for reads of their lengths
     // throughout the call, and `out` for writes; a slice lent mutably overlaps no other. The function keeps none.
     unsafe { qdesk_layout(text, text_length, tape, tape_length, width, case, out, out_length) }
+}
+
+pub fn layout_map(text: &[u8], tape: &[u8], width: u64, case: u64, out: &mut [u8], map: &mut [u64]) -> Answer {
+    let (text, text_length) = (text.as_ptr(), text.len());
+    let (tape, tape_length) = (tape.as_ptr(), tape.len());
+    let (out, out_length) = (out.as_mut_ptr(), out.len());
+    let (map, map_length) = (map.as_mut_ptr(), map.len());
+    // SAFETY: as for laying out. `map` is valid for writes of as many numbers as its length says.
+    unsafe { qdesk_layout_map(text, text_length, tape, tape_length, width, case, out, out_length, map, map_length) }
 }
 
 pub fn word(word: &[u8]) -> Answer {

@@ -19,6 +19,9 @@
 //! # Ok::<(), qdesk::Error>(())
 //! ```
 //!
+//! [`layout_map`] and [`layout_map_to_vec`] lay out, and say of every token on which line and in which column it stands;
+//! the first of them uses no heap.
+//!
 //! The text is UTF-8, and words outside of quotes are ASCII. All offsets and lengths count bytes.
 //!
 //! Any bytes and any numbers may be passed: each call has one answer, for a layout a length or a refusal ([`Error`]), and which one is
@@ -34,6 +37,7 @@ mod error;
 #[allow(unsafe_code)]
 mod ffi;
 mod kind;
+mod map;
 mod report;
 mod tape;
 mod word;
@@ -41,6 +45,7 @@ mod word;
 pub use command::{command_at, commands, span_bytes, Command, Operands};
 pub use error::{Error, Refusal};
 pub use kind::Kind;
+pub use map::{layout_map, layout_map_to_vec, Mapped, Spot};
 pub use report::{book, job, report, Tally, MOST_BOOK, MOST_JOBS, MOST_REPORT};
 pub use tape::{TapeBuilder, TapeError, TapeFault, MOST_BYTES, MOST_OPEN};
 pub use word::{word, Word};
@@ -175,12 +180,17 @@ fn in_memory(length: u64) -> usize {
 ///
 /// Refusals 1 to 12, 15 and 16.
 pub fn layout_to_vec(text: &[u8], tape: &[u8], settings: Settings) -> Result<Vec<u8>, Error> {
+    to_vec(text, |out| layout(text, tape, settings, out))
+}
+
+/// What a call writes to the space that it is lent, in a vector of that length.
+fn to_vec(text: &[u8], mut call: impl FnMut(&mut [u8]) -> Result<usize, Error>) -> Result<Vec<u8>, Error> {
     // A text that is too long is refused (3) and needs no space.
     let mut out = vec![0; 2 * text.len().min(MOST_BYTES) + 64];
-    let mut length = layout(text, tape, settings, &mut out).or_else(needed)?;
+    let mut length = call(&mut out).or_else(needed)?;
     if length > out.len() {
         out = vec![0; length];
-        length = layout(text, tape, settings, &mut out)?;
+        length = call(&mut out)?;
     }
     out.truncate(length);
     out.shrink_to_fit();

@@ -3,9 +3,8 @@
 mod common;
 
 use common::{example, nested_files, open, token, CLOSE, LAID_OUT, PLAIN};
-use qdesk::{
-    layout, layout_to_string, layout_to_vec, needed_length, Case, Kind, Refusal, Settings, MOST_BYTES, MOST_OPEN,
-};
+use qdesk::{layout, layout_map_to_vec, layout_to_string, layout_to_vec, needed_length};
+use qdesk::{Case, Kind, Refusal, Settings, MOST_BYTES, MOST_OPEN};
 
 #[test]
 fn the_examples_call_is_laid_out_in_both_cases() {
@@ -124,6 +123,7 @@ fn nodes_of_every_kind_64_deep_fit_the_stack_that_the_header_names() {
                 let tape = [opens, tokens.repeat(rounds), CLOSE.repeat(MOST_OPEN)].concat();
                 assert_eq!(tape.len() <= 8_206, is_short);
                 assert!(layout_to_vec(&text, &tape, PLAIN).is_ok(), "{kind:?}");
+                assert!(layout_map_to_vec(&text, &tape, PLAIN).is_ok(), "{kind:?}");
             }
         }
     };

@@ -200,5 +200,5 @@ fn a_257th_job_is_19() {
 #[test]
 fn the_list_of_refusals_is_in_the_order_of_the_numbers() {
     let numbers: Vec<u64> = Refusal::ALL.iter().map(|refusal| *refusal as u64).collect();
-    assert_eq!(numbers, (1..=13).chain(15..=16).chain(18..=19).collect::<Vec<u64>>());
+    assert_eq!(numbers, (1..=13).chain(15..=19).collect::<Vec<u64>>());
 }

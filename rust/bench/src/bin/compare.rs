@@ -7,14 +7,14 @@ use std::io::Write;
 use std::process::ExitCode;
 
 const USAGE: &str = "usage: compare SEED COUNT CLASS...   compares the cases 0 to COUNT-1 of the classes
-       compare SEED COUNT            the same for all classes that make calls or books; of limits, utf8-limits and
-                                     books-limits, whose cases are as long as a thousand others, a thousandth of
+       compare SEED COUNT            the same for all classes that make calls or books; of limits, utf8-limits, map-limits
+                                     and books-limits, whose cases are as long as a thousand others, a thousandth of
                                      COUNT, rounded up
        compare --help, compare --version
 COUNT is at least 1";
 
 /// The classes that a run over all of them takes fewer cases of.
-const LONG: [Class; 3] = [Class::Limits, Class::Utf8Limits, Class::BooksLimits];
+const LONG: [Class; 4] = [Class::Limits, Class::Utf8Limits, Class::MapLimits, Class::BooksLimits];
 
 const PROGRAM: Program = Program { name: "compare", version: env!("CARGO_PKG_VERSION"), usage: USAGE };
 

@@ -10,7 +10,7 @@ const USAGE: &str = "usage: format [--seed SEED] [--rounds ROUNDS] [CORPUS...]
            times the corpora, or all; another seed makes other queries
        format [--seed SEED] --once SIDE CORPUS
            runs a corpus once on one side with no clock, for a profiler, and prints how many tokens and tape bytes it has;
-           SIDE is ready-tree, from-tape, layout or no-space (the call with an output space of 0 bytes)
+           SIDE is ready-tree, from-tape, layout, no-space (the call with an output space of 0 bytes) or map
        format --list
            prints the corpora
        format --help, format --version";
@@ -72,6 +72,7 @@ fn side_named(name: &str) -> Option<Side> {
         "from-tape" => Some(Side::FromTape),
         "layout" => Some(Side::Layout),
         "no-space" => Some(Side::NoSpace),
+        "map" => Some(Side::Map),
         _ => None,
     }
 }

@@ -1,4 +1,5 @@
-//! Prints how many bytes of stack laying out, in no output space and in enough, and the report over a book of one job take for trees of 64 levels.
+//! Prints how many bytes of stack the calls take for trees of 64 levels: laying out in no output space and in enough, the map call, and the
+//! report over a book of one job.
 
 use command_line::{Failure, Program};
 use oracle::answers::{Answer, Case};
@@ -9,7 +10,8 @@ use oracle::tape::{push_close, push_open, push_token};
 use std::io::{self, Write};
 use std::process::ExitCode;
 
-const USAGE: &str = "usage: stack   prints the bytes of stack that the calls take at 64 levels, laying out in no space and in enough; takes no argument";
+const USAGE: &str = "usage: stack   prints the bytes of stack that laying out, in no space and in enough, the map call and the report take at
+               64 levels; takes no argument";
 
 const LEVELS: usize = 64;
 
@@ -34,12 +36,14 @@ fn main() -> ExitCode {
 }
 
 fn print_stack(out: &mut dyn Write) -> io::Result<()> {
-    writeln!(out, "{:<8} {:>10} {:>14}", "space", "tape bytes", "bytes of stack")?;
+    writeln!(out, "{:<8} {:>10} {:>14}", "call", "tape bytes", "bytes of stack")?;
     let mut space = vec![0; 1 << 20];
+    let mut map = vec![0; 1 << 12];
     for rounds in [1, 2] {
         let tapes = tapes(rounds);
-        print_most(out, "none", &tapes, |tape| bench::layout(TEXT, tape, 4, 1, &mut []))?;
-        print_most(out, "enough", &tapes, |tape| bench::layout(TEXT, tape, 4, 1, &mut space))?;
+        print_most(out, "no space", &tapes, |tape| bench::layout(TEXT, tape, 4, 1, &mut []))?;
+        print_most(out, "layout", &tapes, |tape| bench::layout(TEXT, tape, 4, 1, &mut space))?;
+        print_most(out, "map", &tapes, |tape| bench::layout_map(TEXT, tape, 4, 1, &mut space, &mut map))?;
         let mut work = Box::new([0; BUFFER]);
         print_most(out, "report", &tapes, |tape| reported(tape, &mut work, &mut space))?;
     }

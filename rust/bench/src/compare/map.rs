@@ -26,7 +26,7 @@ pub fn compare(seed: u64, class: Class, index: u64, port: &impl MapCall) -> Resu
 }
 
 /// The call in the case's own spaces, then each length of one space beside the needed length of the other, then both too short.
-fn call(case: &MapCase, port: &impl MapCall) -> Result<(), String> {
+pub(super) fn call(case: &MapCase, port: &impl MapCall) -> Result<(), String> {
     in_spaces(case, port)?;
     let (bytes, numbers) = (needed_bytes(&case.call), needed(&case.call).unwrap_or(5));
     let lengths = about(bytes).map(|bytes| (bytes, numbers)).into_iter();
@@ -44,7 +44,8 @@ fn map_pattern(length: usize) -> Vec<u64> {
     (0..length as u64).map(|place| u64::MAX - place % 251).collect()
 }
 
-fn in_spaces(case: &MapCase, port: &impl MapCall) -> Result<(), String> {
+/// The call in the case's own spaces.
+pub fn in_spaces(case: &MapCase, port: &impl MapCall) -> Result<(), String> {
     let expected = answer(case);
     let got = mapped(case, port)?;
     equal("mapping", got.answer, expected.answer)?;
@@ -61,7 +62,7 @@ fn number_differs(place: usize, got: &Mapped, expected: &Mapped) -> String {
 }
 
 /// What the call answers, and both spaces afterwards; the error is that a margin was touched.
-fn mapped(case: &MapCase, port: &impl MapCall) -> Result<Mapped, String> {
+pub fn mapped(case: &MapCase, port: &impl MapCall) -> Result<Mapped, String> {
     let MapCase { call, map } = case;
     let mut space = Lent::new(&call.space, pattern(MARGIN));
     let mut numbers = Lent::new(map, map_pattern(MARGIN));
@@ -71,7 +72,7 @@ fn mapped(case: &MapCase, port: &impl MapCall) -> Result<Mapped, String> {
 
 /// Both calls of a pair, which are the oracle's byte for byte and number for number; the rule's claims on these, and on the answers and maps
 /// that the call itself gives.
-fn masked(pair: &MapPair, port: &impl MapCall) -> Result<(), String> {
+pub(super) fn masked(pair: &MapPair, port: &impl MapCall) -> Result<(), String> {
     masking::claim(&pair.calls)?;
     claim(pair)?;
     let cases = [0, 1].map(|which| pair.case(which));

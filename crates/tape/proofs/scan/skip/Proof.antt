@@ -8,16 +8,16 @@ use Rattle.tape.proofs.scan.skip.Tie as tie
 
 -- past the tokens before the next node or close
 abbrev Inv-loop2 : tie.InvT-loop2
-Inv-loop2 tape at i₀ depth i = Skipping tape at i depth × (i₀ ≤ i) × (0 < depth)
+Inv-loop2 tape at i₀ depth tokens₀ i tokens = Skipping tape at i depth tokens × (i₀ ≤ i) × (0 < depth)
 
 abbrev μ-loop2 : tie.MeasureT-loop2
-μ-loop2 tape at i₀ depth i = length tape - i
+μ-loop2 tape at i₀ depth tokens₀ i tokens = length tape - i
 
 abbrev Inv-loop : tie.InvT-loop
-Inv-loop tape at i₀ depth₀ i depth = Skipping tape at i depth
+Inv-loop tape at i₀ depth₀ tokens₀ i depth tokens = Skipping tape at i depth tokens
 
 abbrev μ-loop : tie.MeasureT-loop
-μ-loop tape at i₀ depth₀ i depth = length tape - i
+μ-loop tape at i₀ depth₀ tokens₀ i depth tokens = length tape - i
 
 add-i : tie.Need-add-i Inv-loop2 μ-loop2 Inv-loop μ-loop
 add-i c = omega (arith, c .pre .inside)
@@ -33,6 +33,9 @@ shared-slice-read-if1 c = let v = c .before .loop2 .inv in omega (arith, skip-lo
 
 add-i-2 : tie.Need-add-i-2 Inv-loop2 μ-loop2 Inv-loop μ-loop
 add-i-2 c = let v = c .before .before .loop2 .inv in omega (arith, skip-low (v .0))
+
+add-tokens : tie.Need-add-tokens Inv-loop2 μ-loop2 Inv-loop μ-loop
+add-tokens c = let v = c .before .before .loop2 .inv in omega (arith, skip-low (v .0), v .0 .few)
 
 loop2-less : tie.Need-loop2-less Inv-loop2 μ-loop2 Inv-loop μ-loop
 loop2-less c = let v = c .before .before .loop2 .inv in omega (arith, skip-low (v .0), v .2)
@@ -83,6 +86,7 @@ skip-spec =
     loop2-holds
     shared-slice-read-if1
     add-i-2
+    add-tokens
     loop2-less
     loop2-again
     shared-slice-read-if2

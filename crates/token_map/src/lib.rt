@@ -1,0 +1,284 @@
+// The token map: what the loops of the routines note while the tree is walked, and lines and columns of what was noted. A plain layout lends a map of
+// no numbers.
+use context::Position;
+use context::token_text;
+use tape::Head;
+use tape::syntax_kind;
+use utf8::trimmed_from_end;
+ghost use mathlib.Core.Path.{_≡_};
+ghost use mathlib.Core.Bool.{cond};
+ghost use Prim.Native.Nat.{_+_, _-_, _≤_, _<_, _^_};
+ghost use lib.ListN.{length, replicate};
+ghost use Rattle.token_map.specs.Signs.{placeAs, placeBy, writtenAs};
+ghost use Rattle.token_map.specs.Notes.{noteAll, noted};
+ghost use Rattle.layout.specs.Lines.{spotAt, turned};
+ghost use Rattle.token_map.specs.Spots.{Counted, Entered, lineColumn, spots};
+
+// For which kinds a routine writes a fixed sign. One with NoSemicolon writes none, and nothing for a Semicolon.
+pub enum Signs {
+    Nothing,
+    Semicolon,
+    NoSemicolon,
+    Comma,
+    Minus,
+    RoundBrackets,
+    CommaRoundBrackets,
+    CommaSquareBrackets,
+    CommaColonCurlyBraces,
+}
+
+// What is written for a token.
+pub enum Written {
+    Nothing,
+    Text,
+    Sign,
+}
+
+// Line and column of the byte at an offset, both from 1. They always agree with the bytes before it.
+pub struct Spot {
+    pub at: usize,
+    pub line: u64,
+    pub column: u64,
+}
+
+// Line and column in the map, 0 and 0 for none, and the spot that was counted to.
+pub struct Entry {
+    pub line: u64,
+    pub column: u64,
+    pub spot: Spot,
+}
+
+fn sign_if(is_sign: bool) -> Written
+    ensures { λ r. ⌜ r ≡ cond «is_sign» Written.Sign Written.Text ⌝ }
+{
+    if is_sign {
+        return Written::Sign;
+    }
+    Written::Text
+}
+
+fn written_as(signs: Signs, kind: u16) -> Written
+    ensures { λ r. ⌜ r ≡ writtenAs signs kind ⌝ }
+{
+    if kind == syntax_kind::WHITESPACE {
+        return Written::Nothing;
+    }
+    let round = (kind == syntax_kind::OPENING_ROUND_BRACKET)
+        | (kind == syntax_kind::CLOSING_ROUND_BRACKET);
+    let square = (kind == syntax_kind::OPENING_SQUARE_BRACKET)
+        | (kind == syntax_kind::CLOSING_SQUARE_BRACKET);
+    let curly = (kind == syntax_kind::OPENING_CURLY_BRACE)
+        | (kind == syntax_kind::CLOSING_CURLY_BRACE);
+    match signs {
+        Signs::Nothing => Written::Text,
+        Signs::Semicolon => sign_if(kind == syntax_kind::SEMICOLON),
+        Signs::NoSemicolon => {
+            if kind == syntax_kind::SEMICOLON {
+                return Written::Nothing;
+            }
+            Written::Text
+        }
+        Signs::Comma => sign_if(kind == syntax_kind::COMMA),
+        Signs::Minus => sign_if(kind == syntax_kind::MINUS),
+        Signs::RoundBrackets => sign_if(round),
+        Signs::CommaRoundBrackets => sign_if((kind == syntax_kind::COMMA) | round),
+        Signs::CommaSquareBrackets => sign_if((kind == syntax_kind::COMMA) | square),
+        Signs::CommaColonCurlyBraces => {
+            sign_if((kind == syntax_kind::COMMA) | (kind == syntax_kind::COLON) | curly)
+        }
+    }
+}
+
+// The place of the first of the n bytes that end at `end`.
+fn place_before(end: usize, n: usize) -> usize
+    requires { ⌜ 0 < n ⌝ }
+    ensures { λ r. ⌜ r ≡ end - n + 1 ⌝ }
+{
+    if end < n {
+        return 1;
+    }
+    end - n + 1
+}
+
+// The place of a text that was written last. A text of white space does not show in what trimming leaves.
+fn place_of_text(text: &[u8], p: Position) -> usize
+    requires { ⌜ 0 < length (now text) ⌝ }
+    ensures { λ r. ⌜ r ≡ placeAs Written.Text (now (text .entry)) p ⌝ }
+{
+    let j = trimmed_from_end(text);
+    if j == 0 {
+        return place_before(p.length, text.len());
+    }
+    place_before(p.trimmed, j)
+}
+
+// The place of the token for which an arm wrote, from the position after it.
+fn place_by(source: &[u8], token: Head, p: Position, signs: Signs) -> usize
+    requires { ⌜ (token .start ≤ token .end) × (token .end ≤ length (now source)) ⌝ }
+    ensures { λ r. ⌜ r ≡ placeBy signs (now (source .entry)) token p ⌝ }
+{
+    let start = token.start;
+    let end = token.end;
+    if start == end {
+        return 0;
+    }
+    let written = written_as(signs, token.kind);
+    match written {
+        Written::Nothing => 0,
+        Written::Sign => p.trimmed,
+        Written::Text => place_of_text(token_text(source, start, end), p),
+    }
+}
+
+// A place more.
+fn note_place(map: &mut [u64], place: usize)
+    ensures { λ _. ⌜ now (map .exit) ≡ noted place (now (map .entry)) ⌝ }
+{
+    let n = map.len();
+    if n == 0 {
+        return;
+    }
+    let last = n - 1;
+    let next = map[last] as usize;
+    if next < last {
+        map[next] = place as u64;
+        map[last] = next as u64 + 2;
+    }
+}
+
+fn note_written(map: &mut [u64], source: &[u8], token: Head, p: Position, signs: Signs)
+    requires { ⌜ (token .start ≤ token .end) × (token .end ≤ length (now source)) ⌝ }
+    ensures { λ _. ⌜ now (map .exit) ≡ noted (placeBy signs (now (source .entry)) token p) (now (map .entry)) ⌝ }
+{
+    let place = place_by(source, token, p, signs);
+    note_place(map, place);
+}
+
+// Notes a token, right after its arm: p is the position then. Only the test goes into the loops of the routines.
+pub fn note_token(map: &mut [u64], source: &[u8], token: Head, p: Position, signs: Signs)
+    requires { ⌜ (token .start ≤ token .end) × (token .end ≤ length (now source)) ⌝ }
+    ensures { λ _. ⌜ now (map .exit) ≡ noted (placeBy signs (now (source .entry)) token p) (now (map .entry)) ⌝ }
+{
+    if map.len() == 0 {
+        return;
+    }
+    note_written(map, source, token, p, signs);
+}
+
+// Notes so many tokens without a place.
+pub fn note_none(map: &mut [u64], tokens: usize)
+    ensures { λ _. ⌜ now (map .exit) ≡ noteAll (replicate tokens 0) (now (map .entry)) ⌝ }
+{
+    if map.len() == 0 {
+        return;
+    }
+    let mut left = tokens;
+    while 0 < left {
+        note_place(map, 0);
+        left -= 1;
+    }
+}
+
+// All numbers zero, before the walk.
+pub fn clear(map: &mut [u64])
+    ensures { λ _. ⌜ now (map .exit) ≡ replicate (length (now (map .entry))) 0 ⌝ }
+{
+    let mut i: usize = 0;
+    while i < map.len() {
+        map[i] = 0;
+        i += 1;
+    }
+}
+
+fn first_spot(out: &[u8]) -> Spot
+    ensures { λ r. ⌜ Counted (now (out .entry)) r × (r .at ≡ 0) ⌝ }
+{
+    Spot {
+        at: 0,
+        line: 1,
+        column: 1,
+    }
+}
+
+// The spot after one byte more: a newline ends its line.
+fn after_byte(spot: Spot, b: u8) -> Spot
+    requires { ⌜ (spot .at + 2 < 2 ^ 64) × (spot .line ≤ spot .at + 1) × (spot .column ≤ spot .at + 1) ⌝ }
+    ensures { λ r. ⌜ (r .at ≡ spot .at + 1) × (lineColumn r ≡ turned b (lineColumn spot)) ⌝ }
+{
+    if b == 10 {
+        return Spot {
+            at: spot.at + 1,
+            line: spot.line + 1,
+            column: 1,
+        };
+    }
+    Spot {
+        at: spot.at + 1,
+        line: spot.line,
+        column: spot.column + 1,
+    }
+}
+
+// Where counting starts for an offset: at the spot, unless that is past it.
+fn spot_before(out: &[u8], spot: Spot, at: usize) -> Spot
+    requires { ⌜ Counted (now out) spot ⌝ }
+    ensures { λ r. ⌜ Counted (now (out .entry)) r × (r .at ≤ at) ⌝ }
+{
+    if at < spot.at {
+        return first_spot(out);
+    }
+    spot
+}
+
+// The spot of the byte at an offset; past the end, the one after the last byte. From a spot before it only the bytes between are counted.
+fn spot_at(out: &[u8], from: Spot, at: usize) -> Spot
+    requires { ⌜ Counted (now out) from × (at + 1 < 2 ^ 64) ⌝ }
+    ensures { λ r. ⌜ Counted (now (out .entry)) r × (lineColumn r ≡ spotAt (now (out .entry)) at) ⌝ }
+{
+    let mut spot = spot_before(out, from, at);
+    let mut i = spot.at;
+    while i < at {
+        if out.len() <= i {
+            return spot;
+        }
+        spot = after_byte(spot, out[i]);
+        i += 1;
+    }
+    spot
+}
+
+// What stands in the map for a place, and the spot to go on from.
+fn entry_of(out: &[u8], from: Spot, place: u64, k: usize) -> Entry
+    requires { ⌜ Counted (now out) from ⌝ }
+    ensures { λ r. ⌜ Entered k (now (out .entry)) place r ⌝ }
+{
+    let p = place as usize;
+    if (p == 0) | (k < p) {
+        return Entry {
+            line: 0,
+            column: 0,
+            spot: from,
+        };
+    }
+    let spot = spot_at(out, from, p - 1);
+    Entry {
+        line: spot.line,
+        column: spot.column,
+        spot: spot,
+    }
+}
+
+// The places that were noted become lines and columns of `out`, of which trimming leaves k bytes.
+pub fn place_tokens(map: &mut [u64], out: &[u8], k: usize)
+    ensures { λ _. ⌜ now (map .exit) ≡ spots k (now (out .entry)) (now (map .entry)) ⌝ }
+{
+    let mut spot = first_spot(out);
+    let mut i: usize = 0;
+    while 1 < map.len() - i {
+        let e = entry_of(out, spot, map[i], k);
+        map[i] = e.line;
+        map[i + 1] = e.column;
+        spot = e.spot;
+        i += 2;
+    }
+}
