@@ -4,10 +4,10 @@ use mathlib.Core.Path.{_≡_, refl, sym, ap, subst, _∙_}
 use mathlib.Core.List.{List, [], _∷_, _++_, map}
 use Prim.Native.Nat.{ℕ, zero, suc, _+_, _*_, _^_, _≤_, _<_}
 use native.Mathlib.Omega.{arith}
-use lib.ListN.{length, take, drop, set, replicate, length-map, length-replicate}
+use lib.ListN.{length, take, drop, set, replicate, length-map}
 use lib.Dec.{leb}
-use lib.Seq.{length-take-le, take-take}
-use borrow.Author.Tests.{le-leb, lt-leb}
+use lib.Seq.{length-take-le, take-all, take-append-seam, take-take}
+use borrow.Author.Tests.{le-leb, lt-leb, lt-ltb}
 use Rattle.utf8.specs.Trimming.{trimmedLength}
 use Rattle.utf8.proofs.Trimming.{trimmed-le}
 use Rattle.context.specs.Cells.{Cell, bytesOf}
@@ -47,10 +47,9 @@ use Rattle.formatter.specs.declared.Walk.{Walk}
 use Rattle.keywords.specs.Table.{table}
 use Rattle.token_map.specs.Notes.{noteAll}
 use Rattle.token_map.specs.Spots.{spots}
-use Rattle.token_map.proofs.Noting.{length-noteAll}
 use Rattle.token_map.proofs.NotedSpots.{noted-spots}
 use Rattle.formatter.specs.RoutinePromises.{NodeReady, NodeDone, seat}
-use Rattle.formatter.specs.Entry.{Ready, allCells, Trims, Notes, WalkedInto, Fills, LaysOut, MapFits, MapFills, MapsOut}
+use Rattle.formatter.specs.Entry.{Ready, allCells, Trims, Notes, WalkedInto, Holds, Fills, LaysOut, MapFits, Placed, MapFills, MapsOut}
 
 -- ── lists
 
@@ -145,27 +144,36 @@ module _ {text tape : List ℕ} {config : FormatConfig} (k : ℕ) (n : Trims tex
   fills {m} {ys} d =
       record { all = λ t p q. finish-stored (allCells config text t) k xs ys (n .all t p q) (λ x. omega arith) (omega arith) (d .all t p q) }
 
-  -- the first k bytes of any space of at least k bytes are the layout's
-  pub copied : {m : ℕ} {us vs ys ms ns : List ℕ} → WalkedInto text tape config us ms m vs ns → k ≤ length us → ys ≡ set (splice 0 (take k vs) (take k xs) ++ drop k xs) k 10
+  -- from a space that holds it
+  pub copied : {vs ys : List ℕ} → Holds text tape config k vs → k ≤ length vs → ys ≡ set (splice 0 (take k vs) (take k xs) ++ drop k xs) k 10
       → Fills text tape config xs ys
   unfolding format
-  copied {m} {us} {vs} {ys} d l e =
+  copied {vs} {ys} d l e =
       record {
         all =
             λ t p q.
             let X = allCells config text t in
             let bs = bytesOf X in
             let fits : k ≤ length bs = omega (arith, n .all t p q, trimmed-le bs) in
-            let first : take k vs ≡ take k bs = ap (take k) (d .all t p q) ∙ take-splice k bs us fits l in
             let lx = length-take-le k xs (omega arith) in
             let lb = length-take-le k bs fits in
             let same : splice 0 (take k vs) (take k xs) ≡ splice 0 bs (take k xs) =
-            ap (λ (s : List ℕ). splice 0 s (take k xs)) first
+            ap (λ (s : List ℕ). splice 0 s (take k xs)) (d .all t p q l)
             ∙ splice-covers (take k bs) (take k xs) (omega arith)
             ∙ take-take (length (take k xs)) k bs (omega arith)
             ∙ sym (splice-covers bs (take k xs) (omega arith)) in
             e ∙ finish-stored X k xs (splice 0 (take k vs) (take k xs)) (n .all t p q) (λ x. omega arith) (omega arith) same;
       }
+
+-- what a walk has written is held
+pub holds : {text tape : List ℕ} {config : FormatConfig} {k : ℕ} {us vs ms ns : List ℕ} → WalkedInto text tape config us ms k vs ns → length vs ≡ length us → Holds text tape config k vs
+holds {text} {config = config} {k} {us} {vs} d e =
+    record {
+      all =
+          λ t p q l.
+          let bs = bytesOf (allCells config text t) in
+          ap (take k) (d .all t p q) ∙ take-splice k bs us (omega (arith, d .trims .all t p q, trimmed-le bs)) (omega arith);
+    }
 
 -- ── the answers where the tape is accepted
 
@@ -206,44 +214,44 @@ map-fits r s =
 pub tokens-few : {text keywords tape facts : List ℕ} {config : FormatConfig} {j : Passed} → Ready text keywords tape facts config → Skipped tape 0 j → j .tokens ≤ length tape
 tokens-few r s = let a = r .accepted in omega (arith, s .counted _ (a .tree .kids) (a .kids), tokens-size (a .tree .kids), a .whole)
 
-take-all : (n : ℕ) (xs : List ℕ) → length xs ≡ n → take n xs ≡ xs
-take-all zero [] e = refl
-take-all zero (x ∷ xs) e = absurd (omega arith)
-take-all (suc n) [] e = refl
-take-all (suc n) (x ∷ xs) e = ap {B = List ℕ} (λ l. x ∷ l) (take-all n xs (omega arith))
+-- what was noted over zeros, as many as the map has
+pub placed : {text tape : List ℕ} {config : FormatConfig} {m n : ℕ} {ns : List ℕ} → MapFits text tape m → m ≤ n → Notes text tape config (replicate n 0) ns → Placed text tape config (take m ns)
+placed {text} {tape} {config} {m} {n} {ns} f l o =
+    record {
+      all =
+          λ t p q k bs.
+          let ps = placesFrom config text formatNode t (newState, 0) in
+          let size : m ≡ 2 * length ps = f .all t p q ∙ ap (λ (x : ℕ). 2 * x) (sym (places-count config text formatNode t (newState, 0))) in
+          ap (spots k bs) (ap (take m) (o .all t p q) ∙ ap (λ (x : ℕ). take x (noteAll ps (replicate n 0))) size)
+          ∙ noted-spots k bs ps n (omega arith);
+    }
 
-take-front : (as zs : List ℕ) (m : ℕ) → length as ≡ m → take m (as ++ zs) ≡ as
-take-front [] zs zero e = refl
-take-front [] zs (suc m) e = absurd (omega arith)
-take-front (a ∷ as) zs zero e = absurd (omega arith)
-take-front (a ∷ as) zs (suc m) e = ap {B = List ℕ} (λ l. a ∷ l) (take-front as zs m (omega arith))
+-- all of it, where the map itself was noted in
+pub placed-all : {text tape : List ℕ} {config : FormatConfig} {m : ℕ} {ns : List ℕ} → MapFits text tape m → length ns ≡ m → Notes text tape config (replicate m 0) ns → Placed text tape config ns
+placed-all {text} {tape} {config} {m} {ns} f l o = subst (Placed text tape config) (take-all m ns (omega arith)) (placed {n = m} f (omega arith) o)
 
--- what was noted in a map of zeros that fits becomes the map's numbers
-pub map-fills : {text tape : List ℕ} {config : FormatConfig} {k n : ℕ} {xs ys ns ls : List ℕ} → Trims text tape config k → 0 < k → Fills text tape config xs ys
-    → MapFits text tape n → Notes text tape config (replicate n 0) ns → ls ≡ spots k (take (k + 1) ys) ns → MapFills text tape config ls
+-- places become the map's numbers
+pub map-fills : {text tape : List ℕ} {config : FormatConfig} {k : ℕ} {xs ys ns ls : List ℕ} → Trims text tape config k → 0 < k → Fills text tape config xs ys
+    → Placed text tape config ns → ls ≡ spots k (take (k + 1) ys) ns → MapFills text tape config ls
 unfolding tokenMap format original
-map-fills {text} {tape} {config} {k} {n} {xs} {ys} {ns} {ls} trims z f m o e =
+map-fills {text} {tape} {config} {k} {xs} {ys} {ns} {ls} trims z f o e =
     record {
       all =
           λ t p q.
           let X = allCells config text t in
-          let ps = placesFrom config text formatNode t (newState, 0) in
-          let size : n ≡ 2 * length ps = m .all t p q ∙ ap (λ (x : ℕ). 2 * x) (sym (places-count config text formatNode t (newState, 0))) in
-          let all : length (finish X) ≡ k + 1 = finish-length X (λ u. omega (arith, trims .all t p q)) ∙ ap (λ (x : ℕ). x + 1) (sym (trims .all t p q)) in
           let bs = bytesOf (finish X) in
-          let first : take (k + 1) ys ≡ bs = ap (take (k + 1)) (f .all t p q) ∙ take-front bs (drop (length (finish X)) xs) (k + 1) (length-map (finish X) (λ (c : Cell). c .byte) ∙ all) in
-          let noted = noteAll ps (replicate n 0) in
-          let whole : ns ≡ take (2 * length ps) noted = o .all t p q ∙ sym (take-all (2 * length ps) noted (length-noteAll ps (replicate n 0) ∙ length-replicate {A = ℕ} n 0 ∙ size)) in
+          let all : length bs ≡ k + 1 = length-map (finish X) (λ (c : Cell). c .byte) ∙ length-some X k (trims .all t p q) (λ u. omega arith) in
+          let first : take (k + 1) ys ≡ bs =
+          ap (take (k + 1)) (f .all t p q) ∙ ap (λ (x : ℕ). take x (bs ++ drop (length (finish X)) xs)) (sym all) ∙ take-append-seam bs (drop (length (finish X)) xs) in
           e
           ∙ ap (λ (l : List ℕ). spots k l ns) first
-          ∙ ap (spots k bs) whole
-          ∙ noted-spots k bs ps n (omega arith)
-          ∙ ap (λ (j : ℕ). flat (map (entry j bs) ps)) (trims .all t p q);
+          ∙ o .all t p q k bs
+          ∙ ap (λ (j : ℕ). flat (map (entry j bs) (placesFrom config text formatNode t (newState, 0)))) (trims .all t p q);
     }
 
 no-spot : (p : ℕ) (bs : List ℕ) → entry 0 bs p ≡ noSpot
 no-spot zero bs = refl
-no-spot (suc p) bs = refl
+no-spot (suc p) bs = rw (lt-ltb 0 (suc p) (omega arith))
 
 no-spots : (bs ps : List ℕ) → replicate (2 * length ps) 0 ≡ flat (map (entry 0 bs) ps)
 no-spots bs [] = refl
@@ -266,9 +274,9 @@ module _ {text tape : List ℕ} {config : FormatConfig} {k : ℕ} (n : Trims tex
             (sym (lt-leb (length (finish X)) (length xs) (omega (arith, l))));
       }
 
-  laid-fits : {xs : List ℕ} → (0 < k → k < length xs) → (t : Tree) (p : ℕ) → readTree (length text) tape ≡ got t p → length (format original config text t) ≤ length xs
+  laid-fits : (xs : List ℕ) → (0 < k → k < length xs) → (t : Tree) (p : ℕ) → readTree (length text) tape ≡ got t p → length (format original config text t) ≤ length xs
   unfolding format
-  laid-fits {xs} h t p q = go k refl
+  laid-fits xs h t p q = go k refl
     where
       X : List Cell
       X = allCells config text t
@@ -288,7 +296,7 @@ module _ {text tape : List ℕ} {config : FormatConfig} {k : ℕ} (n : Trims tex
             let size : c ≡ length ls = m .all t p q ∙ sym (map-count original config text t) in
             ap (λ (x : ℕ). record { answer = record { number = 17; value = x }; space = xs; map = ms }) size
             ∙ ap (λ (b : Bool). mapFitted true b cs ls xs ms) (sym (lt-leb (length ls) (length ms) (omega (arith, size))))
-            ∙ ap (λ (b : Bool). mapFitted b (leb (length ls) (length ms)) cs ls xs ms) (sym (le-leb (length cs) (length xs) (laid-fits h t p q)));
+            ∙ ap (λ (b : Bool). mapFitted b (leb (length ls) (length ms)) cs ls xs ms) (sym (le-leb (length cs) (length xs) (laid-fits xs h t p q)));
       }
 
   -- both fit
@@ -304,7 +312,7 @@ module _ {text tape : List ℕ} {config : FormatConfig} {k : ℕ} (n : Trims tex
             let size : c ≡ length ls = m .all t p q ∙ sym (map-count original config text t) in
             rw (w t p q, f .all t p q, g .all t p q, size)
             (ap (λ (b : Bool). mapFitted true b cs ls xs ms) (sym (le-leb (length ls) (length ms) (omega (arith, size))))
-            ∙ ap (λ (b : Bool). mapFitted b (leb (length ls) (length ms)) cs ls xs ms) (sym (le-leb (length cs) (length xs) (laid-fits h t p q))));
+            ∙ ap (λ (b : Bool). mapFitted b (leb (length ls) (length ms)) cs ls xs ms) (sym (le-leb (length cs) (length xs) (laid-fits xs h t p q))));
       }
 
   pub laid-length : 0 < k → (t : Tree) (p : ℕ) → readTree (length text) tape ≡ got t p → k + 1 ≡ length (format original config text t)

@@ -75,38 +75,38 @@ module _ (config : FormatConfig) (source : Text) where
   seated w = seat (w .0)
 
   -- what the calls make of a store, where they are known to have made w
-  seat-made : (cs : List Call) {v w : Store} → w ≡ run config source cs v → seatAfter config source cs (seated v) ≡ seated w
-  seat-made cs {v} e = sym (seat-of-run config source cs v) ∙ ap seated (sym e)
+  seat-made : (cs : List Call) (v : Store) {w : Store} → w ≡ run config source cs v → seatAfter config source cs (seated v) ≡ seated w
+  seat-made cs v e = sym (seat-of-run config source cs v) ∙ ap seated (sym e)
 
-  seat-spaced : (xs : List Spacing) {v w : Store} → w ≡ runSpacing xs v → seatAfter config source (map putSpacing xs) (seated v) ≡ seated w
-  seat-spaced xs {v} e = seat-made (map putSpacing xs) (e ∙ sym (run-spacing config source xs v))
+  seat-spaced : (xs : List Spacing) (v : Store) {w : Store} → w ≡ runSpacing xs v → seatAfter config source (map putSpacing xs) (seated v) ≡ seated w
+  seat-spaced xs v e = seat-made (map putSpacing xs) v (e ∙ sym (run-spacing config source xs v))
 
   module _ (r : Arms) (l : Local) where
     abbrev from : Children → Seat → List ℕ
     from = places config source formatNode r l
 
-    notes-token : {signs : Signs} → Signed signs r → (h : Head) (rest : Children) {v w : Store} (ns : List ℕ) → w ≡ run config source (map (actAt h) ((r .atToken l (seen source h)) .1)) v
+    notes-token : {signs : Signs} → Signed signs r → (h : Head) (rest : Children) (v : Store) {w : Store} (ns : List ℕ) → w ≡ run config source (map (actAt h) ((r .atToken l (seen source h)) .1)) v
         → noteAll (from (token h rest) (seated v)) ns
         ≡ noteAll (places config source formatNode r ((r .atToken l (seen source h)) .0) rest (seated w)) (noted (placeBy signs source h (w .0 .position)) ns)
     unfolding places
-    notes-token {signs} g h rest {v} {w} ns e =
+    notes-token {signs} g h rest v {w} ns e =
         let a = r .atToken l (seen source h) in
         let k = note-right g l h config source (v .0) (v .1) in
         ap (λ (p : ℕ). noteAll (places config source formatNode r (a .0) rest (seatAfter config source (map (actAt h) (a .1)) (seated v))) (noted p ns)) (sym k ∙ ap (λ (x : Store). placeBy signs source h (x .0 .position)) (sym e))
-        ∙ ap (λ (x : Seat). noteAll (places config source formatNode r (a .0) rest x) (noted (placeBy signs source h (w .0 .position)) ns)) (seat-made (map (actAt h) (a .1)) e)
+        ∙ ap (λ (x : Seat). noteAll (places config source formatNode r (a .0) rest x) (noted (placeBy signs source h (w .0 .position)) ns)) (seat-made (map (actAt h) (a .1)) v e)
 
-    notes-node : (h : Head) (kids rest : Children) (N : Local × List Spacing × List Spacing) {v w x y : Store} (ns : List ℕ) → r .atNode l (h .kind) (countListItems kids) ≡ N
+    notes-node : (h : Head) (kids rest : Children) (N : Local × List Spacing × List Spacing) (v w x : Store) {y : Store} (ns : List ℕ) → r .atNode l (h .kind) (countListItems kids) ≡ N
         → w ≡ runSpacing (N .1) v → x ≡ run config source (calls formatNode source (record { head = h; kids = kids })) w → y ≡ runSpacing (N .2) x
         → noteAll (from (node h kids rest) (seated v)) ns
         ≡ noteAll (places config source formatNode r (N .0) rest (seated y)) (noteAll (placesFrom config source formatNode (record { head = h; kids = kids }) (seated w)) ns)
     unfolding places placesFrom calls
-    notes-node h kids rest N {v} {w} {x} {y} ns e before inside after =
+    notes-node h kids rest N v w x {y} ns e before inside after =
         let cs = calls formatNode source (record { head = h; kids = kids }) in
         let t = record { head = h; kids = kids } in
         ap (λ (n : Local × List Spacing × List Spacing). noteAll (placesFrom config source formatNode t (seatAfter config source (map putSpacing (n .1)) (seated v)) ++ places config source formatNode r (n .0) rest (seatAfter config source (map putSpacing (n .2)) (seatAfter config source cs (seatAfter config source (map putSpacing (n .1)) (seated v))))) ns) e
-        ∙ ap (λ (u : Seat). noteAll (placesFrom config source formatNode t u ++ places config source formatNode r (N .0) rest (seatAfter config source (map putSpacing (N .2)) (seatAfter config source cs u))) ns) (seat-spaced (N .1) before)
-        ∙ ap (λ (u : Seat). noteAll (placesFrom config source formatNode t (seated w) ++ places config source formatNode r (N .0) rest (seatAfter config source (map putSpacing (N .2)) u)) ns) (seat-made cs inside)
-        ∙ ap (λ (u : Seat). noteAll (placesFrom config source formatNode t (seated w) ++ places config source formatNode r (N .0) rest u) ns) (seat-spaced (N .2) after)
+        ∙ ap (λ (u : Seat). noteAll (placesFrom config source formatNode t u ++ places config source formatNode r (N .0) rest (seatAfter config source (map putSpacing (N .2)) (seatAfter config source cs u))) ns) (seat-spaced (N .1) v before)
+        ∙ ap (λ (u : Seat). noteAll (placesFrom config source formatNode t (seated w) ++ places config source formatNode r (N .0) rest (seatAfter config source (map putSpacing (N .2)) u)) ns) (seat-made cs w inside)
+        ∙ ap (λ (u : Seat). noteAll (placesFrom config source formatNode t (seated w) ++ places config source formatNode r (N .0) rest u) ns) (seat-spaced (N .2) x after)
         ∙ noteAll-append (placesFrom config source formatNode t (seated w)) _ ns
 
 -- ── the loop over a node's children; Q is the routine, once it is known
@@ -216,7 +216,7 @@ module _ {source keywords tape facts : List ℕ} {config : FormatConfig} {left a
           same-notes =
               v .rest all y .same-notes
               ∙ ap (λ (x : Children). noteAll (places config source formatNode Q l x (seat ctx)) ns) (z .1 ∙ ap (λ (x : Head). token x (z .0)) (sym q))
-              ∙ notes-token config source Q l g h (z .0) ns (d .did)
+              ∙ notes-token config source Q l g h (z .0) (ctx, ys) ns (d .did)
               ∙ ap (noteAll (places config source formatNode Q ((Q .atToken l (seen source h)) .0) (z .0) (seat a))) (sym o)
               ∙ ap (λ (x : Local). noteAll (places config source formatNode Q x (z .0) (seat a)) ls) (sym m);
         };
@@ -294,7 +294,7 @@ module _ {source keywords tape facts : List ℕ} {config : FormatConfig} {left a
           same-notes =
               v .rest all x .same-notes
               ∙ ap (λ (t : Children). noteAll (places config source formatNode Q l t (seat ctx)) ns) (z .2 ∙ ap (λ (t : Head). node t (z .0) (z .1)) (sym q))
-              ∙ notes-node config source Q l h (z .0) (z .1) N ns (j (z .0) (z .4)) (before .did)
+              ∙ notes-node config source Q l h (z .0) (z .1) N (ctx, ys) (a, zs) (w .context, us) ns (j (z .0) (z .4)) (before .did)
               (y .did ∙ ap (λ (t : Head). run config source (calls formatNode source (record { head = t; kids = z .0 })) (a, zs)) (sym q)) (after .did)
               ∙ ap (λ (t : Head). noteAll (places config source formatNode Q (N .0) (z .1) (seat b)) (noteAll (placesFrom config source formatNode (record { head = t; kids = z .0 }) (seat a)) ns)) q
               ∙ ap (noteAll (places config source formatNode Q (N .0) (z .1) (seat b))) (sym (y .notes))
@@ -305,7 +305,7 @@ module _ {source keywords tape facts : List ℕ} {config : FormatConfig} {left a
   -- the end
   pub loop-last : {n : ℕ} {e : FormatterContext} {zs : List ℕ} → getD tape i 0 ≡ 3 → Spaced n (Q .atEnd l) ctx ys e zs → n ≤ 4
       → RoutineDone source tape config at R c xs ms (record { at = i + 1; context = e }) zs ns
-  unfolding size places
+  unfolding size places noteAll
   loop-last {e = e} {zs = zs} q d h =
       let z = spelled-close _ _ _ (v .kids) (v .spelled) q in
       record {

@@ -1,8 +1,8 @@
 -- What the parts of the call ask and promise, where the tape is accepted.
 use mathlib.Core.Path.{_≡_}
-use mathlib.Core.List.{List, _++_}
+use mathlib.Core.List.{List, _++_, map}
 use Prim.Native.Nat.{ℕ, _*_, _^_, _≤_}
-use lib.ListN.{length, drop}
+use lib.ListN.{length, take, drop}
 use Rattle.utf8.specs.Trimming.{trimmedLength}
 use Rattle.context.specs.Cells.{Text, Cell, bytesOf}
 use Rattle.context.specs.Splice.{splice}
@@ -16,10 +16,11 @@ use Rattle.tape.specs.NodeFacts.{Noted}
 use Rattle.layout.specs.declared.Answer.{Answer}
 use Rattle.layout.specs.Layout.{written, original, piecesOf, format}
 use Rattle.layout.specs.FormatNode.{formatNode}
-use Rattle.layout.specs.TokenMap.{placesFrom, tokenMap}
+use Rattle.layout.specs.TokenMap.{placesFrom, entry, tokenMap}
 use Rattle.layout.specs.MapCall.{flat, Mapped, mappedAs}
 use Rattle.layout.specs.SpanStarts.{SpansStart}
 use Rattle.token_map.specs.Notes.{noteAll}
+use Rattle.token_map.specs.Spots.{spots}
 use Rattle.layout.specs.Outcome.{Result, laid, laidOut}
 use Rattle.formatter.specs.RoutinePromises.{Sizes}
 
@@ -51,6 +52,10 @@ pub record WalkedInto (text tape : List ℕ) (config : FormatConfig) (xs ms : Li
   pub notes : Notes text tape config ms ns
   pub all : (t : Tree) (p : ℕ) → readTree (length text) tape ≡ got t p → ys ≡ splice 0 (bytesOf (allCells config text t)) xs
 
+-- what trimming leaves stands in front of the space, if the space is that long
+pub record Holds (text tape : List ℕ) (config : FormatConfig) (k : ℕ) (ys : List ℕ) : Type 0 where
+  pub all : (t : Tree) (p : ℕ) → readTree (length text) tape ≡ got t p → k ≤ length ys → take k ys ≡ take k (bytesOf (allCells config text t))
+
 -- the layout stands in front of the space
 pub record Fills (text tape : List ℕ) (config : FormatConfig) (xs ys : List ℕ) : Type 0 where
   pub all : (t : Tree) (p : ℕ) → readTree (length text) tape ≡ got t p → ys ≡ bytesOf (format original config text t) ++ drop (length (format original config text t)) xs
@@ -63,6 +68,10 @@ pub record LaysOut (text tape : List ℕ) (config : FormatConfig) (xs : List ℕ
 -- n is the count of the map's numbers
 pub record MapFits (text tape : List ℕ) (n : ℕ) : Type 0 where
   pub all : (t : Tree) (p : ℕ) → readTree (length text) tape ≡ got t p → n ≡ 2 * length (tokens (t .kids))
+
+-- the numbers are places yet: with the trimmed length and any bytes they become lines and columns
+pub record Placed (text tape : List ℕ) (config : FormatConfig) (ns : List ℕ) : Type 0 where
+  pub all : (t : Tree) (p : ℕ) → readTree (length text) tape ≡ got t p → (k : ℕ) (bs : List ℕ) → spots k bs ns ≡ flat (map (entry k bs) (placesFrom config text formatNode t (newState, 0)))
 
 -- the map's numbers
 pub record MapFills (text tape : List ℕ) (config : FormatConfig) (ns : List ℕ) : Type 0 where

@@ -14,17 +14,18 @@ use tape::check::number;
 use tape::commands::head_at;
 use tape::scan::skip;
 use token_map::clear;
+use token_map::copy_front;
 use token_map::place_tokens;
 ghost use mathlib.Core.Path.{_≡_};
 ghost use mathlib.Core.List.{_++_};
 ghost use Prim.Native.Nat.{_*_, _≤_, _<_};
-ghost use lib.ListN.{drop, length, set, take};
+ghost use lib.ListN.{drop, length, replicate, set, take};
 ghost use Rattle.context.specs.Splice.{splice};
 ghost use Rattle.keywords.specs.Table.{table};
 ghost use Rattle.layout.specs.Layout.{original};
 ghost use Rattle.layout.specs.MapCall.{Mapped, mapped};
 ghost use Rattle.layout.specs.Outcome.{Result, configOf, laidOut, outcome};
-ghost use Rattle.formatter.specs.Entry.{Fills, LaysOut, MapFills, MapFits, MapsOut, Notes, Ready, Trims, WalkedInto};
+ghost use Rattle.formatter.specs.Entry.{Fills, Holds, LaysOut, MapFits, MapsOut, Notes, Placed, Ready, Trims, WalkedInto};
 
 // Where a walk stands after a node: the place on the tape, and the context.
 pub(crate) struct Walk {
@@ -93,6 +94,38 @@ fn copy_layout(written: &[u8], out: &mut [u8], k: usize)
     out[k] = 10;
 }
 
+// The layout once 13 is decided: from a space that a walk has written to, or by one more walk.
+fn put_layout(
+    text: &[u8],
+    keywords: &[u8; TABLE_LENGTH],
+    tape: &[u8],
+    config: FormatConfig,
+    facts: &[u8],
+    space: &[u8],
+    out: &mut [u8],
+    k: usize,
+)
+    requires { ⌜ Ready (now text) (now keywords) (now tape) (now facts) config ⌝ }
+    requires { ⌜ Trims (now text) (now tape) config k × Holds (now text) (now tape) config k (now space) × (0 < k) × (k < length (now out)) ⌝ }
+    ensures { λ _. ⌜ Fills (now (text .entry)) (now (tape .entry)) config (now (out .entry)) (now (out .exit)) ⌝ }
+{
+    if k <= space.len() {
+        copy_layout(space, out, k);
+        return;
+    }
+    let mut no_map = [0u64; 1];
+    write_layout(
+        text,
+        keywords,
+        tape,
+        config,
+        facts,
+        out,
+        &mut no_map[..0],
+        k,
+    );
+}
+
 // What fits into the lent space needs one walk, and a copy once 13 is decided.
 fn layout_accepted(
     text: &[u8],
@@ -120,89 +153,56 @@ fn layout_accepted(
             value: k as u64 + 1,
         };
     }
-    if k <= space.len() {
-        copy_layout(space, out, k);
-        return Answer {
-            number: 0,
-            value: k as u64 + 1,
-        };
-    }
-    write_layout(
-        text,
-        keywords,
-        tape,
-        config,
-        facts,
-        out,
-        &mut no_map[..0],
-        k,
-    );
+    put_layout(text, keywords, tape, config, facts, space, out, k);
     Answer {
         number: 0,
         value: k as u64 + 1,
     }
 }
 
-// The layout and the map, once 13 and 17 are decided: the places are noted as the layout is written, and become lines and columns of it.
-fn write_map(
+// The layout, and the places of its tokens in the map: from what a walk has written and noted, or by one more walk.
+fn put_noted(
     text: &[u8],
     keywords: &[u8; TABLE_LENGTH],
     tape: &[u8],
     config: FormatConfig,
     facts: &[u8],
+    space: &[u8],
+    notes: &[u64],
     out: &mut [u8],
     map: &mut [u64],
     k: usize,
 )
     requires { ⌜ Ready (now text) (now keywords) (now tape) (now facts) config ⌝ }
-    requires { ⌜ Trims (now text) (now tape) config k × (0 < k) × (k < length (now out)) × MapFits (now text) (now tape) (length (now map)) ⌝ }
-    ensures { λ _. ⌜ Fills (now (text .entry)) (now (tape .entry)) config (now (out .entry)) (now (out .exit)) × MapFills (now (text .entry)) (now (tape .entry)) config (now (map .exit)) ⌝ }
+    requires { ⌜ Trims (now text) (now tape) config k × Holds (now text) (now tape) config k (now space) × (0 < k) × (k < length (now out)) ⌝ }
+    requires { ⌜ MapFits (now text) (now tape) (length (now map)) × Notes (now text) (now tape) config (replicate (length (now notes)) 0) (now notes) ⌝ }
+    ensures { λ _. ⌜ Fills (now (text .entry)) (now (tape .entry)) config (now (out .entry)) (now (out .exit)) × Placed (now (text .entry)) (now (tape .entry)) config (now (map .exit)) ⌝ }
 {
+    if map.len() <= notes.len() {
+        put_layout(text, keywords, tape, config, facts, space, out, k);
+        copy_front(map, notes);
+        return;
+    }
     clear(map);
     write_layout(text, keywords, tape, config, facts, out, map, k);
-    let end = k + 1;
-    place_tokens(map, &out[..end], k);
 }
 
-// Two numbers for each token of the tape.
-fn numbers_needed(
-    text: &[u8],
-    keywords: &[u8; TABLE_LENGTH],
-    tape: &[u8],
-    config: FormatConfig,
-    facts: &[u8],
-) -> usize
-    requires { ⌜ Ready (now text) (now keywords) (now tape) (now facts) config ⌝ }
-    ensures { λ r. ⌜ MapFits (now (text .entry)) (now (tape .entry)) r ⌝ }
-{
-    let root = skip(tape, 0);
-    2 * root.tokens
-}
-
-// The first walk only finds the length. Nothing is written before 13 and 17 are decided.
+// Nothing is written before 13 and 17 are decided. What fits into the lent space and notes needs one walk.
 fn map_accepted(
     text: &[u8],
     keywords: &[u8; TABLE_LENGTH],
     tape: &[u8],
     config: FormatConfig,
     facts: &[u8],
+    space: &mut [u8],
+    notes: &mut [u64],
     out: &mut [u8],
     map: &mut [u64],
 ) -> Answer
-    requires { ⌜ Ready (now text) (now keywords) (now tape) (now facts) config ⌝ }
+    requires { ⌜ Ready (now text) (now keywords) (now tape) (now facts) config × (now notes ≡ replicate (length (now notes)) 0) ⌝ }
     ensures { λ r. ⌜ MapsOut (now (text .entry)) (now (tape .entry)) config (now (out .entry)) (now (map .entry)) r (now (out .exit)) (now (map .exit)) ⌝ }
 {
-    let mut no_space = [0u8; 1];
-    let mut no_map = [0u64; 1];
-    let k = walk_tree(
-        text,
-        keywords,
-        tape,
-        config,
-        facts,
-        &mut no_space[..0],
-        &mut no_map[..0],
-    );
+    let k = walk_tree(text, keywords, tape, config, facts, space, notes);
     if 0 < k {
         if out.len() <= k {
             return Answer {
@@ -211,7 +211,8 @@ fn map_accepted(
             };
         }
     }
-    let count = numbers_needed(text, keywords, tape, config, facts);
+    let root = skip(tape, 0);
+    let count = 2 * root.tokens;
     if map.len() < count {
         return Answer {
             number: 17,
@@ -225,16 +226,20 @@ fn map_accepted(
             value: 0,
         };
     }
-    write_map(
+    put_noted(
         text,
         keywords,
         tape,
         config,
         facts,
+        space,
+        notes,
         out,
         &mut map[..count],
         k,
     );
+    let end = k + 1;
+    place_tokens(&mut map[..count], &out[..end], k);
     Answer {
         number: 0,
         value: k as u64 + 1,
@@ -367,7 +372,7 @@ pub fn layout(text: &[u8], tape: &[u8], width: u64, case: u64, out: &mut [u8]) -
     layout_long(text, tape, width, case, out)
 }
 
-// `facts` has room for what the check notes of each node.
+// `facts` has room for what the check notes of each node. What is walked first goes into `space` and `notes`.
 fn layout_map_in(
     text: &[u8],
     keywords: &[u8; TABLE_LENGTH],
@@ -375,10 +380,12 @@ fn layout_map_in(
     width: u64,
     case: u64,
     facts: &mut [u8],
+    space: &mut [u8],
+    notes: &mut [u64],
     out: &mut [u8],
     map: &mut [u64],
 ) -> Answer
-    requires { ⌜ (length (now tape) ≤ 262144 → length (now tape) ≤ 11 * length (now facts)) × (now keywords ≡ table) ⌝ }
+    requires { ⌜ (length (now tape) ≤ 262144 → length (now tape) ≤ 11 * length (now facts)) × (now keywords ≡ table) × (now notes ≡ replicate (length (now notes)) 0) ⌝ }
     ensures { λ r. ⌜ _≡_ {A = Mapped} (record { answer = r; space = now (out .exit); map = now (map .exit) }) (mapped width case (now (text .entry)) (now (tape .entry)) (now (out .entry)) (now (map .entry))) ⌝ }
 {
     let checked = check_call(width, case, text, tape, facts);
@@ -393,12 +400,16 @@ fn layout_map_in(
             tape,
             config_of(width, case),
             facts,
+            space,
+            notes,
             out,
             map,
         ),
     }
 }
 
+// 1,492 numbers are enough for the tokens of a tape of 8,206 bytes. No array on the stack is long enough for those of any tape, so a long tape is
+// walked twice, and what the first walk wrote would be written in vain.
 fn layout_map_short(
     text: &[u8],
     tape: &[u8],
@@ -412,7 +423,20 @@ fn layout_map_short(
 {
     let keywords = table();
     let mut facts = [0u8; 746];
-    layout_map_in(text, &keywords, tape, width, case, &mut facts, out, map)
+    let mut space = [0u8; 4096];
+    let mut notes = [0u64; 1492];
+    layout_map_in(
+        text,
+        &keywords,
+        tape,
+        width,
+        case,
+        &mut facts,
+        &mut space,
+        &mut notes,
+        out,
+        map,
+    )
 }
 
 fn layout_map_long(
@@ -427,7 +451,20 @@ fn layout_map_long(
 {
     let keywords = table();
     let mut facts = [0u8; 23832];
-    layout_map_in(text, &keywords, tape, width, case, &mut facts, out, map)
+    let mut no_space = [0u8; 1];
+    let mut no_notes = [0u64; 1];
+    layout_map_in(
+        text,
+        &keywords,
+        tape,
+        width,
+        case,
+        &mut facts,
+        &mut no_space[..0],
+        &mut no_notes[..0],
+        out,
+        map,
+    )
 }
 
 // The layout, and line and column of each token in `map`.

@@ -4,9 +4,10 @@ use native.Mathlib.Omega.{arith}
 use mathlib.Core.Path.{_≡_, refl, sym, ap, _∙_}
 use mathlib.Core.List.{List, [], _∷_, map}
 use lib.ListN.{length, getD, take, replicate, length-replicate}
+use Rattle.layout.specs.MapCall.{flat}
 use Rattle.layout.specs.TokenMap.{entry}
 use Rattle.token_map.specs.Notes.{noteAll}
-use Rattle.token_map.specs.Spots.{spots, flat}
+use Rattle.token_map.specs.Spots.{spots}
 use Rattle.token_map.proofs.Noting.{length-noteAll, noted-places}
 
 module _ (k : ℕ) (bs : List ℕ) where

@@ -15,11 +15,6 @@ spots k bs [] = []
 spots k bs (p ∷ []) = p ∷ []
 spots k bs (p ∷ q ∷ rest) = entry k bs p .line ∷ entry k bs p .column ∷ spots k bs rest
 
--- two numbers for each spot
-abbrev pub flat : List lines.Spot → List ℕ
-flat [] = []
-flat (s ∷ ss) = s .line ∷ s .column ∷ flat ss
-
 abbrev pub lineColumn : Spot → lines.Spot
 lineColumn s = record { line = s .line; column = s .column }
 

@@ -8,7 +8,7 @@ use utf8::trimmed_from_end;
 ghost use mathlib.Core.Path.{_≡_};
 ghost use mathlib.Core.Bool.{cond};
 ghost use Prim.Native.Nat.{_+_, _-_, _≤_, _<_, _^_};
-ghost use lib.ListN.{length, replicate};
+ghost use lib.ListN.{length, replicate, take};
 ghost use Rattle.token_map.specs.Signs.{placeAs, placeBy, writtenAs};
 ghost use Rattle.token_map.specs.Notes.{noteAll, noted};
 ghost use Rattle.layout.specs.Lines.{spotAt, turned};
@@ -186,6 +186,18 @@ pub fn clear(map: &mut [u64])
     let mut i: usize = 0;
     while i < map.len() {
         map[i] = 0;
+        i += 1;
+    }
+}
+
+// The first numbers of `notes`, as many as the map has.
+pub fn copy_front(map: &mut [u64], notes: &[u64])
+    requires { ⌜ length (now map) ≤ length (now notes) ⌝ }
+    ensures { λ _. ⌜ now (map .exit) ≡ take (length (now (map .entry))) (now (notes .entry)) ⌝ }
+{
+    let mut i: usize = 0;
+    while i < map.len() {
+        map[i] = notes[i];
         i += 1;
     }
 }
