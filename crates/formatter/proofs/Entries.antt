@@ -7,7 +7,7 @@ use native.Mathlib.Omega.{arith}
 use lib.ListN.{length, take, drop, set, replicate, length-map}
 use lib.Dec.{leb}
 use lib.Seq.{length-take-le, take-all, take-append-seam, take-take}
-use borrow.Author.Tests.{le-leb, lt-leb, lt-ltb}
+use borrow.Author.Tests.{le-leb, lt-leb, lt-ltb, ne-eqb}
 use Rattle.utf8.specs.Trimming.{trimmedLength}
 use Rattle.utf8.proofs.Trimming.{trimmed-le}
 use Rattle.context.specs.Cells.{Cell, bytesOf}
@@ -251,7 +251,7 @@ map-fills {text} {tape} {config} {k} {xs} {ys} {ns} {ls} trims z f o e =
 
 no-spot : (p : ℕ) (bs : List ℕ) → entry 0 bs p ≡ noSpot
 no-spot zero bs = refl
-no-spot (suc p) bs = rw (lt-ltb 0 (suc p) (omega arith))
+no-spot (suc p) bs = rw (ne-eqb (suc p) 0 (λ e. omega (arith, e)), lt-ltb 0 (suc p) (omega arith))
 
 no-spots : (bs ps : List ℕ) → replicate (2 * length ps) 0 ≡ flat (map (entry 0 bs) ps)
 no-spots bs [] = refl
