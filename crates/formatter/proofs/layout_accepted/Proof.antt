@@ -34,7 +34,7 @@ unfolding format
 returns-2 c = let a = c .before .before .before .before .before .before .before .before .before .before .before .before .before .args in let w = c .before .before .before .before .before .walk-tree in record { all = λ t p q. laid-short (allCells (a .config) (a .text .now) t) (w .result) (w .ensures .trims .all t p q) (a .out .now) (c .before .if1 .left) (c .if2 .taken) }
 
 put-layout-requires : tie.Need-put-layout-requires
-put-layout-requires c κs = let w = c .before .before .before .before .before .before .before .walk-tree in (c .before .before .before .before .before .before .before .before .before .before .before .before .before .before .before .pre, w .ensures .trims, holds (w .ensures) (w .kept .1 .1 .1 .1 .1 .0), omega (arith, c .before .before .before .if1 .left), omega (arith, c .before .before .if2 .left))
+put-layout-requires c κs = let w = c .before .before .before .before .before .before .before .walk-tree in (c .before .before .before .before .before .before .before .before .before .before .before .before .before .before .before .pre, (w .ensures .trims, holds (w .ensures) (w .kept .1 .1 .1 .1 .1 .0), omega (arith, c .before .before .before .if1 .left), omega (arith, c .before .before .if2 .left)))
 
 add-t24 : tie.Need-add-t24
 add-t24 c = search needs

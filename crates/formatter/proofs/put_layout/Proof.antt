@@ -21,7 +21,7 @@ slice-aggregate-write-layout : tie.Need-slice-aggregate-write-layout
 slice-aggregate-write-layout c = search needs
 
 write-layout-requires : tie.Need-write-layout-requires
-write-layout-requires c κs = let p = c .before .before .before .before .before .before .before .before .pre in (p .0, p .1 .0, p .1 .2, p .1 .3)
+write-layout-requires c κs = let p = c .before .before .before .before .before .before .before .before .pre in (p .0, (p .1 .0, p .1 .2, p .1 .3))
 
 same-length-2 : tie.Need-same-length-2
 same-length-2 c = search needs

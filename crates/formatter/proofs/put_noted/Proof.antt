@@ -29,7 +29,7 @@ clear-requires : tie.Need-clear-requires
 clear-requires c κs = search needs
 
 write-layout-requires : tie.Need-write-layout-requires
-write-layout-requires c κs = let p = c .before .before .before .before .before .before .before .before .before .before .before .before .before .before .pre in (p .0, p .1 .0 .0, p .1 .0 .2, p .1 .0 .3)
+write-layout-requires c κs = let p = c .before .before .before .before .before .before .before .before .before .before .before .before .before .before .pre in (p .0, (p .1 .0 .0, p .1 .0 .2, p .1 .0 .3))
 
 same-length-3 : tie.Need-same-length-3
 same-length-3 c = search needs
