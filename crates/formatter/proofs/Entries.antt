@@ -214,6 +214,9 @@ map-fits r s =
 pub tokens-few : {text keywords tape facts : List ℕ} {config : FormatConfig} {j : Passed} → Ready text keywords tape facts config → Skipped tape 0 j → j .tokens ≤ length tape
 tokens-few r s = let a = r .accepted in omega (arith, s .counted _ (a .tree .kids) (a .kids), tokens-size (a .tree .kids), a .whole)
 
+pub notes-over : {text tape : List ℕ} {config : FormatConfig} {ms us ns : List ℕ} → ms ≡ us → Notes text tape config ms ns → Notes text tape config us ns
+notes-over {text} {tape} {config} {ns = ns} e n = subst (λ (z : List ℕ). Notes text tape config z ns) e n
+
 -- what was noted over zeros, as many as the map has
 pub placed : {text tape : List ℕ} {config : FormatConfig} {m n : ℕ} {ns : List ℕ} → MapFits text tape m → m ≤ n → Notes text tape config (replicate n 0) ns → Placed text tape config (take m ns)
 placed {text} {tape} {config} {m} {n} {ns} f l o =

@@ -206,7 +206,16 @@ fn put_map(
     ensures { λ _. ⌜ Fills (now (text .entry)) (now (tape .entry)) config (now (out .entry)) (now (out .exit)) × MapFills (now (text .entry)) (now (tape .entry)) config (now (map .exit)) ⌝ }
 {
     put_noted(
-        text, keywords, tape, config, facts, space, notes, out, map, k,
+        text,
+        keywords,
+        tape,
+        config,
+        facts,
+        space,
+        notes,
+        out,
+        map,
+        k,
     );
     let end = k + 1;
     place_tokens(map, &out[..end], k);

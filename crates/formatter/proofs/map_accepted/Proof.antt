@@ -2,13 +2,12 @@
 use borrow.Author.Needs.{needs}
 use native.Mathlib.Omega.{arith}
 use mathlib.Core.Path.{_∙_, ap, subst, sym}
-use mathlib.Core.List.{List}
 use mathlib.Core.Logic.{⊎-elim}
 use Prim.Native.Nat.{ℕ, _*_}
-use lib.ListN.{length, replicate}
+use lib.ListN.{replicate}
 use lib.Seq.{length-take-le}
-use Rattle.formatter.proofs.Entries.{holds, laid-length, map-done, map-few, map-fits, map-short, none-fills, none-length, none-map, root-at, tokens-few}
-use Rattle.formatter.specs.Entry.{MapFills, MapFits, Notes}
+use Rattle.formatter.proofs.Entries.{holds, laid-length, map-done, map-few, map-fits, map-short, none-fills, none-length, none-map, notes-over, root-at, tokens-few}
+use Rattle.formatter.specs.Entry.{MapFills, MapFits}
 use Rattle.formatter.proofs.map_accepted.Statement.{statement}
 use Rattle.formatter.proofs.map_accepted.Tie as tie
 
@@ -70,7 +69,7 @@ slice-aggregate-put-map : tie.Need-slice-aggregate-put-map
 slice-aggregate-put-map c = let a = c .before .before .before .before .before .before .before .before .before .before .before .before .before .before .before .before .before .before .before .before .before .before .before .args in sym (length-take-le (2 * c .before .before .before .before .before .before .before .skip .result .tokens) (a .map .now) (omega (arith, c .before .before .before .before .before .if3 .left)))
 
 put-map-requires : tie.Need-put-map-requires
-put-map-requires c κs = let a = c .before .before .before .before .before .before .before .before .before .before .before .before .before .before .before .before .before .before .before .before .before .before .before .args in let w = c .before .before .before .before .before .before .before .before .before .before .before .before .before .walk-tree in (c .before .before .before .before .before .before .before .before .before .before .before .before .before .before .before .before .before .before .before .before .before .before .before .pre .0, ((w .ensures .trims, holds (w .ensures) (w .kept .1 .1 .1 .1 .1 .0), omega (arith, c .before .before .before .before .if4 .left), (λ z. ⊎-elim (λ w. omega (arith, w .1 .left)) (λ w. omega (arith, w .left, z)) (c .before .before .before .before .before .before .before .before .if1 .came)) (omega (arith, c .before .before .before .before .if4 .left))), (subst (MapFits _ _) (sym (length-take-le (2 * c .before .before .before .before .before .before .before .skip .result .tokens) (a .map .now) (omega (arith, c .before .before .before .before .before .if3 .left)))) (map-fits (c .before .before .before .before .before .before .before .before .before .before .before .before .before .before .before .before .before .before .before .before .before .before .before .pre .0) (c .before .before .before .before .before .before .before .skip .ensures)), subst (λ (z : List ℕ). Notes (a .text .now) (a .tape .now) (a .config) z _) (c .before .before .before .before .before .before .before .before .before .before .before .before .before .before .before .before .before .before .before .before .before .before .before .pre .1 ∙ ap (λ (n : ℕ). replicate n 0) (sym (w .kept .1 .1 .1 .1 .1 .1 .0))) (w .ensures .notes))))
+put-map-requires c κs = let a = c .before .before .before .before .before .before .before .before .before .before .before .before .before .before .before .before .before .before .before .before .before .before .before .args in let w = c .before .before .before .before .before .before .before .before .before .before .before .before .before .walk-tree in (c .before .before .before .before .before .before .before .before .before .before .before .before .before .before .before .before .before .before .before .before .before .before .before .pre .0, ((w .ensures .trims, holds (w .ensures) (w .kept .1 .1 .1 .1 .1 .0), omega (arith, c .before .before .before .before .if4 .left), ⊎-elim (λ w. omega (arith, w .1 .left)) (λ w. omega (arith, w .left, c .before .before .before .before .if4 .left)) (c .before .before .before .before .before .before .before .before .if1 .came)), (subst (MapFits _ _) (sym (length-take-le (2 * c .before .before .before .before .before .before .before .skip .result .tokens) (a .map .now) (omega (arith, c .before .before .before .before .before .if3 .left)))) (map-fits (c .before .before .before .before .before .before .before .before .before .before .before .before .before .before .before .before .before .before .before .before .before .before .before .pre .0) (c .before .before .before .before .before .before .before .skip .ensures)), notes-over (c .before .before .before .before .before .before .before .before .before .before .before .before .before .before .before .before .before .before .before .before .before .before .before .pre .1 ∙ ap (λ (n : ℕ). replicate n 0) (sym (w .kept .1 .1 .1 .1 .1 .1 .0))) (w .ensures .notes))))
 
 add-t37 : tie.Need-add-t37
 add-t37 c = let t = c .before .before .before .before .before .before .before .before .before .before .before .before .before .before .before .before .before .before .walk-tree .ensures .trims .short in omega (arith, t)

@@ -1,12 +1,9 @@
 -- `put_noted` meets its contract.
 use borrow.Author.Needs.{needs}
 use native.Mathlib.Omega.{arith}
-use mathlib.Core.Path.{_∙_, ap, subst, sym}
-use mathlib.Core.List.{List}
-use Prim.Native.Nat.{ℕ}
-use lib.ListN.{length, replicate}
-use Rattle.formatter.proofs.Entries.{placed, placed-all}
-use Rattle.formatter.specs.Entry.{Notes, Placed}
+use mathlib.Core.Path.{_∙_, subst, sym}
+use Rattle.formatter.proofs.Entries.{notes-over, placed, placed-all}
+use Rattle.formatter.specs.Entry.{Placed}
 use Rattle.formatter.proofs.put_noted.Statement.{statement}
 use Rattle.formatter.proofs.put_noted.Tie as tie
 
@@ -38,7 +35,7 @@ same-length-4 : tie.Need-same-length-4
 same-length-4 c = search needs
 
 returns-2 : tie.Need-returns-2
-returns-2 c = let a = c .before .before .before .before .before .before .before .before .before .before .before .before .before .before .before .before .before .before .before .args in let p = c .before .before .before .before .before .before .before .before .before .before .before .before .before .before .before .before .before .before .before .pre in (c .before .before .before .before .write-layout .ensures .0, placed-all (p .1 .1 .0) (c .before .before .before .before .write-layout .kept .1 .1 .1 .1 .1 .1 .0 ∙ c .before .before .before .before .before .before .before .before .before .clear .kept .0) (subst (λ (z : List ℕ). Notes (a .text .now) (a .tape .now) (a .config) z _) (c .before .before .before .before .before .before .before .before .before .clear .ensures) (c .before .before .before .before .write-layout .ensures .1)))
+returns-2 c = let p = c .before .before .before .before .before .before .before .before .before .before .before .before .before .before .before .before .before .before .before .pre in (c .before .before .before .before .write-layout .ensures .0, placed-all (p .1 .1 .0) (c .before .before .before .before .write-layout .kept .1 .1 .1 .1 .1 .1 .0 ∙ c .before .before .before .before .before .before .before .before .before .clear .kept .0) (notes-over (c .before .before .before .before .before .before .before .before .before .clear .ensures) (c .before .before .before .before .write-layout .ensures .1)))
 
 pub put-noted-spec : {M : Type 1} → statement M
 put-noted-spec = tie.close (tie.spec put-layout-requires copy-front-requires same-length same-length-2 returns clear-requires write-layout-requires same-length-3 same-length-4 returns-2)
