@@ -238,7 +238,7 @@ fn map_accepted(
 {
     let k = walk_tree(text, keywords, tape, config, facts, space, notes);
     if 0 < k {
-        if out.len() <= k {
+        if k >= out.len() {
             return Answer {
                 number: 13,
                 value: k as u64 + 1,

@@ -23,7 +23,7 @@ same-length-4 : tie.Need-same-length-4
 same-length-4 c = search needs
 
 returns : tie.Need-returns
-returns c = ?
+returns c = let a = c .before .before .before .before .before .before .before .before .before .before .before .before .before .before .before .before .before .before .before .before .before .args in maps-both (a .a .now) (a .b .now) (a .tape .now) (a .width) (a .case) _ (a .out-a .now) (a .out-b .now) (a .map-a .now) (a .map-b .now) (c .before .before .before .before .before .before .before .before .before .before .before .layout-map .ensures) (c .before .before .before .before .layout-map2 .ensures)
 
 pub layout-map-both-spec : {M : Type 1} → statement M
 layout-map-both-spec =
