@@ -69,9 +69,20 @@ WEAKENINGS = {
     ],
     "laying out both texts asks what demand 3 asks, and not less": [
         (BOTH, LAYOUT_MASKED, "  pub masked : MaskedPair width case a b tape → xs ≡ us\n"),
-        (BOTH, "Masking.{MaskedPairForLayout, ", "Masking.{MaskedPair, MaskedPairForLayout, "),
         (BOTH_PROOF, LAYOUT_PROOF, LAYOUT_PROOF.replace("tape m xs", "tape (pair-for-layout width case a b tape m) xs")),
         (BOTH_PROOF, "TwoCalls.{masking-original, ", "TwoCalls.{masking-original, pair-for-layout, "),
+    ],
+    "the map call from C asks for an empty text": [
+        (
+            "qdesk/src/lib.rt",
+            "    ensures { λ r. ⌜ _≡_ {A = Mapped}",
+            "    requires { ⌜ length (now text) ≡ 0 ⌝ }\n    ensures { λ r. ⌜ _≡_ {A = Mapped}",
+        ),
+        LENGTH,
+    ],
+    "both map calls say nothing of the maps where less than demand 3 asks is met": [
+        (BOTH, "      × (SameLines a b → ns ≡ os)\n", ""),
+        (BOTH_PROOF, "              λ w. ap (λ (z : Mapped). z .map) p ∙ k .maps w ∙ sym (ap (λ (z : Mapped). z .map) q′),\n", ""),
     ],
     "two reports say nothing of the tallies": [
         (BOOKS, "xs ≡ us → (r .first ≡ r .second) ×", "xs ≡ us → (r .first .put ≡ r .second .put) ×"),
