@@ -6,12 +6,12 @@ use Prim.Native.Nat.{ℕ, zero, suc, _+_, _-_}
 use native.Mathlib.Omega.{arith}
 use lib.ListN.{length, take, drop, replicate, length-replicate}
 use lib.Dec.{eqb}
-use Rattle.context.specs.Cells.{count}
+use Rattle.context.specs.Cells.{Text, count}
 use Rattle.layout.specs.declared.Answer.{Answer}
 use Rattle.layout.specs.Layout.{original}
 use Rattle.layout.specs.Outcome.{Outcome, Result, laidOut, outcome}
-use Rattle.layout.specs.Masking.{SameLines}
-use Rattle.layout.proofs.TwoCalls.{demand-3}
+use Rattle.layout.specs.Masking.{MaskedPairForLayout, SameLines, AlikeByLines}
+use Rattle.layout.proofs.TwoCalls.{masking-original, demand-3}
 use Rattle.desk_job.specs.declared.Header.the-variants.{Accepted}
 use Rattle.desk_job.specs.Job.{Answered, refused, text, readHeader, answeredOutcome, answeredJob as answeredBy, leaves}
 use Rattle.desk_job.proofs.Printing.{Fits, outcome-fits, laid-leaves}
@@ -62,24 +62,38 @@ outcomes-alike x y space e h =
     (sym (ap (λ (r : Result). r .answer) p) ∙ e ∙ ap (λ (r : Result). r .answer) q)
     (subst₂ SameLines (ap (λ (r : Result). r .space) p) (ap (λ (r : Result). r .space) q) h)
 
--- ── of two masked jobs
+-- ── of two jobs with one header and one tape
 
-module _ (a b : List ℕ) (width case end : ℕ) (m : MaskedJob a b width case end) where
+module _ (a b : List ℕ) (width case end : ℕ) (headerA : readHeader false a ≡ Accepted width case end) (headerB : readHeader false b ≡ Accepted width case end)
+    (sameTape : drop end a ≡ drop end b) where
+  abbrev textOf : List ℕ → Text
+  textOf job = take (end - 9) (drop 9 job)
+
+  -- of a job's text on the first job's tape
   abbrev outcomeOf : List ℕ → Outcome
-  outcomeOf job = outcome original width case (take (end - 9) (drop 9 job)) (drop end job)
+  outcomeOf job = outcome original width case (textOf job) (drop end a)
 
-  tape-moved : outcomeOf b ≡ outcome original width case (take (end - 9) (drop 9 b)) (drop end a)
-  tape-moved = ap (outcome original width case (take (end - 9) (drop 9 b))) (sym (m .sameTape))
+  abbrev space : List ℕ
+  space = replicate 65536 0
 
-  pub masked-answers : AnswersAlike (answeredJob a) (answeredJob b)
+  tape-moved : outcome original width case (textOf b) (drop end b) ≡ outcomeOf b
+  tape-moved = ap (outcome original width case (textOf b)) (sym sameTape)
+
+  by-lines : AlikeByLines (textOf a) (textOf b) (outcomeOf a) (outcomeOf b) space → AnswersAlike (answeredJob a) (answeredJob b)
   unfolding answeredJob answeredBy
-  masked-answers =
-      let space : List ℕ = replicate 65536 0 in
-      let k = demand-3 width case (take (end - 9) (drop 9 a)) (take (end - 9) (drop 9 b)) (drop end a) (m .texts) space in
-      let alike = outcomes-alike (outcomeOf a) (outcome original width case (take (end - 9) (drop 9 b)) (drop end a)) space (k .alike .answers) (k .lines) in
-      let h : readHeader false a ≡ Accepted width case end = m .headerA in
-      let g : readHeader false b ≡ Accepted width case end = m .headerB in
-      rw (h, g, tape-moved) (subst (λ (n : ℕ). AnswersAlike (answeredOutcome (outcomeOf a) n) (answeredOutcome (outcome original width case (take (end - 9) (drop 9 b)) (drop end a)) n)) (length-replicate {A = ℕ} 65536 0) alike)
+  by-lines k =
+      let alike = outcomes-alike (outcomeOf a) (outcomeOf b) space (k .alike .answers) (k .lines) in
+      rw (headerA, headerB, tape-moved) (subst (λ (n : ℕ). AnswersAlike (answeredOutcome (outcomeOf a) n) (answeredOutcome (outcomeOf b) n)) (length-replicate {A = ℕ} 65536 0) alike)
+
+  -- less than a masked pair is enough: what a layout needs, and newlines at the same places
+  pub answers-for-layout : MaskedPairForLayout width case (textOf a) (textOf b) (drop end a) → SameLines (textOf a) (textOf b) → AnswersAlike (answeredJob a) (answeredJob b)
+  answers-for-layout m same =
+      let k = masking-original width case (textOf a) (textOf b) (drop end a) m space in by-lines (record { alike = k; lines = k .lines same })
+
+pub masked-answers : (a b : List ℕ) (width case end : ℕ) → MaskedJob a b width case end → AnswersAlike (answeredJob a) (answeredJob b)
+masked-answers a b width case end m =
+    by-lines a b width case end (m .headerA) (m .headerB) (m .sameTape)
+    (demand-3 width case (take (end - 9) (drop 9 a)) (take (end - 9) (drop 9 b)) (drop end a) (m .texts) (replicate 65536 0))
 
 told-alike : (x y : Answered) → AnswersAlike x y → toldOf x ≡ toldOf y
 unfolding toldOf
