@@ -61,10 +61,5 @@ pub fn layout_twice(
 ) -> Answers
     ensures { λ r. ⌜ LaysOutTwice (now (text .entry)) (now (tape .entry)) width case (now («out_a» .entry)) (now («out_b» .entry)) r (now («out_a» .exit)) (now («out_b» .exit)) ⌝ }
 {
-    let first = layout(text, tape, width, case, out_a);
-    let second = layout(text, tape, width, case, out_b);
-    Answers {
-        first: first,
-        second: second,
-    }
+    layout_both(text, text, tape, width, case, out_a, out_b)
 }
