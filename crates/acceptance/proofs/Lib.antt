@@ -1,4 +1,5 @@
 -- From what the calls promise to the demands.
 pub mod Demands
 pub mod Requests
+pub mod Maps
 pub mod Reports
