@@ -10,16 +10,18 @@ use Rattle.keywords.specs.declared.Place.{Place}
 use Rattle.keywords.specs.declared.Place.the-variants.{At, Nowhere}
 use Rattle.keywords.specs.declared.Word.{Word}
 use Rattle.keywords.specs.declared.Word.the-variants.{Plain, Value, Keyword}
-use Rattle.context.specs.Cells.{Text, Origin, count, fresh}
+use Rattle.context.specs.Cells.{Text, Origin, from, Cell, count, fresh}
 use Rattle.context.specs.Alike.{Agree}
 use Rattle.context.specs.Context.{newState}
 use Rattle.tape.specs.declared.Fault.{Fault as TapeFault}
 use Rattle.tape.specs.Faults.{number}
-use Rattle.tape.specs.Tree.{Tree, tokens}
+use Rattle.tape.specs.declared.Head.{Head}
+use Rattle.tape.specs.Tree.{Children, done, token, node, Tree, tokens, copied}
 use Rattle.tape.specs.Tape.{got, refused as refusedFor}
 use Rattle.tape.specs.Call.{readCall}
 use Rattle.layout.specs.declared.Answer.{Answer}
-use Rattle.layout.specs.Layout.{original}
+use Rattle.layout.specs.Arms.{Sign, signByte}
+use Rattle.layout.specs.Layout.{original, format}
 use Rattle.layout.specs.Outcome.{Result, answer, configOf, laidOut, namesLength, outcome}
 use Rattle.layout.specs.TokenMap.{placesFrom}
 use Rattle.layout.specs.Masking.{MaskedPair, AsciiPair, MaskedPairForLayout, SameLines}
@@ -64,6 +66,24 @@ twoPerToken t = 2 * length (tokens (t .kids))
 abbrev pub firstBytes : ℕ → ℕ → Text → Tree → List ℕ
 firstBytes width case text t = placesFrom (configOf width case) text (original .pick) t (newState, 0)
 
+-- the token i of the tape, counted from 0
+abbrev pub tokenAt : Tree → ℕ → Head
+tokenAt t i = getD (tokens (t .kids)) i (record { kind = 0; start = 0; end = 0; at = 0 })
+
+-- a byte of the output that is a token's first byte: copied from the token's start, or a fixed sign
+pub data FirstByte (h : Head) (c : Cell) : Type 0 where
+  ofText : c .origin ≡ from (h .start) → FirstByte h c
+  ofSign : (x : Sign) → c ≡ fresh (signByte x) → FirstByte h c
+
+-- which tokens lie below a node copied as typed, in the order of the tape
+unfoldable pub belowCopied : Children → List Bool
+belowCopied done = []
+belowCopied (token h rest) = false ∷ belowCopied rest
+belowCopied (node h kids rest) = cond (copied (h .kind) kids) (map (λ (x : Head). true) (tokens kids)) (belowCopied kids) ++ belowCopied rest
+
+abbrev pub belowCopiedOf : Tree → List Bool
+belowCopiedOf t = cond (copied (t .head .kind) (t .kids)) (map (λ (x : Head). true) (tokens (t .kids))) (belowCopied (t .kids))
+
 -- of one call with a map; the output space holds `before` and then `after`, the map space `mapBefore` and then `mapAfter`
 module _ (width case : ℕ) (text : Text) (tape before mapBefore : List ℕ) (r : Answer) (after mapAfter : List ℕ) where
   -- the two numbers of token i, counted from 0
@@ -79,8 +99,13 @@ module _ (width case : ℕ) (text : Text) (tape before mapBefore : List ℕ) (r 
     -- stand before it in the output, whose last newline is no token's
     pub places : (i n : ℕ) → getD (firstBytes width case text t) i 0 ≡ suc n → suc n < length (formatted width case text t)
         → Numbers i (1 + count 10 (take n (formatted width case text t))) (1 + length (lastLine (take n (formatted width case text t))))
+    -- "its first byte"; "A fixed sign written for a token counts as its byte."
+    pub first : (i n : ℕ) → getD (firstBytes width case text t) i 0 ≡ suc n → suc n < length (formatted width case text t)
+        → FirstByte (tokenAt t i) (getD (format original (configOf width case) text t) n (fresh 0))
     -- "A token that isn't written, lies below a node copied as typed, has empty text, or loses all its bytes to trimming gets 0 and 0."
     pub noPlace : (i : ℕ) → i < length (tokens (t .kids)) → getD (firstBytes width case text t) i 0 ≡ 0 → Numbers i 0 0
+    pub belowCopy : (i : ℕ) → i < length (tokens (t .kids)) → getD (belowCopiedOf t) i false ≡ true → Numbers i 0 0
+    pub emptyText : (i : ℕ) → i < length (tokens (t .kids)) → (tokenAt t i) .start ≡ (tokenAt t i) .end → Numbers i 0 0
     pub trimmed : (i : ℕ) → i < length (tokens (t .kids)) → length (formatted width case text t) ≤ getD (firstBytes width case text t) i 0 → Numbers i 0 0
     -- "map numbers past the last token's are untouched"
     pub past : drop (twoPerToken t) mapAfter ≡ drop (twoPerToken t) mapBefore
