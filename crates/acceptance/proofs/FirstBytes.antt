@@ -7,7 +7,7 @@ use native.Mathlib.Omega.{arith}
 use lib.ListN.{length, getD, take, drop, replicate, length-append, length-take, List·getD-append}
 use lib.Seq.{drop-cons, getD-at, getD-take}
 use lib.Dec.{eqb}
-use borrow.Author.Tests.{eqb-true, eqb-false}
+use borrow.Author.Tests.{eqb-false}
 use Rattle.context.specs.Cells.{Text, Cell, from, fresh, copiedFrom, spanCells, cellInCase, tokenText}
 use Rattle.context.specs.Context.{newState, writeToken, writeKeyword, endLine, trimEnd, finish}
 use Rattle.context.specs.declared.FormatConfig.{FormatConfig}

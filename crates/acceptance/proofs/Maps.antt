@@ -1,5 +1,5 @@
 -- Request E3 follows from the definition of the call with a map: lines and columns in the document's words, and the masking rule for two calls.
-use mathlib.Core.Path.{_≡_, refl, sym, ap, subst, _∙_}
+use mathlib.Core.Path.{_≡_, refl, sym, ap, _∙_}
 use mathlib.Core.Bool.{Bool, true, false, cond}
 use mathlib.Core.List.{List, [], _∷_, _++_}
 use Prim.Native.Nat.{ℕ, zero, suc, _+_, _-_, _*_, _≤_, _<_}
@@ -20,9 +20,9 @@ use Rattle.tape.specs.Call.{readCall}
 use Rattle.layout.specs.declared.Answer.{Answer}
 use Rattle.layout.specs.Layout.{written, original, piecesOf, format}
 use Rattle.layout.specs.Outcome.{Outcome, laid, answer, configOf, outcome}
-use Rattle.layout.specs.Lines.{Spot, firstSpot, turned, spotAfter, spotAt}
+use Rattle.layout.specs.Lines.{Spot, firstSpot, spotAfter, spotAt}
 use Rattle.layout.specs.TokenMap.{noSpot, entry, tokenMap}
-use Rattle.layout.specs.Masking.{MaskedPair, MaskedPairForLayout, SameLines}
+use Rattle.layout.specs.Masking.{MaskedPairForLayout, SameLines}
 use Rattle.layout.specs.MapCall.{flat, numbersOf, numbers, Mapped, mapFitted, mappedAs, mapped, mapCellsAfter}
 use Rattle.layout.proofs.AsciiPairs.{ascii-pair}
 use Rattle.layout.proofs.TwoCalls.{pair-for-layout}
