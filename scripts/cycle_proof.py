@@ -102,7 +102,9 @@ NODE_ANSWERS = {
     "head-at-requires": "@pre .1 .0 .inside",
     "skip-requires": "opened-at (@pre .1 .0)",
     "format-error-verbatim-requires": "copy-ready (@pre .1 .0) (@head-at .ensures)",
+    "note-none-requires": "search needs",
     "same-length": "@format-error-verbatim .kept .1 .1 .0",
+    "same-length-of-map": "@note-none .kept .0",
     "returns": "node-copied (@pre .1 .0) (@pre .1 .1) (@head-at .ensures) (decided-copied (@pre .1 .0) (@pre .1 .1) (@has-error .ensures) (@if1 .taken) (@if2 .taken)) (@skip .ensures) "
     "(@format-error-verbatim .ensures) (@note-none .ensures)",
     "routine-of-requires": "search needs",
@@ -111,6 +113,7 @@ NODE_ANSWERS = {
     "CALL-requires": "(omega (arith, @pre .0), @pre .1 .0)",
     "list-by-requires": "(omega (arith, @pre .0), (@pre .1 .0, is-list _ _ (sym (@r .given .1) ∙ @routine-of .ensures)))",
     "CALL-same-length": "@{called} .kept .1 .1 .1 .1 .1 .0",
+    "CALL-same-length-of-map": "@{called} .kept .1 .1 .1 .1 .1 .1 .0",
     "CALL-returns": "node-by {variant} (@pre .1 .1) (⊎-elim (λ w. decided-list (@pre .1 .0) (@pre .1 .1) (w .1 .left)) "
     "(λ w. decided-clean (@pre .1 .0) (@pre .1 .1) (@has-error .ensures) (w .left)) (@if1 .came)) (sym (@{told} .given .1) ∙ @routine-of .ensures) (@{called} .ensures)",
 }
@@ -249,7 +252,10 @@ def routine_answer(routine, need):
 
 def node_answer(routine, need, members, variants):
     """The answer to a need of the dispatch, its pieces, and the names to unfold."""
-    trail, kind = routine.trail(need), re.sub(r"-\d+$", "", need)
+    trail, kind, place = routine.trail(need), *re.fullmatch(r"(.*?)(?:-(\d+))?", need).groups("1")
+    # after each call the length of `out`, then that of `map`
+    if kind == "same-length" and int(place) % 2 == 0:
+        kind = "same-length-of-map"
     called = next((thing for thing in trail if thing.rstrip("0123456789") in members), None)
     if called:
         told = next(thing for thing in trail if thing.startswith("enum-told") or thing == "r")

@@ -15,6 +15,9 @@ BOTH, BOTH_PROOF = "two_calls/specs/Both.antt", "two_calls/proofs/Both.antt"
 LAYOUT_MASKED = "  pub masked : MaskedPairForLayout width case a b tape → xs ≡ us\n"
 LAYOUT_PROOF = "            λ m e.\n            let k = masking-original width case a b tape m xs in\n"
 
+BOOKS, BOOKS_PROOF = "two_books/specs/Both.antt", "two_books/proofs/MaskedReports.antt"
+BOOKS_SECOND = "  pub second : _≡_ {A = Called} (record { end = r .second .put; space = zs; work = vb; tally = r .second .tally }) (reported more b t wb us)\n"
+
 LENGTH = ("qdesk/src/lib.rt", "ghost use mathlib.Core.Path.{_≡_};\n", "ghost use mathlib.Core.Path.{_≡_};\nghost use lib.ListN.{length};\n")
 
 # What is weakened, and the edits that do it: a file, the text that stands there once, and what stands there instead.
@@ -69,6 +72,14 @@ WEAKENINGS = {
         (BOTH, "Masking.{MaskedPairForLayout, ", "Masking.{MaskedPair, MaskedPairForLayout, "),
         (BOTH_PROOF, LAYOUT_PROOF, LAYOUT_PROOF.replace("tape m xs", "tape (pair-for-layout width case a b tape m) xs")),
         (BOTH_PROOF, "TwoCalls.{masking-original, ", "TwoCalls.{masking-original, pair-for-layout, "),
+    ],
+    "two reports say nothing of the tallies": [
+        (BOOKS, "xs ≡ us → (r .first ≡ r .second) ×", "xs ≡ us → (r .first .put ≡ r .second .put) ×"),
+        (BOOKS_PROOF, "λ m same. (one-answer m same, ", "λ m same. (one-end m same, "),
+    ],
+    "two reports say nothing of the second alone": [
+        (BOOKS, BOOKS_SECOND, ""),
+        (BOOKS_PROOF, "{ first = p; second = q; masked", "{ first = p; masked"),
     ],
     "printing a job asks for an empty job": [
         (

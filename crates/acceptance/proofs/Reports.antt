@@ -78,10 +78,12 @@ module _ (more : Bool) (book : List ℕ) (held : Tally) (work before : List ℕ)
         empty = λ f e. empty-put (empty-opened more book f e);
       }
 
-pub same-report : {wa wb va vb : List ℕ} (more : Bool) (a b : List ℕ) (t : Tally) (xs us : List ℕ) (r : Reports) (ys zs : List ℕ)
-    → ReportsBoth more a b t wa wb xs us r va vb ys zs → SameReport more a b xs us r ys zs
-same-report more a b t xs us r ys zs h =
+pub same-report : {va vb : List ℕ} (more : Bool) (a b : List ℕ) (t : Tally) (wa wb xs us : List ℕ) (r : Reports) (ys zs : List ℕ)
+    → ReportsBoth more a b t wa wb xs us r va vb ys zs → SameReport more a b t xs us r ys zs
+same-report {va} {vb} more a b t wa wb xs us r ys zs h =
     record {
+      callA = report-over more a t wa xs (r .first) ys va (h .first);
+      callB = report-over more b t wb us (r .second) zs vb (h .second);
       put = λ m e. ap (λ (x : Reported). x .put) (h .masked m e .0);
       bytes = λ m e. h .masked m e .1;
       tally = λ m e. ap (λ (x : Reported). x .tally) (h .masked m e .0);

@@ -198,7 +198,10 @@ module _ (more : Bool) (book : List ℕ) (held : Tally) (before : List ℕ) (r :
 
 -- E7: "Two books that differ only as the masking rule allows, in any number of jobs at the same time, must give the same report byte for byte",
 -- and the same tally; the output spaces hold beforeA and beforeB, and then afterA and afterB
-pub record SameReport (more : Bool) (a b beforeA beforeB : List ℕ) (r : Reports) (afterA afterB : List ℕ) : Type 0 where
+pub record SameReport (more : Bool) (a b : List ℕ) (held : Tally) (beforeA beforeB : List ℕ) (r : Reports) (afterA afterB : List ℕ) : Type 0 where
+  -- each call is the one that E6 speaks of
+  pub callA : ReportOver more a held beforeA (r .first) afterA
+  pub callB : ReportOver more b held beforeB (r .second) afterB
   pub put : MaskedBooks more a b → beforeA ≡ beforeB → r .first .put ≡ r .second .put
   pub bytes : MaskedBooks more a b → beforeA ≡ beforeB → afterA ≡ afterB
   pub tally : MaskedBooks more a b → beforeA ≡ beforeB → r .first .tally ≡ r .second .tally

@@ -191,7 +191,7 @@ pub fn request_7(
     out_a: &mut [u8],
     out_b: &mut [u8],
 ) -> Reports
-    ensures { λ r. ⌜ SameReport more (now (a .entry)) (now (b .entry)) (now («out_a» .entry)) (now («out_b» .entry)) r (now («out_a» .exit)) (now («out_b» .exit)) ⌝ }
+    ensures { λ r. ⌜ SameReport more (now (a .entry)) (now (b .entry)) tally (now («out_a» .entry)) (now («out_b» .entry)) r (now («out_a» .exit)) (now («out_b» .exit)) ⌝ }
 {
     report_both(a, b, more, tally, work_a, work_b, out_a, out_b)
 }

@@ -5,5 +5,6 @@ pub mod Stepping
 pub mod Reporting
 pub mod Looping
 pub mod Totals
+pub mod WholeReport
 pub mod SmallBooks
 pub mod Again

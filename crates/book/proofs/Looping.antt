@@ -86,9 +86,9 @@ opened-at false false book count l e =
     let z : count - 0 ≡ count = omega arith in
     record { short = ltb-false 65536 (length book) l; few = omega (arith, c .allowed); whole = rw z at (c .whole) }
 
-opened-walked : (more : Bool) (book : List ℕ) (count : ℕ) → opened more book ≡ Jobs count → Walked book count
+pub walked : (more : Bool) (book : List ℕ) (count : ℕ) → opened more book ≡ Jobs count → Walked book count
 unfolding opened
-opened-walked more book count e = opened-at more (ltb 65536 (length book)) book count refl e
+walked more book count e = opened-at more (ltb 65536 (length book)) book count refl e
 
 -- ── each time the loop is reached
 
@@ -104,7 +104,7 @@ module _ (more : Bool) (book : List ℕ) (lent : Tally) (bench start : List ℕ)
   unfolding begun
   begun-ready (Fault n p) e l = absurd (omega (arith, l))
   begun-ready (Jobs count) e l =
-      let w = opened-walked more book count e in
+      let w = walked more book count e in
       record { some = l; short = w .short; whole = w .whole; within = omega arith; jobs = omega (arith, w .few); refused = omega arith; bytes = omega arith; lines = omega arith }
 
   begun-within : (o : Opened) → begun o lent start .run .put ≤ length (begun o lent start .space)

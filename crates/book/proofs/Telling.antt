@@ -2,13 +2,10 @@
 use mathlib.Core.Path.{_≡_, refl, ap, _∙_}
 use mathlib.Core.Bool.{Bool, true, false, cond}
 use mathlib.Core.List.{List, [], _∷_, _++_}
-use Prim.Native.Nat.{ℕ, suc, _+_, _≤_, _<_}
-use native.Mathlib.Numerals.{add-one}
+use Prim.Native.Nat.{ℕ, suc, _+_, _≤_}
 use native.Mathlib.Omega.{arith}
-use lib.ListN.{length, getD, take, drop, drop-of-length-le, length-append}
-use lib.Seq.{drop-cons}
+use lib.ListN.{length, take, drop, length-append}
 use lib.Dec.{eqb}
-use borrow.Author.Tests.{eq-eqb, ne-eqb}
 use Rattle.context.specs.Cells.{count}
 use Rattle.layout.specs.declared.Answer.{Answer}
 use Rattle.layout.specs.Outcome.{Result}

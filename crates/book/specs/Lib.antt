@@ -4,5 +4,6 @@ pub mod Told
 pub mod Tally
 pub mod Report
 pub mod Totals
+pub mod WholeReport
 pub mod SmallBooks
 pub mod Steps

@@ -7,7 +7,7 @@ use native.Mathlib.Omega.{arith}
 use lib.ListN.{length, take, drop, set, replicate, length-map}
 use lib.Dec.{leb}
 use lib.Seq.{length-take-le, take-all, take-append-seam, take-take}
-use borrow.Author.Tests.{le-leb, lt-leb, lt-ltb}
+use borrow.Author.Tests.{le-leb, lt-leb, lt-ltb, ne-eqb}
 use Rattle.utf8.specs.Trimming.{trimmedLength}
 use Rattle.utf8.proofs.Trimming.{trimmed-le}
 use Rattle.context.specs.Cells.{Cell, bytesOf}
@@ -214,6 +214,9 @@ map-fits r s =
 pub tokens-few : {text keywords tape facts : List ℕ} {config : FormatConfig} {j : Passed} → Ready text keywords tape facts config → Skipped tape 0 j → j .tokens ≤ length tape
 tokens-few r s = let a = r .accepted in omega (arith, s .counted _ (a .tree .kids) (a .kids), tokens-size (a .tree .kids), a .whole)
 
+pub notes-over : {text tape : List ℕ} {config : FormatConfig} {ms us ns : List ℕ} → ms ≡ us → Notes text tape config ms ns → Notes text tape config us ns
+notes-over {text} {tape} {config} {ns = ns} e n = subst (λ (z : List ℕ). Notes text tape config z ns) e n
+
 -- what was noted over zeros, as many as the map has
 pub placed : {text tape : List ℕ} {config : FormatConfig} {m n : ℕ} {ns : List ℕ} → MapFits text tape m → m ≤ n → Notes text tape config (replicate n 0) ns → Placed text tape config (take m ns)
 placed {text} {tape} {config} {m} {n} {ns} f l o =
@@ -251,7 +254,7 @@ map-fills {text} {tape} {config} {k} {xs} {ys} {ns} {ls} trims z f o e =
 
 no-spot : (p : ℕ) (bs : List ℕ) → entry 0 bs p ≡ noSpot
 no-spot zero bs = refl
-no-spot (suc p) bs = rw (lt-ltb 0 (suc p) (omega arith))
+no-spot (suc p) bs = rw (ne-eqb (suc p) 0 (λ e. omega (arith, e)), lt-ltb 0 (suc p) (omega arith))
 
 no-spots : (bs ps : List ℕ) → replicate (2 * length ps) 0 ≡ flat (map (entry 0 bs) ps)
 no-spots bs [] = refl

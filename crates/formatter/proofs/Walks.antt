@@ -14,7 +14,7 @@ use Rattle.context.specs.declared.FormatterContext.{FormatterContext}
 use Rattle.tape.specs.declared.Head.{Head}
 use Rattle.tape.specs.declared.Passed.{Passed}
 use Rattle.tape.specs.Kinds.{Error, QueryList}
-use Rattle.tape.specs.Tree.{Children, done, token, node, size, height, hasErrorChild, countListItems, severalListItems, copied, EachNode}
+use Rattle.tape.specs.Tree.{Tree, Children, done, token, node, size, height, hasErrorChild, countListItems, severalListItems, copied, EachNode}
 use Rattle.tape.specs.Tape.{headAt}
 use Rattle.tape.specs.SpelledAt.{SpelledAt, NodeAt, Skipped}
 use Rattle.tape.specs.NodeFacts.{factsAt, notesError, notesSeveral, NodeFacts, NotedNode}
@@ -88,7 +88,7 @@ module _ (config : FormatConfig) (source : Text) where
     notes-token : {signs : Signs} → Signed signs r → (h : Head) (rest : Children) (v : Store) {w : Store} (ns : List ℕ) → w ≡ run config source (map (actAt h) ((r .atToken l (seen source h)) .1)) v
         → noteAll (from (token h rest) (seated v)) ns
         ≡ noteAll (places config source formatNode r ((r .atToken l (seen source h)) .0) rest (seated w)) (noted (placeBy signs source h (w .0 .position)) ns)
-    unfolding places
+    unfolding places noteAll
     notes-token {signs} g h rest v {w} ns e =
         let a = r .atToken l (seen source h) in
         let k = note-right g l h config source (v .0) (v .1) in
@@ -102,7 +102,7 @@ module _ (config : FormatConfig) (source : Text) where
     unfolding places placesFrom calls
     notes-node h kids rest N v w x {y} ns e before inside after =
         let cs = calls formatNode source (record { head = h; kids = kids }) in
-        let t = record { head = h; kids = kids } in
+        let t : Tree = record { head = h; kids = kids } in
         ap (λ (n : Local × List Spacing × List Spacing). noteAll (placesFrom config source formatNode t (seatAfter config source (map putSpacing (n .1)) (seated v)) ++ places config source formatNode r (n .0) rest (seatAfter config source (map putSpacing (n .2)) (seatAfter config source cs (seatAfter config source (map putSpacing (n .1)) (seated v))))) ns) e
         ∙ ap (λ (u : Seat). noteAll (placesFrom config source formatNode t u ++ places config source formatNode r (N .0) rest (seatAfter config source (map putSpacing (N .2)) (seatAfter config source cs u))) ns) (seat-spaced (N .1) v before)
         ∙ ap (λ (u : Seat). noteAll (placesFrom config source formatNode t (seated w) ++ places config source formatNode r (N .0) rest (seatAfter config source (map putSpacing (N .2)) u)) ns) (seat-made cs w inside)

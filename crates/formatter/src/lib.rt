@@ -25,7 +25,7 @@ ghost use Rattle.keywords.specs.Table.{table};
 ghost use Rattle.layout.specs.Layout.{original};
 ghost use Rattle.layout.specs.MapCall.{Mapped, mapped};
 ghost use Rattle.layout.specs.Outcome.{Result, configOf, laidOut, outcome};
-ghost use Rattle.formatter.specs.Entry.{Fills, Holds, LaysOut, MapFits, MapsOut, Notes, Placed, Ready, Trims, WalkedInto};
+ghost use Rattle.formatter.specs.Entry.{Fills, Holds, LaysOut, MapFills, MapFits, MapsOut, Notes, Placed, Ready, Trims, WalkedInto};
 
 // Where a walk stands after a node: the place on the tape, and the context.
 pub(crate) struct Walk {
@@ -187,6 +187,40 @@ fn put_noted(
     write_layout(text, keywords, tape, config, facts, out, map, k);
 }
 
+// The layout and the map, once 13 and 17 are decided: the places become lines and columns of the layout.
+fn put_map(
+    text: &[u8],
+    keywords: &[u8; TABLE_LENGTH],
+    tape: &[u8],
+    config: FormatConfig,
+    facts: &[u8],
+    space: &[u8],
+    notes: &[u64],
+    out: &mut [u8],
+    map: &mut [u64],
+    k: usize,
+)
+    requires { ⌜ Ready (now text) (now keywords) (now tape) (now facts) config ⌝ }
+    requires { ⌜ Trims (now text) (now tape) config k × Holds (now text) (now tape) config k (now space) × (0 < k) × (k < length (now out)) ⌝ }
+    requires { ⌜ MapFits (now text) (now tape) (length (now map)) × Notes (now text) (now tape) config (replicate (length (now notes)) 0) (now notes) ⌝ }
+    ensures { λ _. ⌜ Fills (now (text .entry)) (now (tape .entry)) config (now (out .entry)) (now (out .exit)) × MapFills (now (text .entry)) (now (tape .entry)) config (now (map .exit)) ⌝ }
+{
+    put_noted(
+        text,
+        keywords,
+        tape,
+        config,
+        facts,
+        space,
+        notes,
+        out,
+        map,
+        k,
+    );
+    let end = k + 1;
+    place_tokens(map, &out[..end], k);
+}
+
 // Nothing is written before 13 and 17 are decided. What fits into the lent space and notes needs one walk.
 fn map_accepted(
     text: &[u8],
@@ -204,7 +238,7 @@ fn map_accepted(
 {
     let k = walk_tree(text, keywords, tape, config, facts, space, notes);
     if 0 < k {
-        if out.len() <= k {
+        if k >= out.len() {
             return Answer {
                 number: 13,
                 value: k as u64 + 1,
@@ -226,7 +260,7 @@ fn map_accepted(
             value: 0,
         };
     }
-    put_noted(
+    put_map(
         text,
         keywords,
         tape,
@@ -238,8 +272,6 @@ fn map_accepted(
         &mut map[..count],
         k,
     );
-    let end = k + 1;
-    place_tokens(&mut map[..count], &out[..end], k);
     Answer {
         number: 0,
         value: k as u64 + 1,

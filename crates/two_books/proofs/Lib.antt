@@ -2,3 +2,4 @@
 pub mod MaskedAnswers
 pub mod MaskedReports
 pub mod WorkedBooks
+pub mod BookNeeds

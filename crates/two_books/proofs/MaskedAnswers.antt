@@ -12,7 +12,8 @@ use Rattle.layout.specs.Layout.{original}
 use Rattle.layout.specs.Outcome.{Outcome, Result, laidOut, outcome}
 use Rattle.layout.specs.Masking.{SameLines}
 use Rattle.layout.proofs.TwoCalls.{demand-3}
-use Rattle.desk_job.specs.Job.{Answered, refused, text, answeredOutcome, answeredJob as answeredBy, leaves}
+use Rattle.desk_job.specs.declared.Header.the-variants.{Accepted}
+use Rattle.desk_job.specs.Job.{Answered, refused, text, readHeader, answeredOutcome, answeredJob as answeredBy, leaves}
 use Rattle.desk_job.proofs.Printing.{Fits, outcome-fits, laid-leaves}
 use Rattle.book.specs.Told.{toldOf, answeredJob, toldJob}
 use Rattle.two_books.specs.MaskedBooks.{MaskedJob, MaskedJobs, equal, masked}
@@ -76,7 +77,9 @@ module _ (a b : List ℕ) (width case end : ℕ) (m : MaskedJob a b width case e
       let space : List ℕ = replicate 65536 0 in
       let k = demand-3 width case (take (end - 9) (drop 9 a)) (take (end - 9) (drop 9 b)) (drop end a) (m .texts) space in
       let alike = outcomes-alike (outcomeOf a) (outcome original width case (take (end - 9) (drop 9 b)) (drop end a)) space (k .alike .answers) (k .lines) in
-      rw (m .headerA, m .headerB, tape-moved) (subst (λ (n : ℕ). AnswersAlike (answeredOutcome (outcomeOf a) n) (answeredOutcome (outcome original width case (take (end - 9) (drop 9 b)) (drop end a)) n)) (length-replicate {A = ℕ} 65536 0) alike)
+      let h : readHeader false a ≡ Accepted width case end = m .headerA in
+      let g : readHeader false b ≡ Accepted width case end = m .headerB in
+      rw (h, g, tape-moved) (subst (λ (n : ℕ). AnswersAlike (answeredOutcome (outcomeOf a) n) (answeredOutcome (outcome original width case (take (end - 9) (drop 9 b)) (drop end a)) n)) (length-replicate {A = ℕ} 65536 0) alike)
 
 told-alike : (x y : Answered) → AnswersAlike x y → toldOf x ≡ toldOf y
 unfolding toldOf

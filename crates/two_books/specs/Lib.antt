@@ -2,3 +2,4 @@
 pub mod MaskedBooks
 pub mod Both
 pub mod WorkedBooks
+pub mod BookNeeds

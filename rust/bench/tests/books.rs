@@ -1,63 +1,42 @@
 //! The port's report over a book is the oracle's, byte for byte: by the library's call, and by the program target/bin/report, which
 //! `rt check report` writes, on standard input.
 
-use bench::compare::compare;
+mod cases;
+mod program;
+
+use cases::agree;
 use oracle::cases::{make, Class, Made};
 use oracle::report::{report, Tally};
-use std::io::Write;
-use std::path::PathBuf;
-use std::process::{Command, Stdio};
 
 const SEED: u64 = 61;
 
 // The library
 
-fn cases(test: &str, class: Class, count: u64) {
-    if !oracle::source::at_hand_for(test) {
-        return;
-    }
-    for index in 0..count {
-        compare(SEED, class, index).unwrap_or_else(|difference| panic!("{difference}"));
-    }
-}
-
 #[test]
 fn books() {
-    cases("books", Class::Books, 30_000);
+    agree("books", SEED, Class::Books, 30_000);
 }
 
 #[test]
 fn damaged_books() {
-    cases("damaged_books", Class::BooksDamaged, 20_000);
+    agree("damaged_books", SEED, Class::BooksDamaged, 20_000);
 }
 
 #[test]
 fn masked_books() {
-    cases("masked_books", Class::BooksMasked, 2_000);
+    agree("masked_books", SEED, Class::BooksMasked, 2_000);
 }
 
 #[test]
 fn limits() {
-    cases("limits", Class::BooksLimits, 64);
+    agree("limits", SEED, Class::BooksLimits, 64);
 }
 
 // The program
 
-fn program() -> PathBuf {
-    let program = PathBuf::from(env!("CARGO_MANIFEST_DIR")).join("../../target/bin/report");
-    assert!(program.is_file(), "target/bin/report is not at hand: run `rt check report` in the repository");
-    program
-}
-
 /// What the program prints for the book.
 fn printed(book: &[u8]) -> Vec<u8> {
-    let mut child =
-        Command::new(program()).stdin(Stdio::piped()).stdout(Stdio::piped()).spawn().expect("the program starts");
-    // The program reads no more than it has room for; what it leaves in the pipe is no fault.
-    let _ = child.stdin.take().expect("a pipe").write_all(book);
-    let output = child.wait_with_output().expect("the program ends");
-    assert!(output.status.success(), "status {}", output.status);
-    output.stdout
+    program::printed("report", book)
 }
 
 fn right(book: &[u8]) -> Vec<u8> {

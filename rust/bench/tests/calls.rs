@@ -1,73 +1,67 @@
 //! The port answers as the oracle does, and leaves the output space as it says; and it names one length whatever the space.
 
-use bench::compare::{answered, compare};
+mod cases;
+
+use bench::compare::answered;
+use cases::agree;
 use oracle::answers::Case;
 use oracle::cases::{call, Class};
 
 const SEED: u64 = 20;
 
-fn cases(test: &str, class: Class, count: u64) {
-    if !oracle::source::at_hand_for(test) {
-        return;
-    }
-    for index in 0..count {
-        compare(SEED, class, index).unwrap_or_else(|difference| panic!("{difference}"));
-    }
-}
-
 #[test]
 fn queries_of_a_parser() {
-    cases("queries_of_a_parser", Class::Parser, 40_000);
+    agree("queries_of_a_parser", SEED, Class::Parser, 40_000);
 }
 
 #[test]
 fn wild_trees() {
-    cases("wild_trees", Class::Wild, 50_000);
+    agree("wild_trees", SEED, Class::Wild, 50_000);
 }
 
 #[test]
 fn damaged_calls() {
-    cases("damaged_calls", Class::Damaged, 60_000);
+    agree("damaged_calls", SEED, Class::Damaged, 60_000);
 }
 
 #[test]
 fn masked_pairs() {
-    cases("masked_pairs", Class::Masked, 10_000);
+    agree("masked_pairs", SEED, Class::Masked, 10_000);
 }
 
 #[test]
 fn limits() {
-    cases("limits", Class::Limits, 48);
+    agree("limits", SEED, Class::Limits, 48);
 }
 
 #[test]
 fn small_trees() {
-    cases("small_trees", Class::Small, 50_000);
+    agree("small_trees", SEED, Class::Small, 50_000);
 }
 
 #[test]
 fn characters() {
-    cases("characters", Class::Utf8, 20_000);
+    agree("characters", SEED, Class::Utf8, 20_000);
 }
 
 #[test]
 fn characters_in_turn() {
-    cases("characters_in_turn", Class::Utf8Small, 30_000);
+    agree("characters_in_turn", SEED, Class::Utf8Small, 30_000);
 }
 
 #[test]
 fn damaged_calls_of_characters() {
-    cases("damaged_calls_of_characters", Class::Utf8Damaged, 30_000);
+    agree("damaged_calls_of_characters", SEED, Class::Utf8Damaged, 30_000);
 }
 
 #[test]
 fn masked_pairs_of_characters() {
-    cases("masked_pairs_of_characters", Class::Utf8Masked, 6_000);
+    agree("masked_pairs_of_characters", SEED, Class::Utf8Masked, 6_000);
 }
 
 #[test]
 fn limits_of_characters() {
-    cases("limits_of_characters", Class::Utf8Limits, 45);
+    agree("limits_of_characters", SEED, Class::Utf8Limits, 45);
 }
 
 /// The port's answer in a space of so many bytes.

@@ -1,30 +1,17 @@
 //! The desk's program prints for a job what documents 01 and 02 say: target/bin/desk, which `rt check desk` writes, on standard input.
 
+mod program;
+
 use oracle::cases::{call, make, Class, Made};
 use oracle::job;
-use std::io::Write;
-use std::path::PathBuf;
-use std::process::{Command, Stdio};
 
 const SEED: u64 = 30;
 const JOBS: u64 = 2_000;
 const JOBS_OF_CHARACTERS: u64 = 500;
 
-fn program() -> PathBuf {
-    let program = PathBuf::from(env!("CARGO_MANIFEST_DIR")).join("../../target/bin/desk");
-    assert!(program.is_file(), "target/bin/desk is not at hand: run `rt check desk` in the repository");
-    program
-}
-
 /// What the program prints for the job.
 fn printed(job: &[u8]) -> Vec<u8> {
-    let mut child =
-        Command::new(program()).stdin(Stdio::piped()).stdout(Stdio::piped()).spawn().expect("the program starts");
-    // The program reads no more than it has room for; what it leaves in the pipe is no fault.
-    let _ = child.stdin.take().expect("a pipe").write_all(job);
-    let output = child.wait_with_output().expect("the program ends");
-    assert!(output.status.success(), "status {}", output.status);
-    output.stdout
+    program::printed("desk", job)
 }
 
 #[test]

@@ -14,7 +14,7 @@ same-length-2 : tie.Need-same-length-2
 same-length-2 c = search needs
 
 returns : tie.Need-returns
-returns c = same-report _ _ _ _ _ _ _ _ _ (c .before .before .before .report-both .ensures)
+returns c = same-report _ _ _ _ _ _ _ _ _ _ _ (c .before .before .before .before .report-both .ensures)
 
 pub request-7-spec : {M : Type 1} → statement M
 request-7-spec = tie.close (tie.spec report-both-requires same-length same-length-2 returns)

@@ -4528,7 +4528,7 @@ node-note-none-requires : (t : ℕ) → node-lts.Need-note-none-requires (
   pass-below t,
   pass.Post,
 ) (node-at t) node.Post
-node-note-none-requires t c κs = ?
+node-note-none-requires t c κs = search needs
 
 node-format-error-verbatim-requires : (t : ℕ) → node-lts.Need-format-error-verbatim-requires (
   has-error-reads.Asked,
@@ -4738,7 +4738,7 @@ node-same-length-2 : (t : ℕ) → node-lts.Need-same-length-2 (
   pass-below t,
   pass.Post,
 ) (node-at t) node.Post
-node-same-length-2 t c = c .before .before .format-error-verbatim .kept .1 .1 .0
+node-same-length-2 t c = c .before .before .before .before .before .before .note-none .kept .0
 
 node-returns : (t : ℕ) → node-lts.Need-returns (
   has-error-reads.Asked,
@@ -8798,7 +8798,7 @@ node-same-length-4 : (t : ℕ) → node-lts.Need-same-length-4 (
   pass-below t,
   pass.Post,
 ) (node-at t) node.Post
-node-same-length-4 t c = c .before .before .before .before .file .kept .1 .1 .1 .1 .1 .0
+node-same-length-4 t c = c .before .before .before .before .file .kept .1 .1 .1 .1 .1 .1 .0
 
 node-returns-2 : (t : ℕ) → node-lts.Need-returns-2 (
   has-error-reads.Asked,
@@ -9009,7 +9009,7 @@ node-same-length-6 : (t : ℕ) → node-lts.Need-same-length-6 (
   pass-below t,
   pass.Post,
 ) (node-at t) node.Post
-node-same-length-6 t c = c .before .before .before .before .queries .kept .1 .1 .1 .1 .1 .0
+node-same-length-6 t c = c .before .before .before .before .queries .kept .1 .1 .1 .1 .1 .1 .0
 
 node-returns-3 : (t : ℕ) → node-lts.Need-returns-3 (
   has-error-reads.Asked,
@@ -9220,7 +9220,7 @@ node-same-length-8 : (t : ℕ) → node-lts.Need-same-length-8 (
   pass-below t,
   pass.Post,
 ) (node-at t) node.Post
-node-same-length-8 t c = c .before .before .before .before .sel-stmt .kept .1 .1 .1 .1 .1 .0
+node-same-length-8 t c = c .before .before .before .before .sel-stmt .kept .1 .1 .1 .1 .1 .1 .0
 
 node-returns-4 : (t : ℕ) → node-lts.Need-returns-4 (
   has-error-reads.Asked,
@@ -9431,7 +9431,7 @@ node-same-length-10 : (t : ℕ) → node-lts.Need-same-length-10 (
   pass-below t,
   pass.Post,
 ) (node-at t) node.Post
-node-same-length-10 t c = c .before .before .before .before .select .kept .1 .1 .1 .1 .1 .0
+node-same-length-10 t c = c .before .before .before .before .select .kept .1 .1 .1 .1 .1 .1 .0
 
 node-returns-5 : (t : ℕ) → node-lts.Need-returns-5 (
   has-error-reads.Asked,
@@ -9642,7 +9642,7 @@ node-same-length-12 : (t : ℕ) → node-lts.Need-same-length-12 (
   pass-below t,
   pass.Post,
 ) (node-at t) node.Post
-node-same-length-12 t c = c .before .before .before .before .simple .kept .1 .1 .1 .1 .1 .0
+node-same-length-12 t c = c .before .before .before .before .simple .kept .1 .1 .1 .1 .1 .1 .0
 
 node-returns-6 : (t : ℕ) → node-lts.Need-returns-6 (
   has-error-reads.Asked,
@@ -9853,7 +9853,7 @@ node-same-length-14 : (t : ℕ) → node-lts.Need-same-length-14 (
   pass-below t,
   pass.Post,
 ) (node-at t) node.Post
-node-same-length-14 t c = c .before .before .before .before .list-by .kept .1 .1 .1 .1 .1 .0
+node-same-length-14 t c = c .before .before .before .before .list-by .kept .1 .1 .1 .1 .1 .1 .0
 
 node-returns-7 : (t : ℕ) → node-lts.Need-returns-7 (
   has-error-reads.Asked,
@@ -10064,7 +10064,7 @@ node-same-length-16 : (t : ℕ) → node-lts.Need-same-length-16 (
   pass-below t,
   pass.Post,
 ) (node-at t) node.Post
-node-same-length-16 t c = c .before .before .before .before .settings .kept .1 .1 .1 .1 .1 .0
+node-same-length-16 t c = c .before .before .before .before .settings .kept .1 .1 .1 .1 .1 .1 .0
 
 node-returns-8 : (t : ℕ) → node-lts.Need-returns-8 (
   has-error-reads.Asked,
@@ -10275,7 +10275,7 @@ node-same-length-18 : (t : ℕ) → node-lts.Need-same-length-18 (
   pass-below t,
   pass.Post,
 ) (node-at t) node.Post
-node-same-length-18 t c = c .before .before .before .before .with .kept .1 .1 .1 .1 .1 .0
+node-same-length-18 t c = c .before .before .before .before .with .kept .1 .1 .1 .1 .1 .1 .0
 
 node-returns-9 : (t : ℕ) → node-lts.Need-returns-9 (
   has-error-reads.Asked,
@@ -10486,7 +10486,7 @@ node-same-length-20 : (t : ℕ) → node-lts.Need-same-length-20 (
   pass-below t,
   pass.Post,
 ) (node-at t) node.Post
-node-same-length-20 t c = c .before .before .before .before .join .kept .1 .1 .1 .1 .1 .0
+node-same-length-20 t c = c .before .before .before .before .join .kept .1 .1 .1 .1 .1 .1 .0
 
 node-returns-10 : (t : ℕ) → node-lts.Need-returns-10 (
   has-error-reads.Asked,
@@ -10697,7 +10697,7 @@ node-same-length-22 : (t : ℕ) → node-lts.Need-same-length-22 (
   pass-below t,
   pass.Post,
 ) (node-at t) node.Post
-node-same-length-22 t c = c .before .before .before .before .inline .kept .1 .1 .1 .1 .1 .0
+node-same-length-22 t c = c .before .before .before .before .inline .kept .1 .1 .1 .1 .1 .1 .0
 
 node-returns-11 : (t : ℕ) → node-lts.Need-returns-11 (
   has-error-reads.Asked,
@@ -10908,7 +10908,7 @@ node-same-length-24 : (t : ℕ) → node-lts.Need-same-length-24 (
   pass-below t,
   pass.Post,
 ) (node-at t) node.Post
-node-same-length-24 t c = c .before .before .before .before .comma .kept .1 .1 .1 .1 .1 .0
+node-same-length-24 t c = c .before .before .before .before .comma .kept .1 .1 .1 .1 .1 .1 .0
 
 node-returns-12 : (t : ℕ) → node-lts.Need-returns-12 (
   has-error-reads.Asked,
@@ -11119,7 +11119,7 @@ node-same-length-26 : (t : ℕ) → node-lts.Need-same-length-26 (
   pass-below t,
   pass.Post,
 ) (node-at t) node.Post
-node-same-length-26 t c = c .before .before .before .before .inl-list .kept .1 .1 .1 .1 .1 .0
+node-same-length-26 t c = c .before .before .before .before .inl-list .kept .1 .1 .1 .1 .1 .1 .0
 
 node-returns-13 : (t : ℕ) → node-lts.Need-returns-13 (
   has-error-reads.Asked,
@@ -11330,7 +11330,7 @@ node-same-length-28 : (t : ℕ) → node-lts.Need-same-length-28 (
   pass-below t,
   pass.Post,
 ) (node-at t) node.Post
-node-same-length-28 t c = c .before .before .before .before .binary .kept .1 .1 .1 .1 .1 .0
+node-same-length-28 t c = c .before .before .before .before .binary .kept .1 .1 .1 .1 .1 .1 .0
 
 node-returns-14 : (t : ℕ) → node-lts.Need-returns-14 (
   has-error-reads.Asked,
@@ -11541,7 +11541,7 @@ node-same-length-30 : (t : ℕ) → node-lts.Need-same-length-30 (
   pass-below t,
   pass.Post,
 ) (node-at t) node.Post
-node-same-length-30 t c = c .before .before .before .before .unary .kept .1 .1 .1 .1 .1 .0
+node-same-length-30 t c = c .before .before .before .before .unary .kept .1 .1 .1 .1 .1 .1 .0
 
 node-returns-15 : (t : ℕ) → node-lts.Need-returns-15 (
   has-error-reads.Asked,
@@ -11752,7 +11752,7 @@ node-same-length-32 : (t : ℕ) → node-lts.Need-same-length-32 (
   pass-below t,
   pass.Post,
 ) (node-at t) node.Post
-node-same-length-32 t c = c .before .before .before .before .call .kept .1 .1 .1 .1 .1 .0
+node-same-length-32 t c = c .before .before .before .before .call .kept .1 .1 .1 .1 .1 .1 .0
 
 node-returns-16 : (t : ℕ) → node-lts.Need-returns-16 (
   has-error-reads.Asked,
@@ -11963,7 +11963,7 @@ node-same-length-34 : (t : ℕ) → node-lts.Need-same-length-34 (
   pass-below t,
   pass.Post,
 ) (node-at t) node.Post
-node-same-length-34 t c = c .before .before .before .before .case .kept .1 .1 .1 .1 .1 .0
+node-same-length-34 t c = c .before .before .before .before .case .kept .1 .1 .1 .1 .1 .1 .0
 
 node-returns-17 : (t : ℕ) → node-lts.Need-returns-17 (
   has-error-reads.Asked,
@@ -12174,7 +12174,7 @@ node-same-length-36 : (t : ℕ) → node-lts.Need-same-length-36 (
   pass-below t,
   pass.Post,
 ) (node-at t) node.Post
-node-same-length-36 t c = c .before .before .before .before .when .kept .1 .1 .1 .1 .1 .0
+node-same-length-36 t c = c .before .before .before .before .when .kept .1 .1 .1 .1 .1 .1 .0
 
 node-returns-18 : (t : ℕ) → node-lts.Need-returns-18 (
   has-error-reads.Asked,
@@ -12385,7 +12385,7 @@ node-same-length-38 : (t : ℕ) → node-lts.Need-same-length-38 (
   pass-below t,
   pass.Post,
 ) (node-at t) node.Post
-node-same-length-38 t c = c .before .before .before .before .subquery .kept .1 .1 .1 .1 .1 .0
+node-same-length-38 t c = c .before .before .before .before .subquery .kept .1 .1 .1 .1 .1 .1 .0
 
 node-returns-19 : (t : ℕ) → node-lts.Need-returns-19 (
   has-error-reads.Asked,
@@ -12596,7 +12596,7 @@ node-same-length-40 : (t : ℕ) → node-lts.Need-same-length-40 (
   pass-below t,
   pass.Post,
 ) (node-at t) node.Post
-node-same-length-40 t c = c .before .before .before .before .paren .kept .1 .1 .1 .1 .1 .0
+node-same-length-40 t c = c .before .before .before .before .paren .kept .1 .1 .1 .1 .1 .1 .0
 
 node-returns-20 : (t : ℕ) → node-lts.Need-returns-20 (
   has-error-reads.Asked,
@@ -12807,7 +12807,7 @@ node-same-length-42 : (t : ℕ) → node-lts.Need-same-length-42 (
   pass-below t,
   pass.Post,
 ) (node-at t) node.Post
-node-same-length-42 t c = c .before .before .before .before .bracket .kept .1 .1 .1 .1 .1 .0
+node-same-length-42 t c = c .before .before .before .before .bracket .kept .1 .1 .1 .1 .1 .1 .0
 
 node-returns-21 : (t : ℕ) → node-lts.Need-returns-21 (
   has-error-reads.Asked,
@@ -13018,7 +13018,7 @@ node-same-length-44 : (t : ℕ) → node-lts.Need-same-length-44 (
   pass-below t,
   pass.Post,
 ) (node-at t) node.Post
-node-same-length-44 t c = c .before .before .before .before .no-spaces .kept .1 .1 .1 .1 .1 .0
+node-same-length-44 t c = c .before .before .before .before .no-spaces .kept .1 .1 .1 .1 .1 .1 .0
 
 node-returns-22 : (t : ℕ) → node-lts.Need-returns-22 (
   has-error-reads.Asked,
@@ -13229,7 +13229,7 @@ node-same-length-46 : (t : ℕ) → node-lts.Need-same-length-46 (
   pass-below t,
   pass.Post,
 ) (node-at t) node.Post
-node-same-length-46 t c = c .before .before .before .before .brace .kept .1 .1 .1 .1 .1 .0
+node-same-length-46 t c = c .before .before .before .before .brace .kept .1 .1 .1 .1 .1 .1 .0
 
 node-returns-23 : (t : ℕ) → node-lts.Need-returns-23 (
   has-error-reads.Asked,
@@ -13440,7 +13440,7 @@ node-same-length-48 : (t : ℕ) → node-lts.Need-same-length-48 (
   pass-below t,
   pass.Post,
 ) (node-at t) node.Post
-node-same-length-48 t c = c .before .before .before .before .dtype .kept .1 .1 .1 .1 .1 .0
+node-same-length-48 t c = c .before .before .before .before .dtype .kept .1 .1 .1 .1 .1 .1 .0
 
 node-returns-24 : (t : ℕ) → node-lts.Need-returns-24 (
   has-error-reads.Asked,
@@ -13651,7 +13651,7 @@ node-same-length-50 : (t : ℕ) → node-lts.Need-same-length-50 (
   pass-below t,
   pass.Post,
 ) (node-at t) node.Post
-node-same-length-50 t c = c .before .before .before .before .tight-paren .kept .1 .1 .1 .1 .1 .0
+node-same-length-50 t c = c .before .before .before .before .tight-paren .kept .1 .1 .1 .1 .1 .1 .0
 
 node-returns-25 : (t : ℕ) → node-lts.Need-returns-25 (
   has-error-reads.Asked,
@@ -13862,7 +13862,7 @@ node-same-length-52 : (t : ℕ) → node-lts.Need-same-length-52 (
   pass-below t,
   pass.Post,
 ) (node-at t) node.Post
-node-same-length-52 t c = c .before .before .before .before .alter .kept .1 .1 .1 .1 .1 .0
+node-same-length-52 t c = c .before .before .before .before .alter .kept .1 .1 .1 .1 .1 .1 .0
 
 node-returns-26 : (t : ℕ) → node-lts.Need-returns-26 (
   has-error-reads.Asked,
@@ -14073,7 +14073,7 @@ node-same-length-54 : (t : ℕ) → node-lts.Need-same-length-54 (
   pass-below t,
   pass.Post,
 ) (node-at t) node.Post
-node-same-length-54 t c = c .before .before .before .before .union .kept .1 .1 .1 .1 .1 .0
+node-same-length-54 t c = c .before .before .before .before .union .kept .1 .1 .1 .1 .1 .1 .0
 
 node-returns-27 : (t : ℕ) → node-lts.Need-returns-27 (
   has-error-reads.Asked,
@@ -14284,7 +14284,7 @@ node-same-length-56 : (t : ℕ) → node-lts.Need-same-length-56 (
   pass-below t,
   pass.Post,
 ) (node-at t) node.Post
-node-same-length-56 t c = c .before .before .before .before .pass .kept .1 .1 .1 .1 .1 .0
+node-same-length-56 t c = c .before .before .before .before .pass .kept .1 .1 .1 .1 .1 .1 .0
 
 node-returns-28 : (t : ℕ) → node-lts.Need-returns-28 (
   has-error-reads.Asked,
