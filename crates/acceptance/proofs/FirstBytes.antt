@@ -1,13 +1,14 @@
 -- Where `placesFrom` says that a token's first byte stands, it does stand in the layout; a token with empty text or below a node copied as typed has no place.
 use mathlib.Core.Path.{_≡_, refl, sym, ap, subst, _∙_}
 use mathlib.Core.Bool.{Bool, true, false, cond, false≢true}
-use mathlib.Core.List.{List, [], _∷_, _++_, map, append-assoc, append-nil}
+use mathlib.Core.List.{List, [], _∷_, _++_, map, append-assoc, append-nil, List·Memᴰ, List·Memᴰ·head, List·Memᴰ·tail, List·Memᴰ·not-nil, List·Memᴰ·cases-cons, List·Memᴰ·append-cases, List·Memᴰ·eq-of-singleton}
+use mathlib.Core.Logic.{_⊎_, inl, inr}
 use Prim.Native.Nat.{ℕ, zero, suc, _+_, _-_, _≤_, _<_}
 use native.Mathlib.Omega.{arith}
 use lib.ListN.{length, getD, take, drop, replicate, length-append, length-take, List·getD-append}
 use lib.Seq.{drop-cons, getD-at, getD-take}
-use lib.Dec.{eqb}
-use borrow.Author.Tests.{eqb-false}
+use lib.Dec.{eqb, leb}
+use borrow.Author.Tests.{eqb-false, ne-eqb}
 use Rattle.context.specs.Cells.{Text, Cell, from, fresh, copiedFrom, spanCells, cellInCase, tokenText}
 use Rattle.context.specs.Context.{newState, writeToken, writeKeyword, endLine, trimEnd, finish}
 use Rattle.context.specs.declared.FormatConfig.{FormatConfig}
@@ -19,14 +20,15 @@ use Rattle.tape.specs.Call.{readCall}
 use Rattle.tape.proofs.Trees.{tokens-fit}
 use Rattle.tape.proofs.Acceptance.{accepted-call}
 use Rattle.layout.specs.declared.Local.{Local}
-use Rattle.layout.specs.Arms.{Act, spacing, writeText, writeSign, seen, Arms}
+use Rattle.layout.specs.Arms.{Spacing, Act, spacing, writeText, writeSign, seen, Arms}
 use Rattle.layout.specs.Arms as arms
-use Rattle.layout.specs.Calls.{Call, putSpacing, actAt, formatErrorVerbatim, walk, calls}
+use Rattle.layout.specs.Calls.{Call, putSpacing, actAt, raw, formatErrorVerbatim, walk, calls}
 use Rattle.layout.specs.Layout.{step, pieces, written, original, piecesOf, format}
 use Rattle.layout.specs.TokenMap.{Seat, writes, seatAfter, writtenAt, placeOf, noPlaces, places, placesFrom}
 use Rattle.layout.specs.Outcome.{configOf}
 use Rattle.layout.proofs.MaskedLayouts.{TokenSpans}
 use Rattle.layout.proofs.TwoCalls.{got-same}
+use Rattle.layout.proofs.TokenMaps.{places-count}
 use Rattle.layout.proofs.Running.{kept}
 use Rattle.acceptance.specs.Demands.{formatted}
 use Rattle.acceptance.specs.Requests.{firstBytes, FirstByte, ofText, ofSign, tokenAt, belowCopied, belowCopiedOf}
@@ -56,6 +58,26 @@ module _ {A : Type 0} (P : A → ℕ → Type 0) where
   along-at (x ∷ xs) [] u i d h = absurd u
   along-at (x ∷ xs) (p ∷ ps) u zero d h = u .0
   along-at (x ∷ xs) (p ∷ ps) u (suc i) d h = along-at xs ps (u .1) i d (omega arith)
+
+-- a fact of some token and its place
+data Some {A : Type 0} (P : A → ℕ → Type 0) : List A → List ℕ → Type 0 where
+  here : {x : A} {p : ℕ} {xs : List A} {ps : List ℕ} → P x p → Some P (x ∷ xs) (p ∷ ps)
+  there : {x : A} {p : ℕ} {xs : List A} {ps : List ℕ} → Some P xs ps → Some P (x ∷ xs) (p ∷ ps)
+
+module _ {A : Type 0} (P : A → ℕ → Type 0) where
+  some-left : {xs : List A} {ps : List ℕ} (ys : List A) (qs : List ℕ) → Some P xs ps → Some P (xs ++ ys) (ps ++ qs)
+  some-left ys qs (here k) = here k
+  some-left ys qs (there s) = there (some-left ys qs s)
+
+  some-right : (xs ys : List A) (ps qs : List ℕ) → length xs ≡ length ps → Some P ys qs → Some P (xs ++ ys) (ps ++ qs)
+  some-right [] ys [] qs e s = s
+  some-right [] ys (p ∷ ps) qs e s = absurd (omega arith)
+  some-right (x ∷ xs) ys [] qs e s = absurd (omega arith)
+  some-right (x ∷ xs) ys (p ∷ ps) qs e s = there (some-right xs ys ps qs (omega arith) s)
+
+  some-at : {xs : List A} {ps : List ℕ} → Some P xs ps → (d : A) → (i : ℕ) × (i < length xs) × P (getD xs i d) (getD ps i 0)
+  some-at (here k) d = (0, omega arith, k)
+  some-at (there s) d = let r = some-at s d in (suc (r .0), omega (arith, r .1), r .2)
 
 -- no place
 abbrev NoneWhere : Bool → ℕ → Type 0
@@ -253,6 +275,112 @@ module _ (config : FormatConfig) (text : Text) where
         let q = pick (t .head .kind) (t .kids) in
         copy-none (copied (t .head .kind) (t .kids)) (t .kids) _ (places-none (t .kids) q (q .begin) w)
 
+  -- ── a token that is written has a place
+
+  module _ (h : Head) (x : Act) (isWritten : writes x ≡ true) (some : h .start ≡ h .end → ⊥) where
+    no-spacing : (xs : List Spacing) → List·Memᴰ (actAt h x) (map putSpacing xs) → ⊥
+    no-spacing [] m = List·Memᴰ·not-nil m
+    no-spacing (y ∷ ys) m = go (List·Memᴰ·cases-cons m) (λ k. no-spacing ys k)
+      where
+        go : (actAt h x ≡ putSpacing y) ⊎ List·Memᴰ (actAt h x) (map putSpacing ys) → (List·Memᴰ (actAt h x) (map putSpacing ys) → ⊥) → ⊥
+        go (inl e) f = let z : _≡_ {A = ℕ} 0 1 = cc in omega arith
+        go (inr k) f = f k
+
+    no-verbatim : (g : Head) → List·Memᴰ (actAt h x) (formatErrorVerbatim g) → ⊥
+    unfolding formatErrorVerbatim
+    no-verbatim g m = go (leb (g .start) (g .end)) m
+      where
+        go : (b : Bool) → List·Memᴰ (actAt h x) (cond b (raw (g .start) (g .end) ∷ []) []) → ⊥
+        go true k = let e = List·Memᴰ·eq-of-singleton k in let z : _≡_ {A = ℕ} 0 1 = cc in omega arith
+        go false k = List·Memᴰ·not-nil k
+
+    -- an act that writes leaves a place
+    acts-place : (g : Head) (xs : List Act) (w : Seat) → List·Memᴰ (actAt h x) (map (actAt g) xs) → (g ≡ h) × (0 < writtenAt config text g xs w)
+    unfolding writtenAt
+    acts-place g [] w m = absurd (List·Memᴰ·not-nil m)
+    acts-place g (y ∷ ys) w m =
+        let r = step config text (actAt g y) (w .0) in
+        let after : Seat = (r .0, w .1 + length (r .1 .lead ++ r .1 .body)) in
+        go (List·Memᴰ·cases-cons m) (w .1 + length (r .1 .lead)) (writtenAt config text g ys after) (λ k. acts-place g ys after k)
+      where
+        later-place : (p q : ℕ) → (0 < p) ⊎ (0 < q) → 0 < cond (eqb q 0) p q
+        later-place p zero (inl k) = k
+        later-place p zero (inr k) = absurd (omega arith)
+        later-place p (suc q) k = rw (ne-eqb (suc q) 0 (λ z. omega arith)) (omega arith)
+
+        go : (actAt h x ≡ actAt g y) ⊎ List·Memᴰ (actAt h x) (map (actAt g) ys) → (n q : ℕ) → (List·Memᴰ (actAt h x) (map (actAt g) ys) → (g ≡ h) × (0 < q))
+            → (g ≡ h) × (0 < cond (eqb q 0) (cond (writes y) (suc n) 0) q)
+        go (inl e) n q f =
+            let same : x ≡ y = cc in
+            let wy : writes y ≡ true = ap writes (sym same) ∙ isWritten in
+            (cc, later-place _ q (inl (rw wy (omega arith))))
+        go (inr k) n q f = (f k .0, later-place _ q (inr (f k .1)))
+
+    abbrev Has : Head → ℕ → Type 0
+    Has g p = (g ≡ h) × (0 < p)
+
+    token-place : (g : Head) (xs : List Act) (w : Seat) → List·Memᴰ (actAt h x) (map (actAt g) xs) → Has g (placeOf config text g xs w)
+    token-place g xs w m =
+        let k = acts-place g xs w m in
+        (k .0, rw (ne-eqb (g .start) (g .end) (λ e. some (subst (λ (z : Head). z .start ≡ z .end) (k .0) e))) (k .1))
+
+    -- a call of a node: of what stands before, inside, after, or of the rest
+    node-has : (kids rest : Children) (xs own ys tail : List Call) (ps qs : List ℕ) → length (tokens kids) ≡ length ps
+        → (List·Memᴰ (actAt h x) xs → ⊥) → (List·Memᴰ (actAt h x) ys → ⊥)
+        → (List·Memᴰ (actAt h x) own → Some Has (tokens kids) ps) → (List·Memᴰ (actAt h x) tail → Some Has (tokens rest) qs)
+        → List·Memᴰ (actAt h x) (xs ++ (own ++ (ys ++ tail))) → Some Has (tokens kids ++ tokens rest) (ps ++ qs)
+    node-has kids rest xs own ys tail ps qs e f g u v m = first (List·Memᴰ·append-cases xs m)
+      where
+        third : List·Memᴰ (actAt h x) ys ⊎ List·Memᴰ (actAt h x) tail → Some Has (tokens kids ++ tokens rest) (ps ++ qs)
+        third (inl k) = absurd (g k)
+        third (inr k) = some-right Has (tokens kids) (tokens rest) ps qs e (v k)
+
+        second : List·Memᴰ (actAt h x) own ⊎ List·Memᴰ (actAt h x) (ys ++ tail) → Some Has (tokens kids ++ tokens rest) (ps ++ qs)
+        second (inl k) = some-left Has (tokens rest) qs (u k)
+        second (inr k) = third (List·Memᴰ·append-cases ys k)
+
+        first : List·Memᴰ (actAt h x) xs ⊎ List·Memᴰ (actAt h x) (own ++ (ys ++ tail)) → Some Has (tokens kids ++ tokens rest) (ps ++ qs)
+        first (inl k) = absurd (f k)
+        first (inr k) = second (List·Memᴰ·append-cases own k)
+
+    module _ (pick : ℕ → Children → Arms) where
+      inside-has : (b : Bool) (g : Head) (kids : Children) (xs : List Call) (ps : List ℕ) → List·Memᴰ (actAt h x) (cond b (formatErrorVerbatim g) xs)
+          → (List·Memᴰ (actAt h x) xs → Some Has (tokens kids) ps) → Some Has (tokens kids) (cond b (noPlaces config text kids) ps)
+      inside-has true g kids xs ps m f = absurd (no-verbatim g m)
+      inside-has false g kids xs ps m f = f m
+
+      places-has : (c : Children) (r : Arms) (l : Local) (w : Seat) → List·Memᴰ (actAt h x) (walk pick text r l c) → Some Has (tokens c) (places config text pick r l c w)
+      unfolding places placesFrom tokens walk
+      places-has done r l w m = absurd (no-spacing (r .atEnd l) m)
+      places-has (token g rest) r l w m =
+          let a = r .atToken l (seen text g) in
+          go (List·Memᴰ·append-cases (map (actAt g) (a .1)) m) (λ k. places-has rest r (a .0) (seatAfter config text (map (actAt g) (a .1)) w) k)
+        where
+          go : List·Memᴰ (actAt h x) (map (actAt g) ((r .atToken l (seen text g)) .1)) ⊎ List·Memᴰ (actAt h x) (walk pick text r ((r .atToken l (seen text g)) .0) rest)
+              → (List·Memᴰ (actAt h x) (walk pick text r ((r .atToken l (seen text g)) .0) rest) → Some Has (tokens rest) (places config text pick r ((r .atToken l (seen text g)) .0) rest (seatAfter config text (map (actAt g) ((r .atToken l (seen text g)) .1)) w)))
+              → Some Has (g ∷ tokens rest) (placeOf config text g ((r .atToken l (seen text g)) .1) w ∷ places config text pick r ((r .atToken l (seen text g)) .0) rest (seatAfter config text (map (actAt g) ((r .atToken l (seen text g)) .1)) w))
+          go (inl k) f = here (token-place g ((r .atToken l (seen text g)) .1) w k)
+          go (inr k) f = there (f k)
+      places-has (node g kids rest) r l w m =
+          let a = r .atNode l (g .kind) (countListItems kids) in
+          let q = pick (g .kind) kids in
+          let b = copied (g .kind) kids in
+          let own = cond b (formatErrorVerbatim g) (walk pick text q (q .begin) kids) in
+          let i = seatAfter config text (map putSpacing (a .1)) w in
+          let ps = places config text pick q (q .begin) kids i in
+          let j = seatAfter config text (map putSpacing (a .2)) (seatAfter config text own i) in
+          node-has kids rest (map putSpacing (a .1)) own (map putSpacing (a .2)) (walk pick text r (a .0) rest) _ _
+          (sym (places-count config text pick (record { head = g; kids = kids }) i))
+          (no-spacing (a .1)) (no-spacing (a .2))
+          (λ k. inside-has b g kids (walk pick text q (q .begin) kids) ps k (λ z. places-has kids q (q .begin) i z))
+          (λ k. places-has rest r (a .0) j k) m
+
+      from-has : (t : Tree) (w : Seat) → List·Memᴰ (actAt h x) (calls pick text t) → Some Has (tokens (t .kids)) (placesFrom config text pick t w)
+      unfolding placesFrom calls
+      from-has t w m =
+          let q = pick (t .head .kind) (t .kids) in
+          inside-has (copied (t .head .kind) (t .kids)) (t .head) (t .kids) _ _ m (λ k. places-has (t .kids) q (q .begin) w k)
+
 -- ── in the layout
 
 end-longer : (Y : List Cell) (n : ℕ) → suc n < length (endLine Y) → n < length Y
@@ -292,6 +420,19 @@ module _ (width case : ℕ) (text tape : List ℕ) (t : Tree) (p : ℕ) (e : rea
       let all = written (piecesOf original (configOf width case) text t) in
       rw (finish-at all n (omega (arith, as-long width case text t)))
       (along-at (Told (configOf width case) text all) (tokens (t .kids)) (firstBytes width case text t) told i _ h .0 n q)
+
+  -- a call of the list
+  called : (cs : List Call) (j : ℕ) (h : Head) (x : Act) → getD cs j (raw 0 0) ≡ actAt h x → List·Memᴰ (actAt h x) cs
+  called [] j h x q = let z : _≡_ {A = ℕ} 0 1 = cc in absurd (omega arith)
+  called (c ∷ cs) zero h x q = List·Memᴰ·head (sym q)
+  called (c ∷ cs) (suc j) h x q = List·Memᴰ·tail (called cs j h x q)
+
+  pub written-place : (j : ℕ) (h : Head) (x : Act) → getD (calls (original .pick) text t) j (raw 0 0) ≡ actAt h x → writes x ≡ true → (h .start ≡ h .end → ⊥)
+      → (i : ℕ) × (i < length (tokens (t .kids))) × (tokenAt t i ≡ h) × (0 < getD (firstBytes width case text t) i 0)
+  written-place j h x q w s =
+      let r = some-at (Has (configOf width case) text h x w s)
+      (from-has (configOf width case) text h x w s (original .pick) t (newState, 0) (called (calls (original .pick) text t) j h x q)) _ in
+      (r .0, r .1, r .2 .0, r .2 .1)
 
   pub empty-none : (i : ℕ) → i < length (tokens (t .kids)) → (tokenAt t i) .start ≡ (tokenAt t i) .end → getD (firstBytes width case text t) i 0 ≡ 0
   empty-none i h = along-at (Told (configOf width case) text (written (piecesOf original (configOf width case) text t))) (tokens (t .kids)) (firstBytes width case text t) told i _ h .1

@@ -34,7 +34,7 @@ use Rattle.two_calls.specs.Both.{MapsBoth}
 use Rattle.acceptance.specs.Demands.{formatted}
 use Rattle.acceptance.specs.Requests.{lastLine, twoPerToken, firstBytes, Placed, TokenPlaces, MapsAlikeWhere, MapsMasked}
 use Rattle.acceptance.proofs.Demands.{was-refused, was-laid, as-long, byte-at}
-use Rattle.acceptance.proofs.FirstBytes.{first-byte, empty-none, copied-none}
+use Rattle.acceptance.proofs.FirstBytes.{first-byte, written-place, empty-none, copied-none}
 
 -- ── lines and columns
 
@@ -221,6 +221,7 @@ module _ (width case : ℕ) (text : Text) (tape before mapBefore : List ℕ) (r 
                   let x = numbers-of i (spotAt (formatted width case text t) n) (has-place i n q) (is-spot width case text t i n q h) in
                   (x .0 ∙ line-after bs firstSpot, x .1 ∙ column-from-1 bs);
               first = λ i n q h. first-byte width case text tape t p e i n (has-place i n q) q h;
+              hasPlace = written-place width case text tape t p e;
               noPlace = λ i h q. numbers-of i noSpot h (no-spot width case text t i q);
               belowCopy = λ i h q. numbers-of i noSpot h (no-spot width case text t i (copied-none width case text tape t p e i q));
               emptyText = λ i h q. numbers-of i noSpot h (no-spot width case text t i (empty-none width case text tape t p e i h q));

@@ -20,10 +20,11 @@ use Rattle.tape.specs.Tree.{Children, done, token, node, Tree, tokens, copied}
 use Rattle.tape.specs.Tape.{got, refused as refusedFor}
 use Rattle.tape.specs.Call.{readCall}
 use Rattle.layout.specs.declared.Answer.{Answer}
-use Rattle.layout.specs.Arms.{Sign, signByte}
+use Rattle.layout.specs.Arms.{Act, Sign, signByte}
+use Rattle.layout.specs.Calls.{actAt, raw, calls}
 use Rattle.layout.specs.Layout.{original, format}
 use Rattle.layout.specs.Outcome.{Result, answer, configOf, laidOut, namesLength, outcome}
-use Rattle.layout.specs.TokenMap.{placesFrom}
+use Rattle.layout.specs.TokenMap.{writes, placesFrom}
 use Rattle.layout.specs.Masking.{MaskedPair, AsciiPair, MaskedPairForLayout, SameLines}
 use Rattle.layout.specs.MapCall.{mapCellsAfter, numbers}
 use Rattle.two_calls.specs.declared.Answers.{Answers}
@@ -102,6 +103,9 @@ module _ (width case : ℕ) (text : Text) (tape before mapBefore : List ℕ) (r 
     -- "its first byte"; "A fixed sign written for a token counts as its byte."
     pub first : (i n : ℕ) → getD (firstBytes width case text t) i 0 ≡ suc n → suc n < length (formatted width case text t)
         → FirstByte (tokenAt t i) (getD (format original (configOf width case) text t) n (fresh 0))
+    -- every token has a place that has text and for which some call of the layout writes its text or a sign
+    pub hasPlace : (j : ℕ) (h : Head) (x : Act) → getD (calls (original .pick) text t) j (raw 0 0) ≡ actAt h x → writes x ≡ true → (h .start ≡ h .end → ⊥)
+        → (i : ℕ) × (i < length (tokens (t .kids))) × (tokenAt t i ≡ h) × (0 < getD (firstBytes width case text t) i 0)
     -- "A token that isn't written, lies below a node copied as typed, has empty text, or loses all its bytes to trimming gets 0 and 0."
     pub noPlace : (i : ℕ) → i < length (tokens (t .kids)) → getD (firstBytes width case text t) i 0 ≡ 0 → Numbers i 0 0
     pub belowCopy : (i : ℕ) → i < length (tokens (t .kids)) → getD (belowCopiedOf t) i false ≡ true → Numbers i 0 0
