@@ -5,13 +5,11 @@ fn main() {
     let mut book = [0u8; 65536];
     let mut work = [0u8; 65536];
     let mut out = [0u8; 65536];
-    let length = io::read_full(0, &mut book);
-    // A byte after a full buffer says that the book is longer.
-    let mut next = [0u8; 1];
-    let more = io::read_full(0, &mut next);
+    let read = input::read_input(&mut book);
+    let length = read.length;
     let done = book::report_from(
         &book[..length],
-        0 < more,
+        read.more,
         Tally::zeros(),
         &mut work,
         &mut out,

@@ -32,7 +32,7 @@ use Rattle.layout.specs.Calls.{formatErrorVerbatim, walk as walkTree, calls}
 use Rattle.layout.specs.Layout.{doSpacing, step, pieces, written, original, piecesOf, format}
 use Rattle.layout.specs.Outcome.{outcome}
 use Rattle.layout.specs.MaskingTests.{Condition, sameLength, noNewline, inSomeToken, strictlyInside, inQuotes, notCopied, noWhiteSpaceEnd, Asks, holds}
-use Rattle.layout.specs.MaskingNeeds.{bothPass, Broken, number, pairs, refusedByFour, refusedByFifteen, Needed, EachNeeded as EachNeededOfLayout}
+use Rattle.layout.specs.MaskingNeeds.{Claim, bothPass, Broken, number, pairs, refusedByFour, refusedByFifteen, Needed, EachNeeded as EachNeededOfLayout}
 use Rattle.layout.proofs.MaskingTests.{asked}
 use Rattle.layout.proofs.MaskingNeeds.{each-needed as each-needed-of-layout}
 use Rattle.desk_job.specs.declared.Header.the-variants.{Accepted}
@@ -227,7 +227,7 @@ second-needed job s t u = record { others = without-second plainJob job s t plai
 -- ── texts
 
 -- where a pair breaks the rule for layouts, and the reports differ too
-of-layout : (x : Broken) → Needed x → T (reportsDiffer (firstBook (x .pair)) (secondBook (x .pair))) → NeededOfTexts x
+of-layout : (x : Broken) → Needed Claim x → T (reportsDiffer (firstBook (x .pair)) (secondBook (x .pair))) → NeededOfTexts x
 of-layout x n u =
     record {
       tree = n .tree;
@@ -238,7 +238,7 @@ of-layout x n u =
       differ = reports-differ (firstBook (x .pair)) (secondBook (x .pair)) u;
     }
 
-each-told : (xs : List Broken) → EachNeededOfLayout xs → T (allTold xs) → EachTold xs
+each-told : (xs : List Broken) → EachNeededOfLayout Claim xs → T (allTold xs) → EachTold xs
 each-told [] n u = tt
 each-told (x ∷ xs) n u =
     let d = reportsDiffer (firstBook (x .pair)) (secondBook (x .pair)) in

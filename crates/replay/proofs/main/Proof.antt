@@ -8,23 +8,17 @@ use Rattle.desk_job.proofs.Writing.{within}
 use Rattle.replay.proofs.main.Statement.{statement}
 use Rattle.replay.proofs.main.Tie as tie
 
-slice-aggregate-read-full : tie.Need-slice-aggregate-read-full
-slice-aggregate-read-full c = sym (length-replicate {A = ℕ} 1048576 0)
+slice-aggregate-read-input : tie.Need-slice-aggregate-read-input
+slice-aggregate-read-input c = sym (length-replicate {A = ℕ} 1048576 0)
 
-read-full-requires : tie.Need-read-full-requires
-read-full-requires c κs = tt
-
-slice-aggregate-read-full-2 : tie.Need-slice-aggregate-read-full-2
-slice-aggregate-read-full-2 c = search needs
-
-read-full-requires-2 : tie.Need-read-full-requires-2
-read-full-requires-2 c κs = tt
+read-input-requires : tie.Need-read-input-requires
+read-input-requires c κs = tt
 
 array-share-prefix-list : tie.Need-array-share-prefix-list
-array-share-prefix-list c = c .before .before .before .before .read-full .ensures .0
+array-share-prefix-list c = c .before .read-input .ensures .0
 
 slice-aggregate-print-replayed : tie.Need-slice-aggregate-print-replayed
-slice-aggregate-print-replayed c = c .before .before .before .before .before .read-full .ensures .1
+slice-aggregate-print-replayed c = c .before .before .read-input .ensures .1
 
 slice-aggregate-print-replayed-2 : tie.Need-slice-aggregate-print-replayed-2
 slice-aggregate-print-replayed-2 c = search needs
@@ -48,10 +42,8 @@ pub main-spec : {M : Type 1} → statement M
 main-spec =
     tie.close
     (tie.spec
-    slice-aggregate-read-full
-    read-full-requires
-    slice-aggregate-read-full-2
-    read-full-requires-2
+    slice-aggregate-read-input
+    read-input-requires
     array-share-prefix-list
     slice-aggregate-print-replayed
     slice-aggregate-print-replayed-2

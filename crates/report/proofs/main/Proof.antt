@@ -6,17 +6,11 @@ use Rattle.book.proofs.Reporting.{put-within}
 use Rattle.report.proofs.main.Statement.{statement}
 use Rattle.report.proofs.main.Tie as tie
 
-slice-aggregate-read-full : tie.Need-slice-aggregate-read-full
-slice-aggregate-read-full c = search needs
+slice-aggregate-read-input : tie.Need-slice-aggregate-read-input
+slice-aggregate-read-input c = search needs
 
-read-full-requires : tie.Need-read-full-requires
-read-full-requires c κs = search needs
-
-slice-aggregate-read-full-2 : tie.Need-slice-aggregate-read-full-2
-slice-aggregate-read-full-2 c = search needs
-
-read-full-requires-2 : tie.Need-read-full-requires-2
-read-full-requires-2 c κs = search needs
+read-input-requires : tie.Need-read-input-requires
+read-input-requires c κs = search needs
 
 array-share-prefix-book : tie.Need-array-share-prefix-book
 array-share-prefix-book c = search needs
@@ -50,10 +44,8 @@ pub main-spec : {M : Type 1} → statement M
 main-spec =
     tie.close
     (tie.spec
-    slice-aggregate-read-full
-    read-full-requires
-    slice-aggregate-read-full-2
-    read-full-requires-2
+    slice-aggregate-read-input
+    read-input-requires
     array-share-prefix-book
     slice-aggregate-report-from
     zeros-requires
