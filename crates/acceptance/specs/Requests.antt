@@ -65,7 +65,7 @@ twoPerToken t = 2 * length (tokens (t .kids))
 -- where the first byte of each token stands in what is written, in the order of the tape, counted from 1: "A fixed sign written for a token counts as its
 -- byte." 0 for "a token that isn't written, lies below a node copied as typed, has empty text"
 abbrev pub firstBytes : ℕ → ℕ → Text → Tree → List ℕ
-firstBytes width case text t = placesFrom (configOf width case) text (original .pick) t (newState, 0)
+firstBytes width case source t = placesFrom (configOf width case) source (original .pick) t (newState, 0)
 
 -- the token i of the tape, counted from 0
 abbrev pub tokenAt : Tree → ℕ → Head
@@ -135,7 +135,7 @@ module _ (width case : ℕ) (text : Text) (tape before mapBefore : List ℕ) (r 
 module _ (width case : ℕ) (a b : Text) (tape beforeA beforeB mapBeforeA mapBeforeB : List ℕ) (r : Answers) (afterA afterB mapAfterA mapAfterB : List ℕ) where
   -- where the byte at i of the output space comes from
   abbrev pub mapOriginAt : Text → List ℕ → List ℕ → ℕ → Origin
-  mapOriginAt text before map i = (getD (mapCellsAfter (outcome original width case text tape) (numbers width case text tape) before map) i (fresh 0)) .origin
+  mapOriginAt source before lent i = (getD (mapCellsAfter (outcome original width case source tape) (numbers width case source tape) before lent) i (fresh 0)) .origin
 
   -- "The masking rule covers the map too, for calls lent the same map space": what follows where the texts differ only as a rule allows
   pub record MapsAlikeWhere (Allowed : Type 0) : Type 0 where
