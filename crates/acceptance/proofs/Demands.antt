@@ -27,8 +27,9 @@ use Rattle.acceptance.specs.Demands.{formatted, Demand1, Demand2, AlikeW
 
 -- ── demands 1 and 2
 
-module _ (width case : ℕ) (text tape before : List ℕ) (r : Answer) (after : List ℕ) (l : _≡_ {A = Result} (record { answer = r; space = after }) (laidOut (outcome original width case text tape) before)) where
-  was-refused : (f : Fault) (p : ℕ) → readCall width case text tape ≡ refused f p → outcome original width case text tape ≡ refusal f p
+-- what a reading comes to
+module _ (width case : ℕ) (text tape : List ℕ) where
+  pub was-refused : (f : Fault) (p : ℕ) → readCall width case text tape ≡ refused f p → outcome original width case text tape ≡ refusal f p
   unfolding outcome
   was-refused f p e = ap (λ (x : Read Tree). ofRead x (format original (configOf width case) text)) e
 
@@ -36,6 +37,10 @@ module _ (width case : ℕ) (text tape before : List ℕ) (r : Answer) (after : 
   unfolding outcome
   was-laid t p e = ap (λ (x : Read Tree). ofRead x (format original (configOf width case) text)) e
 
+pub as-long : (width case : ℕ) (text : Text) (t : Tree) → length (formatted width case text t) ≡ length (format original (configOf width case) text t)
+as-long width case text t = length-map (format original (configOf width case) text t) (λ (c : Cell). c .byte)
+
+module _ (width case : ℕ) (text tape before : List ℕ) (r : Answer) (after : List ℕ) (l : _≡_ {A = Result} (record { answer = r; space = after }) (laidOut (outcome original width case text tape) before)) where
   -- the answer and the space, where the outcome is known
   pub laid-answer : {x : Outcome} → outcome original width case text tape ≡ x → r ≡ (laidOut x before) .answer
   laid-answer e = ap (λ (z : Result). z .answer) l ∙ ap (λ (z : Outcome). (laidOut z before) .answer) e
@@ -48,31 +53,28 @@ module _ (width case : ℕ) (text tape before : List ℕ) (r : Answer) (after : 
     abbrev cells : List Cell
     cells = format original (configOf width case) text t
 
-    pub as-long : length (formatted width case text t) ≡ length cells
-    as-long = length-map cells (λ (c : Cell). c .byte)
-
     fits : length (formatted width case text t) ≤ length before → laidOut (laid cells) before ≡ fitted true cells before
     unfolding laidOut
-    fits h = ap (λ (b : Bool). fitted b cells before) (le-leb (length cells) (length before) (omega (arith, as-long)))
+    fits h = ap (λ (b : Bool). fitted b cells before) (le-leb (length cells) (length before) (omega (arith, as-long width case text t)))
 
     too-short : length before < length (formatted width case text t) → laidOut (laid cells) before ≡ fitted false cells before
     unfolding laidOut
-    too-short h = ap (λ (b : Bool). fitted b cells before) (lt-leb (length cells) (length before) (omega (arith, as-long)))
+    too-short h = ap (λ (b : Bool). fitted b cells before) (lt-leb (length cells) (length before) (omega (arith, as-long width case text t)))
 
   pub demand1 : Demand1 width case text tape before r after
   unfolding laidOut
   demand1 =
       record {
-        refuses = λ f p e. let o = was-refused f p e in (laid-answer o, laid-space o);
+        refuses = λ f p e. let o = was-refused width case text tape f p e in (laid-answer o, laid-space o);
         tooShort =
             λ t p e h.
-            let o = was-laid t p e in (
-              laid-answer o ∙ ap (λ (z : Result). z .answer) (too-short t h) ∙ ap (λ (n : ℕ). record { number = 13; value = n }) (sym (as-long t)),
+            let o = was-laid width case text tape t p e in (
+              laid-answer o ∙ ap (λ (z : Result). z .answer) (too-short t h) ∙ ap (λ (n : ℕ). record { number = 13; value = n }) (sym (as-long width case text t)),
               laid-space o ∙ ap (λ (z : Result). z .space) (too-short t h),
             );
         accepts =
             λ t p e h.
-            ap (λ (z : Answer). z .number) (laid-answer (was-laid t p e) ∙ ap (λ (z : Result). z .answer) (fits t h));
+            ap (λ (z : Answer). z .number) (laid-answer (was-laid width case text tape t p e) ∙ ap (λ (z : Result). z .answer) (fits t h));
       }
 
   pub demand2 : Demand2 width case text tape before r after
@@ -80,18 +82,18 @@ module _ (width case : ℕ) (text tape before : List ℕ) (r : Answer) (after : 
       record {
         writes =
             λ t p e h.
-            let o = was-laid t p e in (
-              laid-answer o ∙ ap (λ (z : Result). z .answer) (fits t h) ∙ ap (λ (n : ℕ). record { number = 0; value = n }) (sym (as-long t)),
+            let o = was-laid width case text tape t p e in (
+              laid-answer o ∙ ap (λ (z : Result). z .answer) (fits t h) ∙ ap (λ (n : ℕ). record { number = 0; value = n }) (sym (as-long width case text t)),
               laid-space o
                   ∙ ap (λ (z : Result). z .space) (fits t h)
-                  ∙ ap (λ (n : ℕ). formatted width case text t ++ drop n before) (sym (as-long t)),
+                  ∙ ap (λ (n : ℕ). formatted width case text t ++ drop n before) (sym (as-long width case text t)),
             );
       }
 
 -- ── demand 3
 
 -- a byte of the space, and its cell
-byte-at : (cs : List Cell) (ys : List ℕ) → ys ≡ bytesOf cs → (i : ℕ) → getD ys i 0 ≡ (getD cs i (fresh 0)) .byte
+pub byte-at : (cs : List Cell) (ys : List ℕ) → ys ≡ bytesOf cs → (i : ℕ) → getD ys i 0 ≡ (getD cs i (fresh 0)) .byte
 byte-at cs ys e i = ap (λ (z : List ℕ). getD z i 0) e ∙ List·getD-map (λ (c : Cell). c .byte) cs i (fresh 0)
 
 -- two spaces of 0 bytes are the same

@@ -99,9 +99,9 @@ module _ (width case : ℕ) (text : Text) (tape beforeA beforeB : List ℕ) (r :
   first-named : (t : Tree) (p : ℕ) → readCall width case text tape ≡ got t p
       → r .first ≡ answer (numberIn (length beforeA) (length (formatted width case text t))) (length (formatted width case text t))
   first-named t p e =
-      laid-answer width case text tape beforeA (r .first) afterA (twice .first) (was-laid width case text tape beforeA (r .first) afterA (twice .first) t p e)
+      laid-answer width case text tape beforeA (r .first) afterA (twice .first) (was-laid width case text tape t p e)
       ∙ named (format original (configOf width case) text t) beforeA
-      ∙ ap (λ (n : ℕ). answer (numberIn (length beforeA) n) n) (sym (as-long width case text tape beforeA (r .first) afterA (twice .first) t))
+      ∙ ap (λ (n : ℕ). answer (numberIn (length beforeA) n) n) (sym (as-long width case text t))
 
   is-named : (room needed : ℕ) → T (namesLength (answer (numberIn room needed) needed))
   is-named room needed = go (leb needed room)

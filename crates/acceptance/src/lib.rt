@@ -5,6 +5,7 @@ use book::Tally;
 use book::report_from;
 use desk_job::print_job;
 use formatter::layout;
+use formatter::layout_map;
 use keywords::Place;
 use keywords::Word;
 use keywords::is_word;
@@ -12,25 +13,28 @@ use keywords::walk;
 use keywords::word_of;
 use layout::Answer;
 use qdesk::qdesk_layout;
+use qdesk::qdesk_layout_map;
 use qdesk::qdesk_report;
 use qdesk::qdesk_word;
 use two_books::Reports;
 use two_books::report_both;
 use two_calls::Answers;
 use two_calls::layout_both;
+use two_calls::layout_map_both;
 use two_calls::layout_twice;
 ghost use mathlib.Core.Path.{_≡_};
 ghost use lib.Dec.{ltb};
 ghost use lib.ListN.{length};
 ghost use Rattle.keywords.specs.Words.{capitals, same, wordOf};
 ghost use Rattle.layout.specs.Layout.{original};
+ghost use Rattle.layout.specs.MapCall.{Mapped, mapped};
 ghost use Rattle.layout.specs.Outcome.{Result, laidOut, outcome};
 ghost use Rattle.book.specs.Report.{Called, reported};
 ghost use Rattle.desk_job.specs.Job.{printed};
 ghost use Rattle.desk_job.specs.Written.{Written, written};
 ghost use Rattle.qdesk.specs.TallyNumbers.{tallyOf};
 ghost use Rattle.qdesk.specs.WordAnswer.{wordAnswer};
-ghost use Rattle.acceptance.specs.Requests.{FirstEntry, OneCall, ReportOver, SameReport, SortOfWord};
+ghost use Rattle.acceptance.specs.Requests.{FirstEntry, MapsMasked, OneCall, ReportOver, SameReport, SortOfWord, TokenPlaces};
 ghost use Rattle.acceptance.specs.Demands.{Demand1, Demand2, Demand3};
 
 // Demand 1: bad input is refused with its number and place, nothing is written, and nothing else is refused.
@@ -81,6 +85,51 @@ pub fn request_2(word: &[u8]) -> Word
     ensures { λ r. ⌜ SortOfWord (now (word .entry)) r ⌝ }
 {
     word_of(word)
+}
+
+// E3: line and column of each token in the layout.
+pub fn request_3(
+    text: &[u8],
+    tape: &[u8],
+    width: u64,
+    case: u64,
+    out: &mut [u8],
+    map: &mut [u64],
+) -> Answer
+    ensures { λ r. ⌜ TokenPlaces width case (now (text .entry)) (now (tape .entry)) (now (out .entry)) (now (map .entry)) r (now (out .exit)) (now (map .exit)) ⌝ }
+{
+    layout_map(text, tape, width, case, out, map)
+}
+
+// E3: the masking rule covers the map too.
+pub fn request_3_masked(
+    a: &[u8],
+    b: &[u8],
+    tape: &[u8],
+    width: u64,
+    case: u64,
+    out_a: &mut [u8],
+    out_b: &mut [u8],
+    map_a: &mut [u64],
+    map_b: &mut [u64],
+) -> Answers
+    ensures { λ r. ⌜ MapsMasked width case (now (a .entry)) (now (b .entry)) (now (tape .entry)) (now («out_a» .entry)) (now («out_b» .entry)) (now («map_a» .entry)) (now («map_b» .entry)) r (now («out_a» .exit)) (now («out_b» .exit)) (now («map_a» .exit)) (now («map_b» .exit)) ⌝ }
+{
+    layout_map_both(a, b, tape, width, case, out_a, out_b, map_a, map_b)
+}
+
+// The C interface: laying out with a map.
+pub fn c_layout_map(
+    text: &[u8],
+    tape: &[u8],
+    width: u64,
+    case: u64,
+    out: &mut [u8],
+    map: &mut [u64],
+) -> Answer
+    ensures { λ r. ⌜ _≡_ {A = Mapped} (record { answer = r; space = now (out .exit); map = now (map .exit) }) (mapped width case (now (text .entry)) (now (tape .entry)) (now (out .entry)) (now (map .entry))) ⌝ }
+{
+    qdesk_layout_map(text, tape, width, case, out, map)
 }
 
 // E4: the first entry of the list that is equal to a length and bytes, whatever they are, or none.
