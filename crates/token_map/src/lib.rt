@@ -11,8 +11,8 @@ ghost use Prim.Native.Nat.{_+_, _-_, _≤_, _<_, _^_};
 ghost use lib.ListN.{length, replicate, take};
 ghost use Rattle.token_map.specs.Signs.{placeAs, placeBy, writtenAs};
 ghost use Rattle.token_map.specs.Notes.{noteAll, noted};
-ghost use Rattle.layout.specs.Lines.{spotAt, turned};
-ghost use Rattle.token_map.specs.Spots.{Counted, Entered, lineColumn, spots};
+ghost use Rattle.layout.specs.Lines.{spotAt};
+ghost use Rattle.token_map.specs.Spots.{EndsAt, LineOf, Entered, spots};
 
 // For which kinds a routine writes a fixed sign. One with NoSemicolon writes none, and nothing for a Semicolon.
 pub enum Signs {
@@ -34,18 +34,18 @@ pub enum Written {
     Sign,
 }
 
-// Line and column of the byte at an offset, both from 1. They always agree with the bytes before it.
-pub struct Spot {
-    pub at: usize,
-    pub line: u64,
-    pub column: u64,
+// A line of the bytes: its number from 1, the offset of its first byte, and that of the newline that ends it. The last line ends where the bytes end.
+pub struct Line {
+    pub number: u64,
+    pub start: usize,
+    pub end: usize,
 }
 
-// Line and column in the map, 0 and 0 for none, and the spot that was counted to.
+// Line and column in the map, 0 and 0 for none, and the line to go on from.
 pub struct Entry {
     pub line: u64,
     pub column: u64,
-    pub spot: Spot,
+    pub from: Line,
 }
 
 fn sign_if(is_sign: bool) -> Written
@@ -202,66 +202,84 @@ pub fn copy_front(map: &mut [u64], notes: &[u64])
     }
 }
 
-fn first_spot(out: &[u8]) -> Spot
-    ensures { λ r. ⌜ Counted (now (out .entry)) r × (r .at ≡ 0) ⌝ }
+// Where a line that goes on at an offset ends. Most of the time goes into this loop, so it does nothing else.
+fn newline_from(out: &[u8], from: usize) -> usize
+    requires { ⌜ from ≤ length (now out) ⌝ }
+    ensures { λ r. ⌜ EndsAt (now (out .entry)) from r ⌝ }
 {
-    Spot {
-        at: 0,
-        line: 1,
-        column: 1,
-    }
-}
-
-// The spot after one byte more: a newline ends its line.
-fn after_byte(spot: Spot, b: u8) -> Spot
-    requires { ⌜ (spot .at + 2 < 2 ^ 64) × (spot .line ≤ spot .at + 1) × (spot .column ≤ spot .at + 1) ⌝ }
-    ensures { λ r. ⌜ (r .at ≡ spot .at + 1) × (lineColumn r ≡ turned b (lineColumn spot)) ⌝ }
-{
-    if b == 10 {
-        return Spot {
-            at: spot.at + 1,
-            line: spot.line + 1,
-            column: 1,
-        };
-    }
-    Spot {
-        at: spot.at + 1,
-        line: spot.line,
-        column: spot.column + 1,
-    }
-}
-
-// Where counting starts for an offset: at the spot, unless that is past it.
-fn spot_before(out: &[u8], spot: Spot, at: usize) -> Spot
-    requires { ⌜ Counted (now out) spot ⌝ }
-    ensures { λ r. ⌜ Counted (now (out .entry)) r × (r .at ≤ at) ⌝ }
-{
-    if at < spot.at {
-        return first_spot(out);
-    }
-    spot
-}
-
-// The spot of the byte at an offset; past the end, the one after the last byte. From a spot before it only the bytes between are counted.
-fn spot_at(out: &[u8], from: Spot, at: usize) -> Spot
-    requires { ⌜ Counted (now out) from × (at + 1 < 2 ^ 64) ⌝ }
-    ensures { λ r. ⌜ Counted (now (out .entry)) r × (lineColumn r ≡ spotAt (now (out .entry)) at) ⌝ }
-{
-    let mut spot = spot_before(out, from, at);
-    let mut i = spot.at;
-    while i < at {
-        if out.len() <= i {
-            return spot;
+    let mut i = from;
+    while i < out.len() {
+        if out[i] == 10 {
+            return i;
         }
-        spot = after_byte(spot, out[i]);
         i += 1;
     }
-    spot
+    i
 }
 
-// What stands in the map for a place, and the spot to go on from.
-fn entry_of(out: &[u8], from: Spot, place: u64, k: usize) -> Entry
-    requires { ⌜ Counted (now out) from ⌝ }
+fn first_line(out: &[u8]) -> Line
+    ensures { λ r. ⌜ LineOf (now (out .entry)) r × (r .start ≡ 0) ⌝ }
+{
+    let end = newline_from(out, 0);
+    Line {
+        number: 1,
+        start: 0,
+        end: end,
+    }
+}
+
+// The line after a newline.
+fn next_line(out: &[u8], line: Line) -> Line
+    requires { ⌜ LineOf (now out) line × (line .end < length (now out)) × (line .end + 2 < 2 ^ 64) ⌝ }
+    ensures { λ r. ⌜ LineOf (now (out .entry)) r × (r .start ≡ line .end + 1) ⌝ }
+{
+    let start = line.end + 1;
+    let end = newline_from(out, start);
+    Line {
+        number: line.number + 1,
+        start: start,
+        end: end,
+    }
+}
+
+// Where the search for an offset's line starts: at the given line, unless the offset is before it.
+fn line_before(out: &[u8], from: Line, at: usize) -> Line
+    requires { ⌜ LineOf (now out) from ⌝ }
+    ensures { λ r. ⌜ LineOf (now (out .entry)) r × (r .start ≤ at) ⌝ }
+{
+    if at < from.start {
+        return first_line(out);
+    }
+    from
+}
+
+// The line that an offset is in. Only the bytes between the given line and this one are looked at.
+fn line_of(out: &[u8], from: Line, at: usize) -> Line
+    requires { ⌜ LineOf (now out) from × (at ≤ length (now out)) × (at + 1 < 2 ^ 64) ⌝ }
+    ensures { λ r. ⌜ LineOf (now (out .entry)) r × (r .start ≤ at) × (at ≤ r .end) ⌝ }
+{
+    let mut line = line_before(out, from, at);
+    while line.end < at {
+        line = next_line(out, line);
+    }
+    line
+}
+
+// The offset of a place. One past the bytes has the line and column of their end.
+fn offset_of(out: &[u8], place: usize) -> usize
+    requires { ⌜ 0 < place ⌝ }
+    ensures { λ r. ⌜ (r ≤ length (now (out .entry))) × (r < place) × (spotAt (now (out .entry)) r ≡ spotAt (now (out .entry)) (place - 1)) ⌝ }
+{
+    let at = place - 1;
+    if out.len() < at {
+        return out.len();
+    }
+    at
+}
+
+// What stands in the map for a place, and the line to go on from.
+fn entry_of(out: &[u8], from: Line, place: u64, k: usize) -> Entry
+    requires { ⌜ LineOf (now out) from ⌝ }
     ensures { λ r. ⌜ Entered k (now (out .entry)) place r ⌝ }
 {
     let p = place as usize;
@@ -269,14 +287,15 @@ fn entry_of(out: &[u8], from: Spot, place: u64, k: usize) -> Entry
         return Entry {
             line: 0,
             column: 0,
-            spot: from,
+            from: from,
         };
     }
-    let spot = spot_at(out, from, p - 1);
+    let at = offset_of(out, p);
+    let line = line_of(out, from, at);
     Entry {
-        line: spot.line,
-        column: spot.column,
-        spot: spot,
+        line: line.number,
+        column: (at - line.start) as u64 + 1,
+        from: line,
     }
 }
 
@@ -284,13 +303,13 @@ fn entry_of(out: &[u8], from: Spot, place: u64, k: usize) -> Entry
 pub fn place_tokens(map: &mut [u64], out: &[u8], k: usize)
     ensures { λ _. ⌜ now (map .exit) ≡ spots k (now (out .entry)) (now (map .entry)) ⌝ }
 {
-    let mut spot = first_spot(out);
+    let mut line = first_line(out);
     let mut i: usize = 0;
     while 1 < map.len() - i {
-        let e = entry_of(out, spot, map[i], k);
+        let e = entry_of(out, line, map[i], k);
         map[i] = e.line;
         map[i + 1] = e.column;
-        spot = e.spot;
+        line = e.from;
         i += 2;
     }
 }

@@ -1,26 +1,26 @@
 -- `place_tokens` meets its contract. The invariant: the pairs passed are done, and with the others they come to what all do.
 use borrow.Author.Needs.{needs}
-use Prim.Native.Nat.{_+_, _-_, _≤_, _<_}
-use mathlib.Core.Path.{_≡_, refl, sym, ap, _∙_, subst}
+use Prim.Native.Nat.{_-_, _≤_}
+use mathlib.Core.Path.{_≡_, refl, sym, ap, _∙_}
 use mathlib.Core.List.{List, _++_}
 use native.Mathlib.Omega.{arith}
 use lib.ListN.{length, take, drop, length-set, length-drop, take-append-drop}
-use Rattle.token_map.specs.Spots.{Counted, spots}
+use Rattle.token_map.specs.Spots.{LineOf, spots}
 use Rattle.token_map.proofs.Counting.{spots-more, spots-short}
 use Rattle.token_map.proofs.place_tokens.Statement.{statement}
 use Rattle.token_map.proofs.place_tokens.Tie as tie
 
 abbrev Inv-loop : tie.InvT-loop
-Inv-loop map₀ out k spot₀ i₀ map spot i = Counted out spot × (i ≤ length map) × (length map ≡ length map₀) × (take i map ++ spots k out (drop i map) ≡ spots k out map₀)
+Inv-loop map₀ out k line₀ i₀ map line i = LineOf out line × (i ≤ length map) × (length map ≡ length map₀) × (take i map ++ spots k out (drop i map) ≡ spots k out map₀)
 
 abbrev μ-loop : tie.MeasureT-loop
-μ-loop map₀ out k spot₀ i₀ map spot i = length map - i
+μ-loop map₀ out k line₀ i₀ map line i = length map - i
 
-first-spot-requires : tie.Need-first-spot-requires Inv-loop μ-loop
-first-spot-requires c κs = tt
+first-line-requires : tie.Need-first-line-requires Inv-loop μ-loop
+first-line-requires c κs = tt
 
 loop-holds : tie.Need-loop-holds Inv-loop μ-loop
-loop-holds c = (c .first-spot .ensures .0, omega arith, refl, refl)
+loop-holds c = (c .first-line .ensures .0, omega arith, refl, refl)
 
 sub-loop : tie.Need-sub-loop Inv-loop μ-loop
 sub-loop c = c .loop .inv .1
@@ -60,7 +60,7 @@ loop-again c =
     let l = c .before .before .before .before .loop in
     let t = c .before .before .before .loop-test .taken in
     let e = c .before .entry-of .ensures in (
-      e .counted,
+      e .from,
       simp length-set (omega (arith, t)),
       simp length-set (l .inv .2),
       spots-more _ _ (l .map) (l .i) _ _ (omega (arith, t)) (e .line) (e .column) ∙ l .inv .3,
@@ -82,7 +82,7 @@ place-tokens-spec =
     (tie.spec
     Inv-loop
     μ-loop
-    first-spot-requires
+    first-line-requires
     loop-holds
     sub-loop
     mul-entry-of
