@@ -86,13 +86,23 @@ def respelled(text, new, code):
     return TOKEN.sub(lambda m: new.get(m[0], m[0]) if code or re.search("[a-z0-9][A-Z]", m[0]) else m[0], text)
 
 
+def own(text, new):
+    """The new names without those that the text imports from a library."""
+    lent = set()
+    for line in re.finditer(r"\buse ([^\s{;]+)\.\{([^}]*)\}", text):
+        if not re.match(r"Rattle\.(\w+)\.", line[1]) or not os.path.isdir("crates/" + line[1].split(".")[1]):
+            lent |= set(TOKEN.findall(line[2]))
+    return {old: it for old, it in new.items() if old not in lent}
+
+
 def antt(text, new):
+    new = own(text, new)
     return "\n".join(respelled(code, new, True) + respelled(note, new, False) for code, note in (re.fullmatch(r"((?:(?!(?:^|(?<= ))--(?: |$)).)*)(.*)", line).groups() for line in text.split("\n")))
 
 
 def rt(text, new):
     """In a Rust file only what clauses name: the ghost lines and the clauses between a signature and its body."""
-    out = []
+    out, new = [], own(text, new)
     for line in text.split("\n"):
         code, mark, note = line.partition("//")
         out.append(respelled(code, new, True) + mark + respelled(note, new, False))

@@ -1,6 +1,6 @@
 -- The bytes of cells, what a change of case keeps, and the text of a span.
 use mathlib.Core.Path.{◌≡◌, refl, sym, ap, ◌∙◌}
-use mathlib.Core.Bool.{Bool, true, false, cond, ◌&&◌, and_false}
+use mathlib.Core.Bool.{Bool, true, false, cond, ◌&&◌, and-false}
 use mathlib.Core.List.{List, [], ◌∷◌, ◌++◌, map}
 use Prim.Native.Nat.{ℕ, zero, suc, min, ◌+◌, ◌-◌, ◌≤◌, ◌<◌}
 use native.Mathlib.Nat.{min-le_left}
@@ -62,7 +62,7 @@ module _ (test : ℕ → Bool) (low : (b : ℕ) → 65 ≤ b → test b ≡ fals
 
 white_in_case : (uppercase : Bool) (b : ℕ) → is_white_byte (to_case uppercase b) ≡ is_white_byte b
 unfolding is_white_byte
-white_in_case = in_case_lem is_white_byte (λ b h. simp (ne_eqb b 32 (λ e. omega arith), lt-leb b 13 (omega arith), and_false))
+white_in_case = in_case_lem is_white_byte (λ b h. simp (ne_eqb b 32 (λ e. omega arith), lt-leb b 13 (omega arith), and-false))
 
 pub newline-in_case : (uppercase : Bool) (b : ℕ) → eqb (to_case uppercase b) 10 ≡ eqb b 10
 newline-in_case = in_case_lem (λ b. eqb b 10) (λ b h. ne_eqb b 10 (λ e. omega arith))
@@ -70,8 +70,8 @@ newline-in_case = in_case_lem (λ b. eqb b 10) (λ b h. ne_eqb b 10 (λ e. omega
 -- bytes above 127 stay, and no other becomes one
 case-high : (uppercase : Bool) (b : ℕ) → 128 ≤ b → to_case uppercase b ≡ b
 unfolding to_uppercase to_lowercase
-case-high true b h = simp (lt-leb b 122 (omega arith), and_false)
-case-high false b h = simp (lt-leb b 90 (omega arith), and_false)
+case-high true b h = simp (lt-leb b 122 (omega arith), and-false)
+case-high false b h = simp (lt-leb b 90 (omega arith), and-false)
 
 case-low : (uppercase : Bool) (b : ℕ) → b < 128 → to_case uppercase b < 128
 unfolding to_uppercase to_lowercase

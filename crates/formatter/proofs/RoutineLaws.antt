@@ -1,7 +1,7 @@
 -- What the routines' definitions come to around a child node, as the loops have it.
 use Prim.Native.Nat.{ℕ}
 use mathlib.Core.Path.{◌≡◌, refl, sym, ap, ◌∙◌}
-use mathlib.Core.Bool.{Bool, true, false, cond, not, ◌&&◌, ◌||◌, and_false, and_true, false≢true}
+use mathlib.Core.Bool.{Bool, true, false, cond, not, ◌&&◌, ◌||◌, and-false, and-true, false≢true}
 use mathlib.Core.Logic.{inl, inr, ⊎_elim}
 use mathlib.Core.List.{List, [], ◌∷◌, map}
 use lib.Dec.{eqb, ltb}
@@ -107,8 +107,8 @@ multi_noted {f} {k} {list} {kids} o n =
     rw (n.several, has) (go (has_child list kids))
   where
     go : (b : Bool) → (ltb 1 (count_list_items kids) && not b) ≡ ltb 1 (cond (not b) (count_list_items kids) 0)
-    go true = and_false (ltb 1 (count_list_items kids))
-    go false = and_true (ltb 1 (count_list_items kids))
+    go true = and-false (ltb 1 (count_list_items kids))
+    go false = and-true (ltb 1 (count_list_items kids))
 
 pub list-known : (list : ℕ) (kids : Children) (multi : Bool) → multi ≡ multi_item list kids → format_list_clause list kids ≡ list_clause_arms list multi
 unfolding format_list_clause

@@ -3,7 +3,7 @@ use Prim.Native.Nat.{ℕ, zero, suc, ◌+◌, ◌-◌, ◌*◌, ◌≤◌, ◌<�
 use native.Mathlib.Omega.{arith}
 use native.Mathlib.Nat.{add-zero}
 use mathlib.Core.Path.{◌≡◌, refl, sym, ap, subst, ◌∙◌}
-use mathlib.Core.Bool.{Bool, true, false, cond, not, ◌&&◌, and_false}
+use mathlib.Core.Bool.{Bool, true, false, cond, not, ◌&&◌, and-false}
 use mathlib.Core.List.{List, [], ◌∷◌, ◌++◌, map}
 use lib.ListN.{length, get_or, take, drop, replicate, length-take}
 use lib.Seq.{get_or-drop, get_or-take}
@@ -34,7 +34,7 @@ capital x lo hi = rw (le-leb 65 x lo, le-leb x 90 hi)
 
 above : (x : ℕ) → 90 < x → to_lowercase x ≡ x
 unfolding to_lowercase
-above x h = rw (lt-leb x 90 h, and_false (leb 65 x))
+above x h = rw (lt-leb x 90 h, and-false (leb 65 x))
 
 other : (x : ℕ) → leb 65 x && leb x 90 ≡ false → to_lowercase x ≡ x
 unfolding to_lowercase

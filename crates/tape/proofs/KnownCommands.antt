@@ -2,7 +2,7 @@
 use Prim.Native.Nat.{ℕ, ◌+◌, ◌≤◌, ◌<◌}
 use native.Mathlib.Omega.{arith}
 use mathlib.Core.Path.{◌≡◌, refl, sym, ap, ◌∙◌, subst}
-use mathlib.Core.Bool.{Bool, true, false, false≢true, cond, not, ◌&&◌, ◌||◌, and_false}
+use mathlib.Core.Bool.{Bool, true, false, false≢true, cond, not, ◌&&◌, ◌||◌, and-false}
 use mathlib.Core.List.{List}
 use lib.ListN.{length, get_or}
 use lib.Dec.{leb, ltb, eqb}
@@ -132,7 +132,7 @@ pub record TokenPasses (tests : SpanTests) (h : Head) : Type 0 where
   pub word : eqb h.kind BareWord && tests.not_ascii h ≡ false
 
 pub span-passes : (tests : SpanTests) (h : Head) → h.end ≤ tests.length → tests.inside_character h ≡ false → NodePasses tests h
-span-passes tests h l i = record { within = λ _. l; at_bounds = ap (λ t. leb h.start h.end && t) i ∙ and_false (leb h.start h.end) }
+span-passes tests h l i = record { within = λ _. l; at_bounds = ap (λ t. leb h.start h.end && t) i ∙ and-false (leb h.start h.end) }
 
 pub no_span_passes : (tests : SpanTests) (h : Head) → h.end < h.start → NodePasses tests h
 no_span_passes tests h l = record { within = λ le. absurd (omega arith); at_bounds = rw (lt-leb h.start h.end l) }

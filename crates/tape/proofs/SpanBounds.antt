@@ -4,7 +4,7 @@ use Prim.Native.Nat.{ℕ, ◌-◌, ◌≤◌, ◌<◌}
 use native.Mathlib.Nat.{le_trans}
 use native.Mathlib.Omega.{arith}
 use mathlib.Core.Path.{◌≡◌, refl, sym, ap, ap₂, ◌∙◌}
-use mathlib.Core.Bool.{Bool, true, false, true≢false, false≢true, cond, not, ◌&&◌, ◌||◌, and_false}
+use mathlib.Core.Bool.{Bool, true, false, true≢false, false≢true, cond, not, ◌&&◌, ◌||◌, and-false}
 use mathlib.Core.List.{List, []}
 use lib.ListN.{length, take, drop, get_or}
 use lib.Dec.{leb, ltb, eqb}
@@ -87,7 +87,7 @@ module _ {text : List ℕ} {n : ℕ} (known : KnownText text n) where
             le-ltb (length text) h.end (le_trans l known.start.within),
             start-inside h (le_trans o l) l,
             start-part text n known.start.within known.start.ascii h.start h.end o l,
-            and_false (eqb h.kind BareWord),
+            and-false (eqb h.kind BareWord),
           )
 
   pub start-open : (depth : ℕ) (h : Head) → sound (check_open (length_alone n) depth h) ≡ true → Sound ≡ check_open (tests_of text) depth h
