@@ -1,5 +1,7 @@
 // What the customer is promised, one function for each demand: it makes the calls that the demand speaks of, asks nothing, and promises what
 // the demand says. Nobody calls these functions. They are the page to read first, and a promise that is weakened below fails here.
+#![tactic(auto)]
+
 ghost use Rattle.std.specs.Prelude.{◌≡◌, ltb, length};
 ghost use Rattle.keywords.specs.Words.{capitals, same, word_of};
 ghost use Rattle.layout.specs.Layout.{original};

@@ -1,4 +1,6 @@
 // A report over a book of saved queries: the book is walked first, and then each job is answered as the desk's program does it, and told on a line.
+#![tactic(auto)]
+
 mod open;
 mod print;
 mod told;

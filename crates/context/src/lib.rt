@@ -1,5 +1,7 @@
 // The layout state of context.rs. Each method takes the context and hands the next one back. What it writes goes to the write
 // position of the lent `out`, as far as `out` goes, so that measuring is the same code over an `out` of no bytes.
+#![tactic(auto)]
+
 mod buffer;
 
 ghost use Rattle.std.specs.Prelude.{◌≡◌, [], ◌∷◌, ◌++◌, ◌+◌, ◌^◌, ◌≤◌, ◌<◌, length, replicate};

@@ -1,4 +1,6 @@
 // The desk's program: reads a job from standard input, and prints its layout or its refusal.
+#![tactic(auto)]
+
 fn main() {
     let mut job = [0u8; 65536];
     let mut out = [0u8; 65536];

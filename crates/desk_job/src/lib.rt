@@ -1,4 +1,6 @@
 // What the desk's program prints for a job: the layout, or the line of a refusal.
+#![tactic(auto)]
+
 pub mod write;
 
 ghost use Rattle.std.specs.Prelude.{◌≡◌, ◌<◌, ◌≤◌, length};

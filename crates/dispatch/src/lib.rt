@@ -1,4 +1,6 @@
 // The dispatch of format_node: the routine of each kind.
+#![tactic(auto)]
+
 ghost use Rattle.std.specs.Prelude.{◌≡◌};
 ghost use Rattle.layout.specs.FormatNode.{routine_of};
 

@@ -1,6 +1,8 @@
 // What the routines of format_node.rs for lists, expressions and all other nodes do with their children: NAME_token at a token, NAME_before and
 // NAME_after around a child node, NAME_end at their end; NAME_local is what the local variables become after a child node. The arms that
 // most routines share come last, in `emit_other`. The loops that call these are in the crate `formatter`.
+#![tactic(auto)]
+
 ghost use Rattle.std.specs.Prelude.{◌≡◌, not, ◌&&◌, eqb};
 ghost use Rattle.context.specs.Store.{Room};
 ghost use Rattle.keywords.specs.Table.{table};

@@ -1,4 +1,6 @@
 // Laying out: `format` of mod.rs, from bytes to an answer and a filled space.
+#![tactic(auto)]
+
 mod format;
 
 ghost use Rattle.std.specs.Prelude.{◌≡◌, ◌++◌, ◌*◌, ◌≤◌, ◌<◌, drop, length, replicate, set, take};

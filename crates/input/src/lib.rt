@@ -1,4 +1,6 @@
 // What the programs read: standard input into a buffer, and whether it goes on after a full one.
+#![tactic(auto)]
+
 ghost use Rattle.io.specs.Counts.{IsPrefixLen};
 
 #[derive(Clone, Copy)]

@@ -1,4 +1,6 @@
 // The keywords of the source (head of format_node.rs): the list, the walk over it, and the test of a word.
+#![tactic(auto)]
+
 mod index;
 pub mod table;
 

@@ -1,4 +1,6 @@
 // The C interface: every entry of the library, each thin over a proved function. `rt staticlib qdesk` makes the archive.
+#![tactic(auto)]
+
 ghost use Rattle.std.specs.Prelude.{◌≡◌, ltb};
 ghost use Rattle.book.specs.Report.{Called, reported};
 ghost use Rattle.keywords.specs.Words.{word_of};

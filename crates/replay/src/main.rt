@@ -1,4 +1,6 @@
 // Replays a stored list of calls: reads it from standard input, and prints how many of its records differ, or which one is bad.
+#![tactic(auto)]
+
 fn main() {
     let mut list = [0u8; 1048576];
     let mut line = [0u8; 128];

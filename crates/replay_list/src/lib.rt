@@ -1,5 +1,7 @@
 // A stored list of calls, replayed: the call of each record is made, in no space and in the record's, and compared with it, and the line is put that
 // says how it went.
+#![tactic(auto)]
+
 mod agree;
 mod line;
 mod record;

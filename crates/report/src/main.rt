@@ -1,4 +1,6 @@
 // The second program: reads a book from standard input, and prints the report over it.
+#![tactic(auto)]
+
 use book::Tally;
 
 fn main() {

@@ -1,4 +1,6 @@
 // The tape: its commands, the check of refusals 1 to 12, 15 and 16, what it notes of each node, and the way past a node.
+#![tactic(auto)]
+
 pub mod check;
 pub mod commands;
 pub mod facts;

@@ -1,5 +1,7 @@
 // The token map: what the loops of the routines note while the tree is walked, and lines and columns of what was noted. A plain layout lends a map of
 // no numbers.
+#![tactic(auto)]
+
 ghost use Rattle.std.specs.Prelude.{◌≡◌, cond, ◌+◌, ◌-◌, ◌≤◌, ◌<◌, ◌^◌, length, replicate, take};
 ghost use Rattle.token_map.specs.Signs.{place_as, place_by, written_as};
 ghost use Rattle.token_map.specs.Notes.{note_all, noted};

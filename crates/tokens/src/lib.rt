@@ -1,4 +1,6 @@
 // The token helpers of format_node.rs.
+#![tactic(auto)]
+
 ghost use Rattle.std.specs.Prelude.{◌≡◌, not, true, ◌&&◌, [], ◌∷◌, ◌+◌, ◌^◌, ◌≤◌, ◌<◌, length, eqb};
 ghost use Rattle.context.specs.Store.{Room};
 ghost use Rattle.context.specs.Cells.{count, token_text};

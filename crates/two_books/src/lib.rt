@@ -1,4 +1,6 @@
 // Two reports, one over each book: the masking rule for a whole book, request E7, from entry to exit.
+#![tactic(auto)]
+
 ghost use Rattle.two_books.specs.Both.{ReportsBoth};
 
 use book::{Reported, Tally, report_from};

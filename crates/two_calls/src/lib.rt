@@ -1,4 +1,6 @@
 // Two calls on one tape: one for each of two texts, which is the masking rule, demand 3, from entry to exit; or both for one text, in two spaces.
+#![tactic(auto)]
+
 ghost use Rattle.two_calls.specs.Both.{LaysOutBoth, LaysOutTwice, MapsBoth};
 
 use formatter::{layout, layout_map};

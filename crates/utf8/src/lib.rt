@@ -1,4 +1,6 @@
 // Well-formed UTF-8: the first ill-formed byte, the bounds of characters, and trailing white space.
+#![tactic(auto)]
+
 ghost use Rattle.std.specs.Prelude.{◌≡◌, true, not, ◌≤◌, ◌<◌, length, take, drop, get_or};
 ghost use Rattle.utf8.specs.Table.{◌‥◌, holds, character_length, is_ascii};
 ghost use Rattle.utf8.specs.Pieces.{pieces, first_ill_formed, is_trailing};
