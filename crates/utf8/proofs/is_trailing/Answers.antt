@@ -1,0 +1,8 @@
+-- `is_trailing` meets its contract.
+use Rattle.utf8.specs.Pieces.{is_trailing}
+use borrow.Author.Rules.{rules}
+use Rattle.utf8.proofs.is_trailing.Goals as goal
+
+pub returns : goal.returns
+unfolding is_trailing
+returns c = c.in_range.ensures

@@ -1,0 +1,18 @@
+-- `trimmed_from_end` meets its contract: what lies from n on is white space.
+use Prim.Native.Nat.{ℕ, ◌≤◌, ◌<◌}
+use native.Mathlib.Nat.{le_refl}
+use native.Mathlib.Omega.{arith}
+use mathlib.Core.Path.{◌≡◌, sym, ap, ◌∙◌}
+use lib.ListN.{length, take}
+use lib.Seq.{take-length}
+use Rattle.utf8.specs.Trimming.{trimmed_length}
+use Rattle.utf8.proofs.LastWhiteSpace.{byte-before}
+use Rattle.utf8.proofs.Trimming.{stop, short, back, trimmed-nothing}
+use borrow.Author.Rules.{rules}
+use Rattle.utf8.proofs.trimmed_from_end.Given as goal
+
+abbrev pub invariant-loop-n : goal.invariant-loop-n
+invariant-loop-n l = (l.n ≤ length l.text) × (trimmed_length l.text ≡ trimmed_length (take l.n l.text))
+
+abbrev pub decreases-loop-n : goal.decreases-loop-n
+decreases-loop-n l = l.n
