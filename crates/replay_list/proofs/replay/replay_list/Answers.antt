@@ -16,7 +16,7 @@ pub returns-in-Broken : goal.returns-in-Broken
 returns-in-Broken c = broken-record c.args.more c.args.list.now c.u64_at-records.result c.loop-tally.tally c.loop-tally.at c.loop-tally.invariant c.loop-tally-test.true (sym c.in-Broken.is ∙ c.replay_record-found.ensures)
 
 pub count-tally-requires : goal.count-tally-requires
-count-tally-requires c = (c.loop-tally.invariant.few, omega (arith, c.loop-tally-test.true, c.u64_at-records.type-inv))
+count-tally-requires c = (c.loop-tally.invariant.few, omega (arith, c.loop-tally-test.true, c.u64_at-records.type_inv))
 
 pub overflow_add-at : goal.overflow_add-at
 overflow_add-at c =

@@ -9,16 +9,16 @@ pub returns-then-bytes-lt72 : goal.returns-then-bytes-lt72
 returns-then-bytes-lt72 c = cut-in_head c.args.bytes.now c.if-bytes-lt72.true
 
 pub returns-then-not-fits : goal.returns-then-not-fits
-returns-then-not-fits c = over_limit c.args.bytes.now _ c.read_head-head.ensures c.if-bytes-lt72.false (answered-false c.before.fits2.ensures c.if-not-fits.true)
+returns-then-not-fits c = over_limit c.args.bytes.now _ c.read_head-head.ensures c.if-bytes-lt72.false (answered-false c.fits.ensures c.if-not-fits.true)
 
 pub record_end-end-requires : goal.record_end-end-requires
-record_end-end-requires c = answered-true c.before.fits2.ensures c.if-not-fits.false
+record_end-end-requires c = answered-true c.fits.ensures c.if-not-fits.false
 
 pub returns-then-bytes-end : goal.returns-then-bytes-end
-returns-then-bytes-end c = cut-in_run c.args.bytes.now _ c.read_head-head.ensures c.if-bytes-lt72.false (answered-true c.before.before.before.fits2.ensures c.if-not-fits.false) _ c.record_end-end.ensures c.if-bytes-end.true
+returns-then-bytes-end c = cut-in_run c.args.bytes.now _ c.read_head-head.ensures c.if-bytes-lt72.false (answered-true c.fits.ensures c.if-not-fits.false) _ c.record_end-end.ensures c.if-bytes-end.true
 
 pub record_agrees-agreed-requires : goal.record_agrees-agreed-requires
-record_agrees-agreed-requires c = (answered-true c.before.before.before.fits2.ensures c.if-not-fits.false, omega (arith, c.if-bytes-end.false, c.record_end-end.ensures))
+record_agrees-agreed-requires c = (answered-true c.fits.ensures c.if-not-fits.false, omega (arith, c.if-bytes-end.false, c.record_end-end.ensures))
 
 pub returns : goal.returns
-returns c = record_compared c.args.bytes.now _ c.read_head-head.ensures c.if-bytes-lt72.false (answered-true c.before.before.before.before.fits2.ensures c.if-not-fits.false) _ c.record_end-end.ensures c.if-bytes-end.false _ c.record_agrees-agreed.ensures
+returns c = record_compared c.args.bytes.now _ c.read_head-head.ensures c.if-bytes-lt72.false (answered-true c.fits.ensures c.if-not-fits.false) _ c.record_end-end.ensures c.if-bytes-end.false _ c.record_agrees-agreed.ensures
