@@ -1,11 +1,14 @@
 // The desk's program: reads a job from standard input, and prints its layout or its refusal.
 #![tactic(auto)]
 
-fn main() {
+use std::io;
+use std::io::Write;
+
+fn main(rt: HostRuntime) -> io::Result<()> {
     let mut job = [0u8; 65536];
     let mut out = [0u8; 65536];
-    let read = input::read_input(&mut job);
+    let read = input::read_input(&mut rt.stdin(), &mut job)?;
     let length = read.length;
     let n = desk_job::print_job(&job[..length], read.more, &mut out);
-    io::write_all(1, &out[..n]);
+    rt.stdout().write_all(&out[..n])
 }

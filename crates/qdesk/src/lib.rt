@@ -1,4 +1,4 @@
-// The C interface: every entry of the library, each thin over a proved function. `rt staticlib qdesk` makes the archive.
+// Every entry of the library, each thin over a proved function. `qdesk_c` hands them to C.
 #![tactic(auto)]
 
 ghost use Rattle.std.specs.Prelude.{◌≡◌, ltb};
@@ -15,8 +15,7 @@ use formatter::{layout, layout_map};
 use keywords::{Word, word_of};
 use layout::Answer;
 
-#[unsafe(no_mangle)]
-pub extern "C" fn qdesk_layout(
+pub fn qdesk_layout(
     text: &[u8],
     tape: &[u8],
     width: u64,
@@ -28,8 +27,7 @@ pub extern "C" fn qdesk_layout(
     layout(text, tape, width, case, out)
 }
 
-#[unsafe(no_mangle)]
-pub extern "C" fn qdesk_layout_map(
+pub fn qdesk_layout_map(
     text: &[u8],
     tape: &[u8],
     width: u64,
@@ -42,8 +40,7 @@ pub extern "C" fn qdesk_layout_map(
     layout_map(text, tape, width, case, out, map)
 }
 
-#[unsafe(no_mangle)]
-pub extern "C" fn qdesk_word(word: &[u8]) -> Answer
+pub fn qdesk_word(word: &[u8]) -> Answer
     ensures { result ≡ word_answer (word_of word.now) }
 {
     let sort = word_of(word);
@@ -64,8 +61,7 @@ pub extern "C" fn qdesk_word(word: &[u8]) -> Answer
 }
 
 // The tally is four numbers here, in the record's order. `more` is 0, or the book goes on after these bytes.
-#[unsafe(no_mangle)]
-pub extern "C" fn qdesk_report(
+pub fn qdesk_report(
     book: &[u8],
     more: u64,
     tally: &mut [u64; 4],

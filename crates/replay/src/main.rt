@@ -1,11 +1,14 @@
 // Replays a stored list of calls: reads it from standard input, and prints how many of its records differ, or which one is bad.
 #![tactic(auto)]
 
-fn main() {
+use std::io;
+use std::io::Write;
+
+fn main(rt: HostRuntime) -> io::Result<()> {
     let mut list = [0u8; 1048576];
     let mut line = [0u8; 128];
-    let read = input::read_input(&mut list);
+    let read = input::read_input(&mut rt.stdin(), &mut list)?;
     let length = read.length;
     let n = replay_list::print_replayed(&list[..length], read.more, &mut line);
-    io::write_all(1, &line[..n]);
+    rt.stdout().write_all(&line[..n])
 }

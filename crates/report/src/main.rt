@@ -2,12 +2,14 @@
 #![tactic(auto)]
 
 use book::Tally;
+use std::io;
+use std::io::Write;
 
-fn main() {
+fn main(rt: HostRuntime) -> io::Result<()> {
     let mut book = [0u8; 65536];
     let mut work = [0u8; 65536];
     let mut out = [0u8; 65536];
-    let read = input::read_input(&mut book);
+    let read = input::read_input(&mut rt.stdin(), &mut book)?;
     let length = read.length;
     let done = book::report_from(
         &book[..length],
@@ -17,5 +19,5 @@ fn main() {
         &mut out,
     );
     let n = done.put;
-    io::write_all(1, &out[..n]);
+    rt.stdout().write_all(&out[..n])
 }
