@@ -4,7 +4,7 @@ use mathlib.Core.Bool.{Bool, false}
 use mathlib.Core.List.{List, [], ◌∷◌, ◌++◌, map}
 use Prim.Native.Nat.{ℕ}
 use Rattle.keywords.specs.Words.{bytes}
-use Rattle.desk_job.specs.Written.{Written, written}
+use Rattle.desk_job.specs.Written.{written}
 use Rattle.desk_job.specs.Job.{Answered, printed_answer, decimal, field, pair, refused_line}
 use Rattle.book.specs.declared.Tally.{Tally}
 use Rattle.book.specs.declared.Reported.{Reported}

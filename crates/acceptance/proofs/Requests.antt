@@ -11,7 +11,7 @@ use borrow.Author.Tests.{le-leb}
 use Rattle.basics.specs.Case.{to_uppercase}
 use Rattle.basics.proofs.Same.{same-equal}
 use Rattle.keywords.specs.Names.{names}
-use Rattle.keywords.specs.Words.{bytes, capitals, is_keyword, is_value_keyword, next, place_of, same, sort_of, word_of, words}
+use Rattle.keywords.specs.Words.{bytes, capitals, next, place_of, same, word_of, words}
 use Rattle.keywords.specs.Walk.{first_equal}
 use Rattle.keywords.specs.declared.Place.{Place}
 use Rattle.keywords.specs.declared.Place.TheVariants.{At, Nowhere}

@@ -11,7 +11,6 @@ use Rattle.layout.specs.declared.Answer.{Answer}
 use Rattle.layout.specs.Outcome.{Result}
 use Rattle.desk_job.specs.Job.{Answered, refused, text, answered, leaves, read_header}
 use Rattle.desk_job.proofs.Printing.{Fits, answer-fits}
-use Rattle.book.specs.declared.told.Told.{Told}
 use Rattle.book.specs.declared.told.Told.TheVariants.{Refused, LaidOut}
 use Rattle.book.specs.Told.{Telling, telling, told_of, told_job, answered_job}
 use Rattle.book.specs.Tally.{bytes_told, lines_told}

@@ -1,5 +1,5 @@
 -- Small books and what is printed for each: one table.
-use Rattle.std.specs.Prelude.{ℕ, zero, suc, Bool, true, false, ◌&&◌, List, [], ◌∷◌, ◌++◌, replicate, eqb}
+use Rattle.std.specs.Prelude.{ℕ, zero, suc, Bool, true, false, ◌&&◌, List, [], ◌∷◌, ◌++◌, eqb}
 use Rattle.keywords.specs.Words.{bytes, same}
 use Rattle.book.specs.declared.open.Opened.{Opened}
 use Rattle.book.specs.declared.open.Opened.TheVariants.{Fault, Jobs}

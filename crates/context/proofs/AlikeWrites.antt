@@ -1,12 +1,12 @@
 -- The masking rule for one write: cells that are alike before it are alike after it, and so is what `finish` makes of them.
 use mathlib.Core.Path.{◌≡◌, refl, sym, ap, subst, ◌∙◌}
-use mathlib.Core.Bool.{Bool, false}
+use mathlib.Core.Bool.{Bool}
 use mathlib.Core.List.{List, [], ◌∷◌, ◌++◌, map}
 use Prim.Native.Nat.{ℕ, zero, suc, ◌+◌, ◌<◌}
 use native.Mathlib.Nat.{add-zero, add-suc, suc-add}
 use native.Mathlib.Omega.{arith}
 use lib.Dec.{eqb}
-use lib.ListN.{length, get_or, take, length-map}
+use lib.ListN.{length, get_or, take}
 use Rattle.context.specs.Cells.{Text, Cell, to_case, token_text, bytes_of, fresh, copied_from, span_cells, cell_in_case}
 use Rattle.utf8.specs.Trimming.{trimmed_length}
 use Rattle.context.specs.Context.{Step, write_token, write_keyword, end_line, trim_end, finish}

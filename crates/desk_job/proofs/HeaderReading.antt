@@ -6,7 +6,7 @@ use Prim.Native.Nat.{ℕ, ◌≤◌}
 use native.Mathlib.Omega.{arith}
 use lib.ListN.{length, get_or}
 use lib.Dec.{leb, ltb}
-use borrow.Author.Tests.{leb-true, ltb-false, not-true, not-false}
+use borrow.Author.Tests.{leb-true, ltb-false}
 use Rattle.desk_job.specs.declared.Header.{Header}
 use Rattle.desk_job.specs.declared.Header.TheVariants.{Refused, Accepted}
 use Rattle.desk_job.specs.Job.{has_command, text_end, read_header}

@@ -8,7 +8,7 @@ use lib.Dec.{eqb, ltb}
 use borrow.Author.Tests.{eqb-true}
 use Rattle.basics.specs.Match.{among, match}
 use Rattle.tape.specs.Kinds.{ColumnList, SettingList, WhenClause, SelectStatement, UnionClause, GroupByList, OrderByList}
-use Rattle.tape.specs.Tree.{Children, has_child, count_list_items, several_list_items}
+use Rattle.tape.specs.Tree.{Children, has_child, count_list_items}
 use Rattle.tape.specs.NodeFacts.{notes_several, notes_list, NodeFacts}
 use Rattle.layout.specs.declared.Local.{Local}
 use Rattle.layout.specs.declared.Routine.{Routine}

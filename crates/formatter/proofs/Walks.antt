@@ -25,7 +25,7 @@ use Rattle.layout.specs.Arms.{Spacing, seen, Arms}
 use Rattle.layout.specs.FormatNode.{arms_of, routine_of, format_node}
 use Rattle.layout.specs.Calls.{Call, put_spacing, act_at, format_error_verbatim, walk, calls}
 use Rattle.layout.specs.Run.{run_spacing, run}
-use Rattle.layout.specs.TokenMap.{Seat, seat_after, place_of, no_places, places, places_from}
+use Rattle.layout.specs.TokenMap.{Seat, seat_after, no_places, places, places_from}
 use Rattle.layout.proofs.Running.{run-append, run-spacing}
 use Rattle.token_map.specs.Notes.{noted, note_all}
 use Rattle.token_map.specs.Signs.{place_by}

@@ -1,6 +1,6 @@
 -- The walk: what is known once an entry is equal or is not, and the walk with a word's capitals.
 use mathlib.Core.Path.{◌≡◌, refl, sym, ap, ◌∙◌}
-use mathlib.Core.Bool.{Bool, true, false, cond, ◌&&◌}
+use mathlib.Core.Bool.{Bool, true, false, ◌&&◌}
 use mathlib.Core.List.{List, [], ◌∷◌, ◌++◌}
 use Prim.Native.Nat.{ℕ, zero, suc, ◌+◌, ◌≤◌, ◌<◌}
 use native.Mathlib.Nat.{le_of_suc-le-suc, not-suc-le-zero}
@@ -12,7 +12,7 @@ use lib.ListN.{length, length-append, length-map, get_or, set, take, drop, repli
 use lib.Seq.{length-take-le, take-append_seam}
 use Rattle.basics.specs.Case.{to_uppercase}
 use Rattle.basics.proofs.Same.{and_true, same-lengths}
-use Rattle.keywords.specs.Words.{bytes, capitals, place_of, same, words}
+use Rattle.keywords.specs.Words.{capitals, place_of, same, words}
 use Rattle.keywords.specs.Walk.{capital_letters, first_equal, is_equal}
 use Rattle.keywords.specs.Index as spec
 use Rattle.keywords.specs.Index.{Stands, candidate, unpacked}

@@ -1,7 +1,6 @@
 -- Which words are keywords, and which of them are values: `is_keyword` and `is_value_keyword` of format_node.rs, and both in one answer.
 use Rattle.std.specs.Prelude.{Bool, true, false, cond, ◌||◌, List, [], ◌∷◌, map, ℕ, suc}
 use Prim.Native.Char.{code}
-use Prim.Native.String
 use Prim.Native.String.{String}
 unfoldable pub use Rattle.basics.specs.Bytes.{same, listed}
 use Rattle.basics.specs.Case.{to_uppercase}

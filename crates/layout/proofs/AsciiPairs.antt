@@ -1,13 +1,12 @@
 -- Demand 3 as document 00 words it is a corollary: an ASCII byte is a character of its own.
-use Prim.Native.Nat.{ℕ, zero, suc, ◌+◌, ◌-◌, ◌≤◌, ◌<◌}
+use Prim.Native.Nat.{ℕ, suc, ◌-◌, ◌≤◌, ◌<◌}
 use native.Mathlib.Omega.{arith}
-use mathlib.Core.Path.{◌≡◌, refl, sym, ap, ◌∙◌, subst}
-use mathlib.Core.Bool.{Bool, true, false}
+use mathlib.Core.Path.{◌≡◌, sym, ap, ◌∙◌, subst}
+use mathlib.Core.Bool.{true}
 use mathlib.Core.List.{List, [], ◌∷◌, map}
 use lib.ListN.{length, get_or}
 use lib.Dec.{T}
 use Rattle.utf8.specs.Table.{is_ascii}
-use Rattle.utf8.specs.Pieces.{pieces}
 use Rattle.utf8.specs.WhiteSpace.{is_white_space}
 use Rattle.utf8.specs.Trimming.{is_white_byte}
 use Rattle.utf8.proofs.CharacterLength.{ascii-part}
@@ -18,8 +17,7 @@ use Rattle.context.specs.Context.{last_byte}
 use Rattle.context.proofs.Bytes.{token-last, token-length}
 use Rattle.tape.specs.declared.Head.{Head}
 use Rattle.tape.specs.Tree.{Children, done, token, node, Tree, EachToken}
-use Rattle.tape.specs.Tape.{got, verdict}
-use Rattle.tape.specs.Call.{read_call}
+use Rattle.tape.specs.Tape.{verdict}
 use Rattle.tape.proofs.Trees.{tokens-fit}
 use Rattle.tape.proofs.Acceptance.{accepted-call}
 use Rattle.tape.proofs.AsciiTexts.{ascii-passes}

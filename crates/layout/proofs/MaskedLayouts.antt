@@ -6,7 +6,7 @@ use mathlib.Core.Path.{◌≡◌, refl, sym, ap, ◌∙◌, subst}
 use mathlib.Core.Bool.{Bool, true, false, cond}
 use mathlib.Core.List.{List, [], ◌∷◌, ◌++◌, map}
 use lib.ListN.{length, get_or, length-map}
-use lib.Dec.{T, eqb, leb, eqb→eq}
+use lib.Dec.{T, eqb, eqb→eq}
 use borrow.Author.Tests.{eqb-true, eqb-false, ne_eqb}
 use Rattle.utf8.specs.Pieces.{Starts}
 use Rattle.utf8.specs.Pieces as Chars
@@ -24,10 +24,10 @@ use Rattle.context.proofs.Bytes.{bytes-append, bytes-span, bytes-in_case, token-
 use Rattle.context.proofs.AlikeWrites.{like_self, like_append, like_length, span-like, keyword-like, finish-like}
 use Rattle.tape.specs.Kinds.{StringToken, QuotedIdentifier}
 use Rattle.tape.specs.declared.Head.{Head}
-use Rattle.tape.specs.Tree.{Children, done, token, node, Tree, count_list_items, copied, EachToken, EachNode}
+use Rattle.tape.specs.Tree.{Children, done, token, node, Tree, count_list_items, copied, EachToken}
 use Rattle.layout.specs.declared.Local.{Local}
-use Rattle.layout.specs.Arms.{Spacing, Act, spacing, write_text, write_keyword, write_sign, is_read, seen, Arms}
-use Rattle.layout.specs.Calls.{Call, put_spacing, act_at, raw, format_error_verbatim, walk, calls}
+use Rattle.layout.specs.Arms.{spacing, write_text, write_keyword, write_sign, is_read, seen, Arms}
+use Rattle.layout.specs.Calls.{Call, put_spacing, act_at, raw, walk, calls}
 use Rattle.layout.specs.Layout.{step, pieces, written, Version, original, pieces_of, format}
 use Rattle.layout.proofs.EachCall.{Every, each-call, of_copy, reached_below}
 use Rattle.layout.specs.SpanStarts.{SpansStart}

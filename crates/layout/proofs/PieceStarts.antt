@@ -1,20 +1,19 @@
 -- Where each span of a tree begins at a character's bound, so does each piece of its layout, and what is left of the layout from any piece on.
 use Prim.Native.Nat.{ℕ, zero, suc, ◌*◌}
-use mathlib.Core.Path.{◌≡◌, refl, sym, ap, ◌∙◌, subst}
+use mathlib.Core.Path.{refl, sym, ap, ◌∙◌, subst}
 use mathlib.Core.Bool.{Bool, true, false, cond, not, ◌&&◌}
 use mathlib.Core.List.{List, [], ◌∷◌, ◌++◌, map}
 use lib.ListN.{replicate}
-use lib.Dec.{T}
 use Rattle.utf8.specs.Table.{holds}
 use Rattle.utf8.specs.Pieces.{is_trailing, Starts}
-use Rattle.context.specs.Cells.{Text, Cell, bytes_of, fresh, token_text, span_cells, cell_in_case, to_case}
+use Rattle.context.specs.Cells.{Text, bytes_of, fresh, token_text, span_cells, to_case}
 use Rattle.context.specs.Context.{Piece, Step, lead, write_newline, write_token, write_raw, write_space, take_pending_newline, take_pending_blank_line}
 use Rattle.context.specs.Context as context
 use Rattle.context.specs.declared.FormatConfig.{FormatConfig}
 use Rattle.context.specs.declared.State.{State}
 use Rattle.context.proofs.Bytes.{bytes-append, bytes-span, bytes-in_case, trailing_in_case}
 use Rattle.tape.specs.declared.Head.{Head}
-use Rattle.tape.specs.Tree.{Tree, EachToken, EachNode, copied}
+use Rattle.tape.specs.Tree.{copied}
 use Rattle.tape.specs.SpelledAt.{AcceptedCall}
 use Rattle.tape.proofs.Trees.{each-token, each-node}
 use Rattle.tape.proofs.SpanBounds.{token-starts, node-starts}

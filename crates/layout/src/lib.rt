@@ -1,7 +1,6 @@
 // The definition of the layout stands in specs/; here are the types that it shares with the code.
 #![tactic(auto)]
 
-
 // The source's Option<SyntaxKind>.
 #[derive(Clone, Copy)]
 pub enum PrevKind {

@@ -15,13 +15,7 @@ use formatter::{layout, layout_map};
 use keywords::{Word, word_of};
 use layout::Answer;
 
-pub fn qdesk_layout(
-    text: &[u8],
-    tape: &[u8],
-    width: u64,
-    case: u64,
-    out: &mut [u8],
-) -> Answer
+pub fn qdesk_layout(text: &[u8], tape: &[u8], width: u64, case: u64, out: &mut [u8]) -> Answer
     ensures { ◌≡◌ {A = Result} (record { answer = result; space = out.new }) (laid_out (outcome original width case text.now tape.now) out.old) }
 {
     layout(text, tape, width, case, out)

@@ -9,7 +9,6 @@ use lib.Dec.{ltb}
 use borrow.Author.Tests.{ltb-false}
 use Rattle.utf8.specs.declared.Place.{Place}
 use Rattle.utf8.specs.declared.Place.TheVariants.{Nowhere, At}
-use Rattle.utf8.specs.Table.{is_ascii}
 use Rattle.utf8.specs.Pieces.{first_ill_formed}
 use Rattle.tape.specs.declared.Head.{Head}
 use Rattle.tape.specs.declared.Fault.{Fault}
@@ -25,7 +24,6 @@ use Rattle.tape.proofs.Trees.{spelled-end, each-token, each-node}
 use Rattle.tape.proofs.Reading.{held}
 use Rattle.tape.proofs.SpanBounds.{token-in_text, node-in_text}
 use Rattle.tape.proofs.LengthAlone.{length-alone}
-use Rattle.tape.proofs.AsciiTexts.{ascii-passes}
 
 no_tree : {f : Fault} {p : ℕ} → ◌≡◌ {A = Checked} (Refused f p) Accepted → ⊥
 no_tree u = let z : ◌≡◌ {A = ℕ} 0 1 = cc in omega arith

@@ -14,7 +14,7 @@ use Rattle.tape.specs.declared.Fault.TheVariants.{NotOneRoot}
 use Rattle.tape.specs.declared.Checked.{Checked}
 use Rattle.tape.specs.declared.Checked.TheVariants.{Accepted, Refused}
 use Rattle.tape.specs.declared.Finding.TheVariants.{Sound, Faulty}
-use Rattle.tape.specs.Tree.{Children, token, node, Tree}
+use Rattle.tape.specs.Tree.{Tree}
 use Rattle.tape.specs.Tape.{head_at, Command, ends, faulty, opens, is_token, closes, SpanTests, Read, refused, got, and_then, by_root, by_end, command_at, check_open, check_token, checked, checked_at, read_tape, verdict}
 use Rattle.tape.specs.NodeFacts.{Noted, NotedOf}
 use Rattle.tape.proofs.KnownCommands.{known_of, checked-of, at-end}

@@ -1,5 +1,5 @@
 -- What the code notes is the place that the definition has: from the position after the acts for a token to where its text began.
-use Prim.Native.Nat.{ℕ, zero, suc, ◌+◌, ◌-◌, ◌*◌, ◌<◌}
+use Prim.Native.Nat.{ℕ, zero, suc, ◌+◌, ◌-◌, ◌*◌}
 use native.Mathlib.Omega.{arith}
 use native.Mathlib.Nat.{add-zero}
 use mathlib.Core.Path.{◌≡◌, refl, sym, ap, ◌∙◌, subst}
@@ -27,7 +27,7 @@ use Rattle.layout.specs.Arms.{Spacing, newline, space, indent, dedent, note, bla
 use Rattle.layout.specs.Arms as arms
 use Rattle.layout.specs.Tokens.{is_line_comment}
 use Rattle.layout.specs.Calls.{Call, act_at}
-use Rattle.layout.specs.Layout.{newline_if, nothing_written, do_spacing, step}
+use Rattle.layout.specs.Layout.{newline_if, do_spacing, step}
 use Rattle.layout.specs.Run.{run}
 use Rattle.layout.specs.TokenMap.{Seat, later_of, seat_after, written_at, place_of}
 use Rattle.token_map.specs.declared.Signs.{Signs}

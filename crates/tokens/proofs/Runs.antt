@@ -13,7 +13,7 @@ use Rattle.utf8.specs.Trimming.{trimmed_length}
 use Rattle.context.specs.Splice.{splice}
 use Rattle.context.specs.Context.{Step, lead, write_newline, write_token, write_space, note_skipped_whitespace, take_pending_newline, take_pending_blank_line, indent, dedent, write_raw}
 use Rattle.context.specs.Context as context
-use Rattle.context.specs.Store.{Store, advanced, appended, stored, with_state, after_text, Wrote, Changed}
+use Rattle.context.specs.Store.{Store, appended, stored, with_state, after_text, Wrote, Changed}
 use Rattle.context.specs.declared.FormatConfig.{FormatConfig}
 use Rattle.context.specs.declared.FormatterContext.{FormatterContext}
 use Rattle.context.specs.declared.State.{State}

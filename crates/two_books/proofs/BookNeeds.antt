@@ -1,5 +1,5 @@
 -- Each condition on two books is needed.
-use mathlib.Core.Path.{◌≡◌, refl, sym, subst, ◌∙◌}
+use mathlib.Core.Path.{◌≡◌, refl, sym, subst}
 use mathlib.Core.Bool.{Bool, true, false, not, ◌&&◌, ◌||◌}
 use mathlib.Core.List.{List, [], ◌∷◌}
 use Prim.Native.Nat.{ℕ, zero, suc}
@@ -21,7 +21,7 @@ use Rattle.utf8.specs.Trimming.{trimmed, trimmed_length, is_white_byte}
 use Rattle.tape.specs.Kinds
 use Rattle.tape.specs.Kinds.{kinds, not_carried}
 use Rattle.tape.specs.Tree.{done, token, Tree, has_child, count_list_items, copied}
-use Rattle.tape.specs.Tape.{got, head_at, command_at, check_open, check_token, checked_at, read_children, read_tape, read_tree}
+use Rattle.tape.specs.Tape.{head_at, command_at, check_open, check_token, checked_at, read_children, read_tape, read_tree}
 use Rattle.tape.specs.Call.{let_pass, read_input, read_call}
 use Rattle.layout.specs.Masking.{MaskedPair}
 use Rattle.layout.specs.Arms.{seen}
@@ -32,7 +32,7 @@ use Rattle.layout.specs.Calls.{format_error_verbatim, walk as walk_tree, calls}
 use Rattle.layout.specs.Layout.{do_spacing, step, pieces, written, original, pieces_of, format}
 use Rattle.layout.specs.Outcome.{outcome}
 use Rattle.layout.specs.MaskingTests.{Condition, same_length, no_newline, in_some_token, strictly_inside, in_quotes, not_copied, no_white_space_end, Asks, holds}
-use Rattle.layout.specs.MaskingNeeds.{Claim, both_pass, Broken, number, pairs, refused_by_four, refused_by_fifteen, Needed, EachNeeded as EachNeededOfLayout}
+use Rattle.layout.specs.MaskingNeeds.{Claim, Broken, number, pairs, refused_by_four, refused_by_fifteen, Needed, EachNeeded as EachNeededOfLayout}
 use Rattle.layout.proofs.MaskingTests.{asked}
 use Rattle.layout.proofs.MaskingNeeds.{each_needed as each-needed-of-layout}
 use Rattle.desk_job.specs.declared.Header.TheVariants.{Accepted}
@@ -43,7 +43,7 @@ use Rattle.book.specs.Book.{job_end, is_whole, walk, opened, jobs_from}
 use Rattle.book.specs.Told.{told_of, answered_job}
 use Rattle.book.specs.Tally.{with_job, tallied}
 use Rattle.book.specs.Report.{job_line, total_line, job_lines, work_after, report_of}
-use Rattle.two_books.specs.MaskedBooks.{SameCommands, MaskedJobs, Pairs}
+use Rattle.two_books.specs.MaskedBooks.{SameCommands}
 use Rattle.two_books.specs.WorkedBooks.{job_of}
 use Rattle.two_books.specs.BookNeeds.{lines_of, Differ, OfBooks, one_length, one_walk, each_pair, AsksOfBooks, book_number, NeededOfBooks, OfJobs, header_a, header_b, same_tape, texts, AsksOfJobs, job_number, book_of, NeededOfJobs, job_with, plain_job, first_book, second_book, NeededOfTexts, is_told, EachTold, words, cut_short, whole, wrong, right, last18, last19, EachNeeded, commands_agree, reports_differ, jobs_show, all_told}
 

@@ -1,17 +1,15 @@
 -- Two books that differ only as the masking rule allows have one report and one tally.
 use mathlib.Core.Path.{◌≡◌, refl, sym, ap, ◌∙◌}
-use mathlib.Core.Bool.{Bool, true, false, cond, ◌&&◌}
+use mathlib.Core.Bool.{Bool, true, false, cond}
 use mathlib.Core.List.{List, [], ◌∷◌, ◌++◌, map}
 use Prim.Native.Nat.{ℕ, zero, suc, ◌+◌, ◌<◌}
 use native.Mathlib.Nat.{add-zero}
 use native.Mathlib.Omega.{arith}
 use lib.ListN.{length, get_or, take, drop}
 use lib.Seq.{get_or-take, get_or-drop}
-use lib.Dec.{leb, ltb}
-use Rattle.tape.specs.Tape.{u32_at}
+use lib.Dec.{leb}
 use Rattle.desk_job.specs.Written.{written}
 use Rattle.book.specs.declared.Tally.{Tally}
-use Rattle.book.specs.declared.Reported.{Reported}
 use Rattle.book.specs.declared.told.Told.{Told}
 use Rattle.book.specs.declared.open.Opened.{Opened}
 use Rattle.book.specs.declared.open.Opened.TheVariants.{Fault, Jobs}

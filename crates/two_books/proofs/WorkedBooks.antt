@@ -1,15 +1,14 @@
 -- The conditions are met by a pair of books that differ.
 use mathlib.Core.Path.{◌≡◌, refl, sym, ap, subst, ◌∙◌}
-use mathlib.Core.Bool.{false, true, false≢true}
-use mathlib.Core.List.{List, [], ◌∷◌}
+use mathlib.Core.Bool.{false, false≢true}
+use mathlib.Core.List.{List}
 use Prim.Native.Nat.{ℕ}
-use Rattle.context.specs.Cells.{Text}
 use Rattle.layout.specs.MaskingNeeds.{masked}
 use Rattle.layout.proofs.MaskingNeeds.{met}
 use Rattle.desk_job.specs.Job.{has_command, text_end, read_header}
 use Rattle.book.specs.declared.open.Opened.{Opened}
 use Rattle.book.specs.declared.open.Opened.TheVariants.{Fault, Jobs}
-use Rattle.book.specs.Book.{job_end, job_at, is_whole, walk, opened, jobs_from}
+use Rattle.book.specs.Book.{job_end, is_whole, walk, opened, jobs_from}
 use Rattle.book.specs.SmallBooks.{example}
 use Rattle.two_books.specs.MaskedBooks.{MaskedJob, MaskedJobs, equal, masked as masked_jobs, Pairs, MaskedBooks}
 use Rattle.two_books.specs.WorkedBooks.{masked_job, worked_book}

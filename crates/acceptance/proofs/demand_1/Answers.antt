@@ -1,5 +1,4 @@
 -- `demand_1` meets its contract.
-use borrow.Author.Rules.{rules}
 use Rattle.acceptance.proofs.Demands.{demand1}
 use Rattle.acceptance.proofs.demand_1.Goals as goal
 

@@ -1,5 +1,4 @@
 -- `demand_2` meets its contract.
-use borrow.Author.Rules.{rules}
 use Rattle.acceptance.proofs.Demands.{demand2}
 use Rattle.acceptance.proofs.demand_2.Goals as goal
 

@@ -1,5 +1,4 @@
 -- `demand_3` meets its contract.
-use borrow.Author.Rules.{rules}
 use Rattle.acceptance.proofs.Demands.{demand3}
 use Rattle.acceptance.proofs.demand_3.Goals as goal
 

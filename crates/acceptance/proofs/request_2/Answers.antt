@@ -1,5 +1,4 @@
 -- `request_2` meets its contract.
-use borrow.Author.Rules.{rules}
 use Rattle.acceptance.proofs.Requests.{sort_of-word}
 use Rattle.acceptance.proofs.request_2.Goals as goal
 

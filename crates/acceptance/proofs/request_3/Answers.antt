@@ -1,5 +1,4 @@
 -- `request_3` meets its contract.
-use borrow.Author.Rules.{rules}
 use Rattle.acceptance.proofs.Maps.{token-places}
 use Rattle.acceptance.proofs.request_3.Goals as goal
 

@@ -1,5 +1,4 @@
 -- `request_3_masked` meets its contract.
-use borrow.Author.Rules.{rules}
 use Rattle.acceptance.proofs.Maps.{maps-masked}
 use Rattle.acceptance.proofs.request_3_masked.Goals as goal
 

@@ -1,5 +1,4 @@
 -- `request_4` meets its contract.
-use borrow.Author.Rules.{rules}
 use Rattle.acceptance.proofs.Requests.{first_entry}
 use Rattle.acceptance.proofs.request_4.Goals as goal
 

@@ -1,5 +1,4 @@
 -- `request_5` meets its contract.
-use borrow.Author.Rules.{rules}
 use Rattle.acceptance.proofs.Requests.{one_call}
 use Rattle.acceptance.proofs.request_5.Goals as goal
 

@@ -1,5 +1,4 @@
 -- `request_6` meets its contract.
-use borrow.Author.Rules.{rules}
 use Rattle.acceptance.proofs.Reports.{report_over}
 use Rattle.acceptance.proofs.request_6.Goals as goal
 

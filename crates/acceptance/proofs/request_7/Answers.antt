@@ -1,5 +1,4 @@
 -- `request_7` meets its contract.
-use borrow.Author.Rules.{rules}
 use Rattle.acceptance.proofs.Reports.{same-report}
 use Rattle.acceptance.proofs.request_7.Goals as goal
 

@@ -1,7 +1,6 @@
 -- `begin` meets its contract, by the cases of the walk.
 use mathlib.Core.Path.{sym, ◌∙◌}
 use Rattle.book.proofs.Stepping.{begun-fault, begun-jobs}
-use borrow.Author.Rules.{rules}
 use Rattle.book.proofs.begin.Goals as goal
 
 pub returns-in-Fault : goal.returns-in-Fault

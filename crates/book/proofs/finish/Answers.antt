@@ -1,6 +1,5 @@
 -- `finish` meets its contract.
 use Rattle.book.specs.Steps.{finished}
-use borrow.Author.Rules.{rules}
 use Rattle.book.proofs.finish.Goals as goal
 
 pub returns-then-run : goal.returns-then-run

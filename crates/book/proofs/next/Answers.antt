@@ -3,7 +3,6 @@ use native.Mathlib.Omega.{arith}
 use Rattle.book.proofs.Opening.{head-within, job_within, job_after}
 use Rattle.book.proofs.Telling.{told-job}
 use Rattle.book.proofs.Stepping.{here-whole, room_of, step_of}
-use borrow.Author.Rules.{rules}
 use Rattle.book.proofs.next.Goals as goal
 
 pub job_end-end-requires : goal.job_end-end-requires

@@ -1,5 +1,4 @@
 -- `file_before` meets its contract.
-use borrow.Author.Rules.{rules}
 use native.Mathlib.Omega.{arith}
 use Rattle.tokens.proofs.Runs.{both, did-newline, spaced}
 use Rattle.layout.specs.Routines.{format_file}

@@ -1,5 +1,4 @@
 -- `list_clause_end` meets its contract.
-use borrow.Author.Rules.{rules}
 use mathlib.Core.Path.{refl}
 use Rattle.tokens.proofs.Choices.{no_unwritten, unwritten_as}
 use Rattle.tokens.proofs.Runs.{did-unwritten}

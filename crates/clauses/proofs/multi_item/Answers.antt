@@ -1,7 +1,6 @@
 -- `multi_item` meets its contract: both of its looks are in it.
-use borrow.Author.Rules.{rules}
 use mathlib.Core.Path.{◌∙◌, sym, ap}
-use mathlib.Core.Bool.{Bool, not, ◌&&◌}
+use mathlib.Core.Bool.{not}
 use Rattle.clauses.proofs.multi_item.Goals as goal
 
 pub returns-then-several_list_items : goal.returns-then-several_list_items

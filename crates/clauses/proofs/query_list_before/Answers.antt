@@ -1,5 +1,4 @@
 -- `query_list_before` meets its contract.
-use borrow.Author.Rules.{rules}
 use native.Mathlib.Omega.{arith}
 use Rattle.tokens.proofs.Runs.{both, did-newline, no_spacing, spaced}
 use Rattle.layout.specs.Routines.{format_query_list}

@@ -1,5 +1,4 @@
 -- `select_clause_before` meets its contract.
-use borrow.Author.Rules.{rules}
 use native.Mathlib.Omega.{arith}
 use borrow.Author.Tests.{eq-eqb, ne_eqb}
 use Rattle.tokens.proofs.Runs.{both, did-indent, did-newline, no_spacing, spaced}

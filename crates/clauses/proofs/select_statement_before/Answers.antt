@@ -1,5 +1,4 @@
 -- `select_statement_before` meets its contract.
-use borrow.Author.Rules.{rules}
 use native.Mathlib.Omega.{arith}
 use Rattle.tokens.proofs.Runs.{did-newline, no_spacing, spaced}
 use Rattle.layout.specs.Routines.{format_select_statement}

@@ -1,5 +1,4 @@
 -- `settings_clause_after` meets its contract.
-use borrow.Author.Rules.{rules}
 use mathlib.Core.Path.{refl}
 use borrow.Author.Tests.{eq-eqb, ne_eqb}
 use Rattle.tokens.proofs.Choices.{no_unwritten, unwritten_as}

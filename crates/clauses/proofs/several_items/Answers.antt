@@ -1,5 +1,4 @@
 -- `several_items` meets its contract, by its test.
-use borrow.Author.Rules.{rules}
 use borrow.Author.Tests.{eq-eqb, ne_eqb}
 use Rattle.clauses.proofs.several_items.Goals as goal
 

@@ -1,5 +1,4 @@
 -- `space_wanted` meets its contract.
-use borrow.Author.Rules.{rules}
 use mathlib.Core.Bool.{Bool, ◌&&◌, and-false, and-true, not}
 use mathlib.Core.Path.{◌∙◌, ap, sym}
 use Rattle.clauses.proofs.space_wanted.Goals as goal

@@ -1,5 +1,4 @@
 -- `union_clause_before` meets its contract.
-use borrow.Author.Rules.{rules}
 use native.Mathlib.Omega.{arith}
 use mathlib.Core.Path.{◌∙◌, sym}
 use Rattle.tokens.proofs.Runs.{did-newline, no_spacing, spaced}

@@ -1,5 +1,4 @@
 -- `union_clause_local` meets its contract.
-use borrow.Author.Rules.{rules}
 use mathlib.Core.Bool.{false, true}
 use mathlib.Core.Path.{◌∙◌, sym}
 use Rattle.tokens.proofs.Choices.{union_local}

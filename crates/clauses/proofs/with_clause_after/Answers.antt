@@ -1,5 +1,4 @@
 -- `with_clause_after` meets its contract.
-use borrow.Author.Rules.{rules}
 use mathlib.Core.Path.{refl}
 use Rattle.tokens.proofs.Choices.{unwritten_as}
 use Rattle.tokens.proofs.Runs.{did-unwritten}

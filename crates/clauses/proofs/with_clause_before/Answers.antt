@@ -1,5 +1,4 @@
 -- `with_clause_before` meets its contract.
-use borrow.Author.Rules.{rules}
 use native.Mathlib.Omega.{arith}
 use mathlib.Core.Path.{refl}
 use Rattle.tokens.proofs.Runs.{both, did-indent, did-newline, spaced}

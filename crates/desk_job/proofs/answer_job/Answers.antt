@@ -1,5 +1,4 @@
 -- `answer_job` meets its contract, by the cases of the header.
-use borrow.Author.Rules.{rules}
 use native.Mathlib.Omega.{arith}
 use mathlib.Core.Path.{◌∙◌, sym}
 use Rattle.desk_job.proofs.Printing.{job_leaves}

@@ -1,5 +1,4 @@
 -- `has_command` meets its contract.
-use borrow.Author.Rules.{rules}
 use borrow.Author.Tests.{le-leb, lt-leb}
 use Rattle.desk_job.specs.Job.{has_command}
 use Rattle.desk_job.proofs.has_command.Goals as goal

@@ -1,5 +1,4 @@
 -- `print_job` meets its contract, by the cases of the answer.
-use borrow.Author.Rules.{rules}
 use Rattle.desk_job.proofs.Printing.{answer-fits, text-printed, refusal-printed}
 use Rattle.desk_job.proofs.print_job.Goals as goal
 

@@ -1,5 +1,4 @@
 -- `print_refusal` meets its contract.
-use borrow.Author.Rules.{rules}
 use Rattle.desk_job.specs.Job.{refused_line}
 use Rattle.desk_job.proofs.print_refusal.Goals as goal
 

@@ -1,5 +1,4 @@
 -- `read_header` meets its contract: its tests are those of the definition.
-use borrow.Author.Rules.{rules}
 use native.Mathlib.Omega.{arith}
 use borrow.Author.Tests.{le-ltb, lt-ltb}
 use Rattle.desk_job.proofs.HeaderReading.{answered-false, answered-true, command-whole}

@@ -1,5 +1,4 @@
 -- `binary_expression_token` meets its contract.
-use borrow.Author.Rules.{rules}
 use native.Mathlib.Omega.{arith}
 use mathlib.Core.Path.{◌∙◌, sym}
 use borrow.Author.Tests.{ne_eqb}

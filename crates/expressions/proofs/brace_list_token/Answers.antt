@@ -1,5 +1,4 @@
 -- `brace_list_token` meets its contract.
-use borrow.Author.Rules.{rules}
 use native.Mathlib.Omega.{arith}
 use borrow.Author.Tests.{ne_eqb}
 use Rattle.layout.specs.Arms.{comma, colon, opening_curly_brace, closing_curly_brace}

@@ -1,5 +1,4 @@
 -- `bracket_list_token` meets its contract.
-use borrow.Author.Rules.{rules}
 use native.Mathlib.Omega.{arith}
 use borrow.Author.Tests.{ne_eqb}
 use Rattle.layout.specs.Arms.{comma, opening_square_bracket, closing_square_bracket}

@@ -1,11 +1,9 @@
 -- `case_word` meets its contract.
-use borrow.Author.Rules.{rules}
 use native.Mathlib.Omega.{arith}
 use mathlib.Core.Bool.{false, true}
 use mathlib.Core.Path.{◌∙◌, ap, refl, sym}
-use lib.ListN.{length}
 use Rattle.tokens.proofs.Choices.{case-acts}
-use Rattle.tokens.proofs.Runs.{acted, as_acts, did-dedent, did-indent, did-newline, did-space, text-fits, then}
+use Rattle.tokens.proofs.Runs.{acted, as_acts, did-dedent, did-indent, did-newline, did-space, then}
 use Rattle.keywords.specs.Words.{is_word}
 use Rattle.expressions.proofs.case_word.Goals as goal
 

@@ -1,5 +1,4 @@
 -- `comma_list_token` meets its contract.
-use borrow.Author.Rules.{rules}
 use native.Mathlib.Omega.{arith}
 use borrow.Author.Tests.{ne_eqb}
 use Rattle.tokens.proofs.Choices.{or_else-acts, or_else-local}

@@ -1,5 +1,4 @@
 -- `function_call_token` meets its contract.
-use borrow.Author.Rules.{rules}
 use native.Mathlib.Omega.{arith}
 use borrow.Author.Tests.{ne_eqb}
 use Rattle.layout.specs.Arms.{opening_round_bracket, closing_round_bracket}

@@ -1,5 +1,4 @@
 -- `space_between` meets its contract.
-use borrow.Author.Rules.{rules}
 use Rattle.expressions.proofs.space_between.Goals as goal
 
 pub returns-then-no_space_before : goal.returns-then-no_space_before

@@ -1,5 +1,4 @@
 -- `space_between_tight` meets its contract.
-use borrow.Author.Rules.{rules}
 use mathlib.Core.Bool.{and-false, and-true}
 use borrow.Author.Tests.{eq-eqb, ne_eqb}
 use Rattle.expressions.proofs.space_between_tight.Goals as goal

@@ -1,5 +1,4 @@
 -- `layout_accepted` meets its contract.
-use borrow.Author.Rules.{rules}
 use native.Mathlib.Omega.{arith}
 use Rattle.formatter.proofs.Entries.{holds, laid_done, laid_none, laid-short}
 use Rattle.formatter.specs.Entry.{all_cells}

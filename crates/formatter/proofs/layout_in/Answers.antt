@@ -1,5 +1,4 @@
 -- `layout_in` meets its contract.
-use borrow.Author.Rules.{rules}
 use native.Mathlib.Omega.{arith}
 use mathlib.Core.Path.{◌∙◌, sym}
 use Rattle.formatter.proofs.Entries.{lays_out_lem, ready, refused-layout}

@@ -1,5 +1,4 @@
 -- `layout_map_in` meets its contract.
-use borrow.Author.Rules.{rules}
 use native.Mathlib.Omega.{arith}
 use mathlib.Core.Path.{◌∙◌, sym}
 use Rattle.formatter.proofs.Entries.{maps-out, ready, refused-map}

@@ -1,8 +1,6 @@
 -- `map_accepted` meets its contract.
-use borrow.Author.Rules.{rules}
 use native.Mathlib.Omega.{arith}
 use mathlib.Core.Path.{◌∙◌, ap, subst, sym}
-use mathlib.Core.Logic.{⊎_elim}
 use Prim.Native.Nat.{ℕ, ◌*◌}
 use lib.ListN.{replicate}
 use lib.Seq.{length-take-le}

@@ -1,6 +1,4 @@
 -- `put_layout` meets its contract.
-use borrow.Author.Rules.{rules}
-use native.Mathlib.Omega.{arith}
 use Rattle.formatter.proofs.Entries.{copied}
 use Rattle.formatter.proofs.put_layout.Goals as goal
 

@@ -1,6 +1,4 @@
 -- `put_noted` meets its contract.
-use borrow.Author.Rules.{rules}
-use native.Mathlib.Omega.{arith}
 use mathlib.Core.Path.{◌∙◌, subst, sym}
 use Rattle.formatter.proofs.Entries.{notes-over, placed, placed_all}
 use Rattle.formatter.specs.Entry.{Placed}

@@ -1,5 +1,4 @@
 -- `walk_tree` meets its contract.
-use borrow.Author.Rules.{rules}
 use Rattle.formatter.proofs.Entries.{root-ready, walked_into}
 use Rattle.formatter.proofs.walk_tree.Goals as goal
 

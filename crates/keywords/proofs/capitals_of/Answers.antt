@@ -1,10 +1,9 @@
 -- `capitals_of` meets its contract: after i passes the first i letters stand in front of the zeros.
 use mathlib.Core.Path.{◌≡◌, refl, sym, ap, ◌∙◌}
 use mathlib.Core.List.{List, ◌++◌}
-use Prim.Native.Nat.{ℕ, ◌≤◌, ◌<◌, ◌-◌, ◌+◌}
+use Prim.Native.Nat.{ℕ}
 use native.Mathlib.Omega.{arith}
-use borrow.Author.Rules.{rules}
-use lib.ListN.{length, take, drop, replicate, set, length-map, length-set}
+use lib.ListN.{length, take, drop, replicate, set, length-map}
 use lib.Seq.{take-length}
 use Rattle.basics.specs.Case.{to_uppercase}
 use Rattle.keywords.specs.Words.{capitals}

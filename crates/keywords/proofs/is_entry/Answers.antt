@@ -1,14 +1,12 @@
 -- `is_entry` meets its contract: an entry's length and letters stand in the table from its offset on.
 use mathlib.Core.Path.{◌≡◌, sym, ap, ◌∙◌}
 use mathlib.Core.List.{List, []}
-use Prim.Native.Nat.{ℕ, ◌+◌, ◌-◌, ◌≤◌, ◌<◌}
+use Prim.Native.Nat.{ℕ, ◌+◌, ◌-◌, ◌≤◌}
 use native.Mathlib.Omega.{arith}
-use borrow.Author.Rules.{rules}
 use borrow.Author.Tests.{le-leb, lt-leb}
 use lib.ListN.{length, get_or, take, drop}
 use lib.Seq.{length-take-le}
 use Rattle.keywords.specs.Words.{same, words}
-use Rattle.keywords.specs.Walk.{is_equal}
 use Rattle.keywords.specs.Table.{table}
 use Rattle.keywords.specs.Index.{Entry, Stands, unpacked}
 use Rattle.keywords.proofs.Flat.{length_at, letters_at, entry-fits, table-length}

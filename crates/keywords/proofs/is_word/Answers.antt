@@ -1,12 +1,11 @@
 -- `keywords::is_word` meets its contract: after i passes what is left of the two decides.
-use mathlib.Core.Path.{◌≡◌, refl, sym, ◌∙◌}
-use Prim.Native.Nat.{◌≤◌, ◌-◌}
+use mathlib.Core.Path.{refl, sym, ◌∙◌}
+use Prim.Native.Nat.{◌≤◌}
 use native.Mathlib.Omega.{arith}
 use borrow.Author.Tests.{eq-eqb, ne_eqb}
-use borrow.Author.Rules.{rules}
-use lib.ListN.{length, drop, drop_of_length-le, length-map}
+use lib.ListN.{length, drop_of_length-le, length-map}
 use Rattle.basics.specs.Case.{to_uppercase}
-use Rattle.keywords.specs.Words.{same, capitals}
+use Rattle.keywords.specs.Words.{capitals}
 use Rattle.basics.proofs.Same.{same-lengths, same_step, same-nil}
 use Rattle.keywords.proofs.Capitals.{capitals-at}
 use Rattle.keywords.proofs.is_word.Goals as goal

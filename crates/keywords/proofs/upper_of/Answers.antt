@@ -1,6 +1,5 @@
 -- `keywords::upper_of` meets its contract, by the two tests.
 use borrow.Author.Tests.{le-leb, lt-leb}
-use borrow.Author.Rules.{rules}
 use Rattle.basics.specs.Case.{to_uppercase}
 use Rattle.keywords.proofs.upper_of.Goals as goal
 

@@ -1,5 +1,4 @@
 -- `walk` meets its contract: the entry that it has looked at first is the first of the list.
-use borrow.Author.Rules.{rules}
 use Rattle.keywords.proofs.Lookup.{none-stands}
 use Rattle.keywords.proofs.walk.Goals as goal
 

@@ -1,13 +1,12 @@
 -- `walk_in` meets its contract: an entry that is equal is the only one, and where the candidate is not equal none is.
-use mathlib.Core.Path.{◌≡◌, sym, ap, ◌∙◌, subst}
-use mathlib.Core.List.{List, []}
+use mathlib.Core.Path.{sym, ap, ◌∙◌, subst}
+use mathlib.Core.List.{[]}
 use Prim.Native.Nat.{ℕ}
-use borrow.Author.Rules.{rules}
 use lib.ListN.{get_or, take}
 use lib.Seq.{length-take-le}
 use Rattle.keywords.specs.Words.{words}
 use Rattle.keywords.specs.Walk.{is_equal}
-use Rattle.keywords.specs.Index.{Stands, candidate, unpacked}
+use Rattle.keywords.specs.Index.{Stands, unpacked}
 use Rattle.keywords.proofs.Lookup.{candidate-stands}
 use Rattle.keywords.proofs.WalkLaws.{none_equal, this_equal, too_few}
 use Rattle.keywords.proofs.walk_in.Goals as goal

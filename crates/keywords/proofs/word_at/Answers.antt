@@ -1,7 +1,6 @@
 -- `word_at` meets its contract: a listed word is a value word by its place.
 use mathlib.Core.Path.{refl, ◌∙◌}
 use mathlib.Core.Bool.{true, false}
-use borrow.Author.Rules.{rules}
 use borrow.Author.Tests.{le-leb, lt-leb}
 use Rattle.keywords.proofs.Sorts.{placed_word, plain_word}
 use Rattle.keywords.proofs.WalkLaws.{word-place}

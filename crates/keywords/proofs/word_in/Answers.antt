@@ -1,7 +1,6 @@
 -- `word_in` meets its contract: a word without a candidate is not listed.
 use mathlib.Core.Path.{sym, ◌∙◌, subst}
 use Prim.Native.Nat.{ℕ}
-use borrow.Author.Rules.{rules}
 use Rattle.keywords.specs.Index.{Stands, unpacked}
 use Rattle.keywords.proofs.Lookup.{candidate-short, candidate-stands, nothing_is}
 use Rattle.keywords.proofs.Sorts.{plain_word}

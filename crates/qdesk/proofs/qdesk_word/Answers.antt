@@ -1,6 +1,5 @@
 -- `qdesk_word` meets its contract.
 use mathlib.Core.Path.{sym, ap, ◌∙◌}
-use borrow.Author.Rules.{rules}
 use Rattle.qdesk.specs.WordAnswer.{word_answer}
 use Rattle.qdesk.proofs.qdesk_word.Goals as goal
 

@@ -1,6 +1,5 @@
 -- `print_replayed` meets its contract, by the cases of what the list comes to.
 use mathlib.Core.Path.{◌∙◌, sym}
-use borrow.Author.Rules.{rules}
 use Rattle.replay_list.specs.Line.{replayed_line}
 use Rattle.replay_list.proofs.print_replayed.Goals as goal
 

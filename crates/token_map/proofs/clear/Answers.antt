@@ -1,11 +1,9 @@
 -- `clear` meets its contract. The invariant: the numbers passed are zeros.
-use borrow.Author.Rules.{rules}
-use Prim.Native.Nat.{◌+◌, ◌-◌, ◌≤◌, ◌<◌}
-use mathlib.Core.Path.{◌≡◌, refl, sym, ap, ◌∙◌, subst}
-use mathlib.Core.List.{◌++◌}
+use Prim.Native.Nat.{◌<◌}
+use mathlib.Core.Path.{◌≡◌, refl, sym, ap, ◌∙◌}
 use native.Mathlib.Omega.{arith}
 use native.Mathlib.Numerals.{add-one}
-use lib.ListN.{length, take, replicate, length-set, replicate-append-replicate}
+use lib.ListN.{length, replicate, length-set, replicate-append-replicate}
 use lib.Seq.{take-suc-set, take_all}
 use Rattle.token_map.proofs.clear.Goals as goal
 

@@ -1,12 +1,7 @@
 -- `clear` meets its contract. The invariant: the numbers passed are zeros.
-use borrow.Author.Rules.{rules}
-use Prim.Native.Nat.{◌+◌, ◌-◌, ◌≤◌, ◌<◌}
-use mathlib.Core.Path.{◌≡◌, refl, sym, ap, ◌∙◌, subst}
-use mathlib.Core.List.{◌++◌}
-use native.Mathlib.Omega.{arith}
-use native.Mathlib.Numerals.{add-one}
-use lib.ListN.{length, take, replicate, length-set, replicate-append-replicate}
-use lib.Seq.{take-suc-set, take_all}
+use Prim.Native.Nat.{◌-◌, ◌≤◌}
+use mathlib.Core.Path.{◌≡◌}
+use lib.ListN.{length, take, replicate}
 use Rattle.token_map.proofs.clear.Given as goal
 
 abbrev pub invariant-loop-i : goal.invariant-loop-i

@@ -1,5 +1,4 @@
 -- `first_line` meets its contract.
-use borrow.Author.Rules.{rules}
 use mathlib.Core.Path.{refl}
 use Rattle.layout.specs.Lines.{spot_after}
 use Rattle.token_map.proofs.first_line.Goals as goal

@@ -1,6 +1,5 @@
 -- `line_of` meets its contract. The invariant: the line starts at the offset or before it.
 use Prim.Native.Nat.{◌-◌, ◌≤◌}
-use native.Mathlib.Omega.{arith}
 use Rattle.token_map.specs.Spots.{LineOf}
 use Rattle.token_map.proofs.line_of.Given as goal
 

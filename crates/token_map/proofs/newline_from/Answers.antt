@@ -1,12 +1,6 @@
 -- `newline_from` meets its contract. The invariant: none of the bytes passed is a newline.
-use borrow.Author.Rules.{rules}
 use borrow.Author.Tests.{eq-eqb, ne_eqb}
-use Prim.Native.Nat.{ℕ, ◌-◌, ◌≤◌, ◌<◌}
-use mathlib.Core.Path.{◌≡◌}
-use mathlib.Core.Bool.{false}
 use native.Mathlib.Omega.{arith}
-use lib.ListN.{length, get_or}
-use lib.Dec.{eqb}
 use Rattle.token_map.proofs.Counting.{none-next}
 use Rattle.token_map.proofs.newline_from.Goals as goal
 

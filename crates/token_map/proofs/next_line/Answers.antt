@@ -1,5 +1,4 @@
 -- `next_line` meets its contract.
-use borrow.Author.Rules.{rules}
 use native.Mathlib.Omega.{arith}
 use mathlib.Core.Path.{refl}
 use Rattle.token_map.proofs.Counting.{spot_turned, line-few}

@@ -1,10 +1,9 @@
 -- `note_none` meets its contract. The invariant: what is left to note gives what all gives.
-use Prim.Native.Nat.{ℕ, ◌-◌}
-use mathlib.Core.Path.{◌≡◌, refl, sym, ap, ◌∙◌, subst}
-use mathlib.Core.List.{List}
+use Prim.Native.Nat.{◌-◌}
+use mathlib.Core.Path.{refl, ap, ◌∙◌}
 use native.Mathlib.Omega.{arith}
 use lib.ListN.{length, replicate}
-use Rattle.token_map.specs.Notes.{noted, note_all}
+use Rattle.token_map.specs.Notes.{note_all}
 use Rattle.token_map.proofs.Noting.{length-noted, note_all-none, note_all-less, note_all-zero}
 use Rattle.token_map.proofs.note_none.Goals as goal
 

@@ -2,7 +2,6 @@
 use native.Mathlib.Omega.{arith}
 use lib.ListN.{length-set}
 use Rattle.token_map.proofs.Noting.{noted-none, noted_one, noted-full}
-use borrow.Author.Rules.{rules}
 use Rattle.token_map.proofs.note_place.Goals as goal
 
 pub returns-then-n-eq0 : goal.returns-then-n-eq0

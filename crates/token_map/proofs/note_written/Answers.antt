@@ -1,7 +1,6 @@
 -- `note_written` meets its contract.
-use mathlib.Core.Path.{◌≡◌, refl, sym, ap, ◌∙◌, subst}
+use mathlib.Core.Path.{ap, ◌∙◌}
 use Rattle.token_map.specs.Notes.{noted}
-use borrow.Author.Rules.{rules}
 use Rattle.token_map.proofs.note_written.Goals as goal
 
 pub returns : goal.returns

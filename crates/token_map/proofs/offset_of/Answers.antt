@@ -1,5 +1,4 @@
 -- `offset_of` meets its contract: past the end there is one spot.
-use borrow.Author.Rules.{rules}
 use native.Mathlib.Omega.{arith}
 use Prim.Native.Nat.{◌-◌}
 use lib.ListN.{length}

@@ -1,12 +1,11 @@
 -- `place_by` meets its contract: by what is written for the token.
-use mathlib.Core.Path.{◌≡◌, refl, sym, ap, ◌∙◌, subst}
+use mathlib.Core.Path.{refl, ap, ◌∙◌}
 use native.Mathlib.Omega.{arith}
 use borrow.Author.Tests.{eq-eqb}
 use Rattle.token_map.specs.declared.Written.TheVariants as written
 use Rattle.context.proofs.Bytes.{token-length}
 use Rattle.token_map.specs.Signs.{place_as, place_by}
 use Rattle.token_map.proofs.SignKinds.{placed_as}
-use borrow.Author.Rules.{rules}
 use Rattle.token_map.proofs.place_by.Goals as goal
 
 pub returns-then-start-end : goal.returns-then-start-end

@@ -1,8 +1,7 @@
 -- `place_of_text` meets its contract: by whether the text is all white space.
-use mathlib.Core.Path.{◌≡◌, refl, sym, ap, ◌∙◌, subst}
+use mathlib.Core.Path.{sym, ◌∙◌}
 use borrow.Author.Tests.{eq-eqb, ne_eqb}
 use Rattle.token_map.specs.Signs.{place_as}
-use borrow.Author.Rules.{rules}
 use Rattle.token_map.proofs.place_of_text.Goals as goal
 
 pub returns-then-j-eq0 : goal.returns-then-j-eq0

@@ -1,12 +1,9 @@
 -- `place_tokens` meets its contract. The invariant: the pairs passed are done, and with the others they come to what all do.
-use borrow.Author.Rules.{rules}
 use Prim.Native.Nat.{◌-◌, ◌≤◌}
-use mathlib.Core.Path.{◌≡◌, refl, sym, ap, ◌∙◌}
-use mathlib.Core.List.{List, ◌++◌}
-use native.Mathlib.Omega.{arith}
-use lib.ListN.{length, take, drop, length-set, length-drop, take-append-drop}
+use mathlib.Core.Path.{◌≡◌}
+use mathlib.Core.List.{◌++◌}
+use lib.ListN.{length, take, drop}
 use Rattle.token_map.specs.Spots.{LineOf, spots}
-use Rattle.token_map.proofs.Counting.{spots-more, spots-short}
 use Rattle.token_map.proofs.place_tokens.Given as goal
 
 abbrev pub invariant-loop-map : goal.invariant-loop-map

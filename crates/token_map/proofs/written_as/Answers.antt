@@ -1,11 +1,10 @@
 -- `written_as` meets its contract: the kinds of each variant.
-use mathlib.Core.Path.{◌≡◌, refl, sym, ap, ◌∙◌, subst}
+use mathlib.Core.Path.{refl, ◌∙◌}
 use mathlib.Core.Bool.{or-true, or-false, or_assoc}
 use borrow.Author.Tests.{eq-eqb, ne_eqb}
 use Rattle.token_map.specs.Signs.{written_as}
 use Rattle.token_map.specs.declared.Signs.TheVariants as signs
 use Rattle.token_map.proofs.SignKinds.{sign_as}
-use borrow.Author.Rules.{rules}
 use Rattle.token_map.proofs.written_as.Goals as goal
 
 pub returns-then-kind-eq-WHITESPACE : goal.returns-then-kind-eq-WHITESPACE

@@ -1,5 +1,4 @@
 -- `blank_line` meets its contract.
-use borrow.Author.Rules.{rules}
 use native.Mathlib.Omega.{arith}
 use mathlib.Core.Path.{◌∙◌, refl, sym}
 use Rattle.tokens.proofs.Runs.{blank_held, blank_written, changed, newline-after, spaced}

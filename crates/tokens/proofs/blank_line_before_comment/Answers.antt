@@ -1,5 +1,4 @@
 -- `blank_line_before_comment` meets its contract.
-use borrow.Author.Rules.{rules}
 use native.Mathlib.Omega.{arith}
 use mathlib.Core.Path.{◌∙◌, refl, sym}
 use Rattle.tokens.proofs.Runs.{changed, comment_held, comment_start, comment_written, newline-after, spaced, start_is}

@@ -3,7 +3,6 @@ use native.Mathlib.Omega.{arith}
 use mathlib.Core.Path.{ap, sym}
 use Rattle.layout.specs.Tokens.{emit_comment}
 use Rattle.tokens.proofs.Runs.{acted, text-ready}
-use borrow.Author.Rules.{rules}
 use Rattle.tokens.proofs.emit_comment.Goals as goal
 
 pub emit_trivia-requires : goal.emit_trivia-requires

@@ -5,7 +5,6 @@ use lib.Dec.{eqb}
 use Rattle.tape.specs.Kinds.{Whitespace}
 use Rattle.tokens.proofs.Runs.{acted, blank_acted, text-ready, trivia_acted}
 use Rattle.tokens.proofs.Choices.{other_trivia, other_token}
-use borrow.Author.Rules.{rules}
 use Rattle.tokens.proofs.emit_other.Goals as goal
 
 pub returns-then-is_blank : goal.returns-then-is_blank

@@ -1,11 +1,9 @@
 -- `emit_token` meets its contract.
 use native.Mathlib.Omega.{arith}
-use mathlib.Core.Path.{refl}
 use Rattle.utf8.proofs.Trimming.{trimmed-le}
 use Rattle.layout.specs.Arms.{seen}
 use Rattle.layout.specs.Tokens.{emit_token}
 use Rattle.tokens.proofs.Runs.{acted, no_acts, put-token, text-fits}
-use borrow.Author.Rules.{rules}
 use Rattle.tokens.proofs.emit_token.Goals as goal
 
 pub returns-then-token-eq-WHITESPACE : goal.returns-then-token-eq-WHITESPACE

@@ -2,7 +2,6 @@
 use native.Mathlib.Omega.{arith}
 use borrow.Author.Tests.{eq-eqb, ne_eqb}
 use Rattle.tokens.proofs.Runs.{acted, noted}
-use borrow.Author.Rules.{rules}
 use Rattle.tokens.proofs.emit_trivia.Goals as goal
 
 pub returns-then-kind-eq-WHITESPACE : goal.returns-then-kind-eq-WHITESPACE

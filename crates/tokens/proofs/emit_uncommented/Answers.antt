@@ -6,7 +6,6 @@ use Rattle.tape.specs.Kinds.{Whitespace}
 use Rattle.layout.specs.Arms.{seen}
 use Rattle.tokens.specs.TokenPromises.{emit_uncommented}
 use Rattle.tokens.proofs.Runs.{acted, blank_acted, text-ready, trivia_acted}
-use borrow.Author.Rules.{rules}
 use Rattle.tokens.proofs.emit_uncommented.Goals as goal
 
 pub returns-then-is_blank : goal.returns-then-is_blank

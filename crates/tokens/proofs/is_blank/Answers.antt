@@ -1,7 +1,6 @@
 -- `is_blank` meets its contract: one byte that is no newline holds none.
 use mathlib.Core.Bool.{false≢true}
 use Rattle.tokens.proofs.Runs.{one_byte}
-use borrow.Author.Rules.{rules}
 use Rattle.tokens.proofs.is_blank.Goals as goal
 
 pub returns-then-text-eq1 : goal.returns-then-text-eq1

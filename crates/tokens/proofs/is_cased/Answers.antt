@@ -1,6 +1,5 @@
 -- `is_cased` meets its contract: a keyword that is no value word.
 use mathlib.Core.Path.{sym, ap, ◌∙◌}
-use borrow.Author.Rules.{rules}
 use Rattle.keywords.proofs.Sorts.{is_other, other_keyword}
 use Rattle.tokens.proofs.is_cased.Goals as goal
 

@@ -1,5 +1,4 @@
 -- `is_in_case` meets its contract.
-use borrow.Author.Rules.{rules}
 use Rattle.tokens.proofs.is_in_case.Goals as goal
 
 pub returns-in-Listed : goal.returns-in-Listed

@@ -1,5 +1,4 @@
 -- `is_line_comment` meets its contract.
-use borrow.Author.Rules.{rules}
 use mathlib.Core.Path.{◌∙◌, sym}
 use borrow.Author.Tests.{ne_eqb}
 use Rattle.tokens.proofs.Runs.{line_at, line-last, line-short}

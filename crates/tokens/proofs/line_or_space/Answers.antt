@@ -1,5 +1,4 @@
 -- `line_or_space` meets its contract.
-use borrow.Author.Rules.{rules}
 use native.Mathlib.Omega.{arith}
 use mathlib.Core.Path.{◌∙◌, refl, sym}
 use Rattle.tokens.proofs.Runs.{changed, changed_after, line-held, line-space, line-written, newline-after, spaced, start_is}

@@ -1,5 +1,4 @@
 -- `name_before` meets its contract.
-use borrow.Author.Rules.{rules}
 use mathlib.Core.Bool.{or-false}
 use borrow.Author.Tests.{eq-eqb, ne_eqb}
 use Rattle.layout.specs.Routines.{name_before}

@@ -1,5 +1,4 @@
 -- `note` meets its contract.
-use borrow.Author.Rules.{rules}
 use Rattle.tokens.proofs.Runs.{as_note}
 use Rattle.tokens.proofs.note.Goals as goal
 

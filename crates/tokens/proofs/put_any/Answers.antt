@@ -1,5 +1,4 @@
 -- `put_any` meets its contract.
-use borrow.Author.Rules.{rules}
 use Rattle.tokens.proofs.put_any.Goals as goal
 
 pub returns-then-is_in_case : goal.returns-then-is_in_case

@@ -1,7 +1,6 @@
 -- `put_text` meets its contract.
 use mathlib.Core.Path.{sym, ◌∙◌}
 use Rattle.tokens.proofs.Runs.{as_typed, full_put}
-use borrow.Author.Rules.{rules}
 use Rattle.tokens.proofs.put_text.Goals as goal
 
 pub returns-then-out-at : goal.returns-then-out-at

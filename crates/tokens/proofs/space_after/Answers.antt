@@ -1,5 +1,4 @@
 -- `space_after` meets its contract.
-use borrow.Author.Rules.{rules}
 use Rattle.layout.specs.Routines.{space_after}
 use Rattle.tokens.proofs.space_after.Goals as goal
 

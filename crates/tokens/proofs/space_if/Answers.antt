@@ -1,5 +1,4 @@
 -- `space_if` meets its contract.
-use borrow.Author.Rules.{rules}
 use mathlib.Core.Path.{refl}
 use Rattle.tokens.proofs.Runs.{did-unwritten}
 use Rattle.context.proofs.Writes.{spent-none}

@@ -4,7 +4,6 @@ use lib.Dec.{eqb}
 use Rattle.tape.specs.Kinds.{Whitespace}
 use Rattle.tokens.proofs.Runs.{text-ready, trivia_acted}
 use Rattle.tokens.proofs.Choices.{trivia_done}
-use borrow.Author.Rules.{rules}
 use Rattle.tokens.proofs.trivia_token.Goals as goal
 
 pub emit_trivia-a-requires : goal.emit_trivia-a-requires

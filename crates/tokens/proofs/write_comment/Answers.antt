@@ -3,7 +3,6 @@ use native.Mathlib.Omega.{arith}
 use mathlib.Core.Bool.{false, true}
 use mathlib.Core.Path.{◌∙◌, refl, sym}
 use Rattle.tokens.proofs.Runs.{acted, as_acts, comment_acts, did-newline, did-text, then}
-use borrow.Author.Rules.{rules}
 use Rattle.tokens.proofs.write_comment.Goals as goal
 
 pub returns-then-is_line_comment : goal.returns-then-is_line_comment

@@ -2,7 +2,6 @@
 use native.Mathlib.Omega.{arith}
 use Rattle.utf8.proofs.Trimming.{trimmed-le}
 use Rattle.tokens.proofs.Runs.{put_typed, text-fits}
-use borrow.Author.Rules.{rules}
 use Rattle.tokens.proofs.write_text.Goals as goal
 
 pub after_text-requires : goal.after_text-requires

@@ -1,5 +1,4 @@
 -- `report_both` meets its contract.
-use borrow.Author.Rules.{rules}
 use Rattle.two_books.proofs.MaskedReports.{reports_both}
 use Rattle.two_books.proofs.report_both.Goals as goal
 

@@ -1,5 +1,4 @@
 -- `layout_both` meets its contract.
-use borrow.Author.Rules.{rules}
 use Rattle.two_calls.proofs.Both.{lays_out-both}
 use Rattle.two_calls.proofs.layout_both.Goals as goal
 

@@ -1,5 +1,4 @@
 -- `layout_map_both` meets its contract.
-use borrow.Author.Rules.{rules}
 use Rattle.two_calls.proofs.Both.{maps-both}
 use Rattle.two_calls.proofs.layout_map_both.Goals as goal
 

@@ -1,5 +1,4 @@
 -- `layout_twice` meets its contract.
-use borrow.Author.Rules.{rules}
 use Rattle.two_calls.proofs.Both.{lays_out-twice}
 use Rattle.two_calls.proofs.layout_twice.Goals as goal
 

@@ -5,7 +5,6 @@ use mathlib.Core.Bool.{Bool, true, false}
 use Rattle.utf8.specs.Pieces.{is_trailing}
 use Rattle.utf8.specs.Steps.{is_second}
 use Rattle.utf8.proofs.CharacterLength.{one_at, low-at, high-at, two_at, three_at, fourth_at, no_second, no_third}
-use borrow.Author.Rules.{rules}
 use Rattle.utf8.proofs.character_length.Goals as goal
 
 -- what a test of a byte that was read says of the text's byte

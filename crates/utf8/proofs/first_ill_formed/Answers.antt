@@ -1,12 +1,8 @@
 -- `first_ill_formed` meets its contract: the first ill-formed byte of the text is the first of what is left.
-use Prim.Native.Nat.{◌≤◌, ◌-◌}
 use native.Mathlib.Nat.{lt_of_lt_of_le}
 use native.Mathlib.Omega.{arith}
-use mathlib.Core.Path.{◌≡◌, refl, sym, ◌∙◌}
-use lib.ListN.{length, drop}
-use Rattle.utf8.specs.Pieces.{first_ill_formed}
+use mathlib.Core.Path.{refl, sym, ◌∙◌}
 use Rattle.utf8.proofs.Places.{ill_at, ill_after, ill_past_block, ill_end, length-within}
-use borrow.Author.Rules.{rules}
 use Rattle.utf8.proofs.first_ill_formed.Goals as goal
 
 pub loop-i-init : goal.loop-i-init

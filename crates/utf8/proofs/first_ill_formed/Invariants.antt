@@ -1,12 +1,8 @@
 -- `first_ill_formed` meets its contract: the first ill-formed byte of the text is the first of what is left.
 use Prim.Native.Nat.{◌≤◌, ◌-◌}
-use native.Mathlib.Nat.{lt_of_lt_of_le}
-use native.Mathlib.Omega.{arith}
-use mathlib.Core.Path.{◌≡◌, refl, sym, ◌∙◌}
+use mathlib.Core.Path.{◌≡◌}
 use lib.ListN.{length, drop}
 use Rattle.utf8.specs.Pieces.{first_ill_formed}
-use Rattle.utf8.proofs.Places.{ill_at, ill_after, ill_past_block, ill_end, length-within}
-use borrow.Author.Rules.{rules}
 use Rattle.utf8.proofs.first_ill_formed.Given as goal
 
 abbrev pub invariant-loop-i-else-is_ascii_block : goal.invariant-loop-i-else-is_ascii_block

@@ -5,7 +5,6 @@ use mathlib.Core.Path.{◌≡◌, sym, ap, ◌∙◌}
 use mathlib.Core.Bool.{false≢true}
 use lib.ListN.{take, drop}
 use Rattle.utf8.specs.Table.{is_ascii}
-use borrow.Author.Rules.{rules}
 use Rattle.utf8.proofs.is_ascii_block.Goals as goal
 
 pub returns-then-text-at-lt-BLOCK : goal.returns-then-text-at-lt-BLOCK

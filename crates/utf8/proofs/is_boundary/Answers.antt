@@ -2,7 +2,6 @@
 use mathlib.Core.Path.{ap, ◌∙◌}
 use mathlib.Core.Bool.{not}
 use Rattle.utf8.specs.Pieces.{is_trailing}
-use borrow.Author.Rules.{rules}
 use Rattle.utf8.proofs.is_boundary.Goals as goal
 
 pub returns : goal.returns

@@ -1,7 +1,6 @@
 -- `is_second` meets its contract.
 use borrow.Author.Tests.{eq-eqb, ne_eqb}
 use Rattle.utf8.specs.Steps.{is_second}
-use borrow.Author.Rules.{rules}
 use Rattle.utf8.proofs.is_second.Goals as goal
 
 pub returns-then-a-eq224 : goal.returns-then-a-eq224

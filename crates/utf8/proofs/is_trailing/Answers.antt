@@ -1,6 +1,5 @@
 -- `is_trailing` meets its contract.
 use Rattle.utf8.specs.Pieces.{is_trailing}
-use borrow.Author.Rules.{rules}
 use Rattle.utf8.proofs.is_trailing.Goals as goal
 
 pub returns : goal.returns

@@ -2,7 +2,6 @@
 use borrow.Author.Tests.{eq-eqb, ne_eqb}
 use Rattle.utf8.specs.Table.{holds}
 use Rattle.utf8.specs.Trimming.{is_white_byte}
-use borrow.Author.Rules.{rules}
 use Rattle.utf8.proofs.is_white_byte.Goals as goal
 
 pub returns-then-b-eq32 : goal.returns-then-b-eq32

@@ -2,7 +2,6 @@
 use mathlib.Core.Path.{sym, ◌∙◌}
 use borrow.Author.Tests.{eq-eqb, ne_eqb}
 use Rattle.utf8.specs.Steps.{white_last}
-use borrow.Author.Rules.{rules}
 use Rattle.utf8.proofs.is_white_last.Goals as goal
 
 pub returns-then-in_range : goal.returns-then-in_range

@@ -1,7 +1,6 @@
 -- `is_white_triple` meets its contract.
 use borrow.Author.Tests.{eq-eqb, ne_eqb}
 use Rattle.utf8.specs.Steps.{white_triple}
-use borrow.Author.Rules.{rules}
 use Rattle.utf8.proofs.is_white_triple.Goals as goal
 
 pub returns-then-b-eq128 : goal.returns-then-b-eq128

@@ -1,14 +1,13 @@
 -- `trimmed_from_end` meets its contract: what lies from n on is white space.
-use Prim.Native.Nat.{ℕ, ◌≤◌, ◌<◌}
+use Prim.Native.Nat.{ℕ, ◌<◌}
 use native.Mathlib.Nat.{le_refl}
 use native.Mathlib.Omega.{arith}
 use mathlib.Core.Path.{◌≡◌, sym, ap, ◌∙◌}
-use lib.ListN.{length, take}
+use lib.ListN.{take}
 use lib.Seq.{take-length}
 use Rattle.utf8.specs.Trimming.{trimmed_length}
 use Rattle.utf8.proofs.LastWhiteSpace.{byte-before}
 use Rattle.utf8.proofs.Trimming.{stop, short, back, trimmed-nothing}
-use borrow.Author.Rules.{rules}
 use Rattle.utf8.proofs.trimmed_from_end.Goals as goal
 
 pub loop-n-init : goal.loop-n-init
@@ -31,11 +30,10 @@ pub loop-n-smaller : goal.loop-n-smaller
 loop-n-smaller c = omega (arith, short _ _ _ c.loop-n.invariant.0 c.white_before-k.ensures c.if-k-eq0.false)
 
 pub loop-n-preserved : goal.loop-n-preserved
-loop-n-preserved c =
-    (
-      omega arith,
-      c.loop-n.invariant.1 ∙ back _ _ _ c.loop-n.invariant.0 c.white_before-k.ensures c.if-k-eq0.false,
-    )
+loop-n-preserved c = (
+  omega arith,
+  c.loop-n.invariant.1 ∙ back _ _ _ c.loop-n.invariant.0 c.white_before-k.ensures c.if-k-eq0.false,
+)
 
 pub returns : goal.returns
 returns c =

@@ -1,14 +1,8 @@
 -- `trimmed_from_end` meets its contract: what lies from n on is white space.
-use Prim.Native.Nat.{ℕ, ◌≤◌, ◌<◌}
-use native.Mathlib.Nat.{le_refl}
-use native.Mathlib.Omega.{arith}
-use mathlib.Core.Path.{◌≡◌, sym, ap, ◌∙◌}
+use Prim.Native.Nat.{◌≤◌}
+use mathlib.Core.Path.{◌≡◌}
 use lib.ListN.{length, take}
-use lib.Seq.{take-length}
 use Rattle.utf8.specs.Trimming.{trimmed_length}
-use Rattle.utf8.proofs.LastWhiteSpace.{byte-before}
-use Rattle.utf8.proofs.Trimming.{stop, short, back, trimmed-nothing}
-use borrow.Author.Rules.{rules}
 use Rattle.utf8.proofs.trimmed_from_end.Given as goal
 
 abbrev pub invariant-loop-n : goal.invariant-loop-n

@@ -7,7 +7,6 @@ use lib.Seq.{take-length}
 use Rattle.utf8.specs.Trimming.{trimmed_length}
 use Rattle.utf8.proofs.LastWhiteSpace.{solid_before}
 use Rattle.utf8.proofs.Trimming.{stop}
-use borrow.Author.Rules.{rules}
 use Rattle.utf8.proofs.trimmed_length.Goals as goal
 
 pub returns-then-in_range : goal.returns-then-in_range

@@ -3,7 +3,6 @@ use native.Mathlib.Omega.{arith}
 use mathlib.Core.Path.{sym, ◌∙◌}
 use mathlib.Core.Bool.{true, false}
 use Rattle.utf8.proofs.LastWhiteSpace.{solid_before, ascii-before, none_before, pair-before, triple_before}
-use borrow.Author.Rules.{rules}
 use Rattle.utf8.proofs.white_before.Goals as goal
 
 pub returns-then-in_range : goal.returns-then-in_range

@@ -1,5 +1,4 @@
 -- `Tally::with_job` meets its contract, by the cases of the job's outcome.
-use borrow.Author.Rules.{rules}
 use native.Mathlib.Omega.{arith}
 use mathlib.Core.Path.{sym, ap}
 use Rattle.book.specs.Tally.{bytes_told, lines_told, with_job}

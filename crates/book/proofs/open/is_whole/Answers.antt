@@ -1,7 +1,6 @@
 -- `is_whole` meets its contract: its tests are those of the definition.
 use borrow.Author.Tests.{le-leb, lt-leb, ne_eqb, eq-eqb}
 use Rattle.book.specs.Book.{is_whole}
-use borrow.Author.Rules.{rules}
 use Rattle.book.proofs.open.is_whole.Goals as goal
 
 pub returns-then-book-at : goal.returns-then-book-at

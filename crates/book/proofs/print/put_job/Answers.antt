@@ -1,7 +1,6 @@
 -- `put_job` meets its contract, by the cases of the outcome.
 use Rattle.desk_job.proofs.Writing.{within, wrote_then}
 use Rattle.book.specs.Report.{job_line}
-use borrow.Author.Rules.{rules}
 use Rattle.book.proofs.print.put_job.Goals as goal
 
 pub put_pair-requires : goal.put_pair-requires

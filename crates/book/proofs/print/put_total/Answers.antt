@@ -1,7 +1,6 @@
 -- `put_total` meets its contract.
 use Rattle.desk_job.proofs.Writing.{within, wrote_then}
 use Rattle.book.specs.Report.{total_line}
-use borrow.Author.Rules.{rules}
 use Rattle.book.proofs.print.put_total.Goals as goal
 
 pub put_field-b-requires : goal.put_field-b-requires

@@ -1,5 +1,4 @@
 -- `tell` meets its contract, by the cases of the answer.
-use borrow.Author.Rules.{rules}
 use mathlib.Core.Path.{sym}
 use lib.Seq.{length-take-le}
 use Rattle.desk_job.proofs.Printing.{answer-fits}

@@ -5,7 +5,6 @@ use native.Mathlib.Numerals.{add-one}
 use native.Mathlib.Omega.{arith}
 use Rattle.context.specs.Context.{with_level, indent}
 use Rattle.context.specs.Store.{with_state}
-use borrow.Author.Rules.{rules}
 use Rattle.context.proofs.FormatterContext.indent.Goals as goal
 
 pub returns : goal.returns

@@ -1,7 +1,6 @@
 -- `context::FormatterContext::note_skipped_whitespace` meets its contract: the two tests of the count.
 use native.Mathlib.Omega.{arith}
 use Rattle.context.specs.Context.{note_skipped_whitespace}
-use borrow.Author.Rules.{rules}
 use Rattle.context.proofs.FormatterContext.note_skipped_whitespace.Goals as goal
 
 pub returns : goal.returns

@@ -4,7 +4,6 @@ use mathlib.Core.List.{[], ◌∷◌}
 use native.Mathlib.Omega.{arith}
 use Rattle.context.specs.Context.{write_newline}
 use Rattle.context.proofs.Writes.{wrote}
-use borrow.Author.Rules.{rules}
 use Rattle.context.proofs.FormatterContext.write_newline.Goals as goal
 
 pub returns : goal.returns

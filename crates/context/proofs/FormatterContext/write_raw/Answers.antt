@@ -6,7 +6,6 @@ use Rattle.context.specs.Cells.{fixed}
 use Rattle.context.specs.Context.{after_write, ends_in_newline, write_raw}
 use Rattle.context.proofs.Bytes.{bytes-fixed}
 use Rattle.context.proofs.Writes.{wrote}
-use borrow.Author.Rules.{rules}
 use Rattle.context.proofs.FormatterContext.write_raw.Goals as goal
 
 pub returns : goal.returns

@@ -4,7 +4,6 @@ use mathlib.Core.List.{[], ◌∷◌}
 use native.Mathlib.Omega.{arith}
 use Rattle.context.specs.Cells.{fresh}
 use Rattle.context.proofs.Writes.{token-wrote}
-use borrow.Author.Rules.{rules}
 use Rattle.context.proofs.FormatterContext.write_sign.Goals as goal
 
 pub returns : goal.returns

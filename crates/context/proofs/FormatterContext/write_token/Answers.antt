@@ -3,7 +3,6 @@ use native.Mathlib.Omega.{arith}
 use Rattle.context.specs.Cells.{fixed}
 use Rattle.context.proofs.Bytes.{bytes-fixed}
 use Rattle.context.proofs.Writes.{token-wrote}
-use borrow.Author.Rules.{rules}
 use Rattle.context.proofs.FormatterContext.write_token.Goals as goal
 
 pub returns : goal.returns

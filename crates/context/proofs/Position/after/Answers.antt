@@ -5,7 +5,6 @@ use native.Mathlib.Omega.{arith}
 use Rattle.utf8.specs.Trimming.{trimmed_after}
 use Rattle.utf8.proofs.Trimming.{trimmed-le}
 use Rattle.context.proofs.Writes.{advanced-blanks}
-use borrow.Author.Rules.{rules}
 use Rattle.context.proofs.Position.after.Goals as goal
 
 pub trimmed_after-requires : goal.trimmed_after-requires

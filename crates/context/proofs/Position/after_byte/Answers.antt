@@ -6,7 +6,6 @@ use Prim.Native.Nat.{ℕ, ◌+◌}
 use Rattle.utf8.specs.Trimming.{trimmed_after, trimmed_length, is_white_byte}
 use Rattle.utf8.proofs.Trimming.{trimmed-one}
 use Rattle.context.proofs.Writes.{advanced-blanks}
-use borrow.Author.Rules.{rules}
 use Rattle.context.proofs.Position.after_byte.Goals as goal
 
 one_byte : (b : ℕ) (t : Bool) → is_white_byte b ≡ t → trimmed_length (b ∷ []) ≡ cond t 0 1

@@ -7,7 +7,6 @@ use mir.Val.{bool_byte}
 use native.Mathlib.Omega.{arith}
 use native.Mathlib.Nat.{mul-le-mul}
 use lib.ListN.{replicate}
-use borrow.Author.Rules.{rules}
 use Rattle.context.specs.Cells.{bytes_of, fresh}
 use Rattle.context.specs.Context.{lead}
 use Rattle.context.specs.declared.FormatConfig.{FormatConfig}

@@ -1,11 +1,9 @@
 -- `context::buffer::copy` meets its contract: after i passes the first i bytes of the text are laid over the part.
-use borrow.Author.Rules.{rules}
-use mathlib.Core.Path.{◌≡◌, refl, sym, ◌∙◌}
-use Prim.Native.Nat.{◌≤◌, ◌<◌, ◌-◌, min}
+use mathlib.Core.Path.{refl, sym, ◌∙◌}
+use Prim.Native.Nat.{◌<◌}
 use native.Mathlib.Nat.{min-le_left, min-le_right}
 use native.Mathlib.Omega.{arith}
-use lib.ListN.{length, take, get_or, length-set}
-use Rattle.context.specs.Splice.{splice}
+use lib.ListN.{length, get_or, length-set}
 use Rattle.context.proofs.Splicing.{splice-nil, loop_step, loop_end}
 use Rattle.context.proofs.buffer.copy.Goals as goal
 

@@ -1,7 +1,6 @@
 -- `context::buffer::copy_at` meets its contract: the part that starts at `at` is lent, or nothing is where there is none.
 use mathlib.Core.Path.{sym}
 use Rattle.context.proofs.Splicing.{part_back, splice-past}
-use borrow.Author.Rules.{rules}
 use Rattle.context.proofs.buffer.copy_at.Goals as goal
 
 pub returns-then-at-out : goal.returns-then-at-out

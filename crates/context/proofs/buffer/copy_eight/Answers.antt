@@ -2,7 +2,6 @@
 use mathlib.Core.Path.{refl}
 use native.Mathlib.Omega.{arith}
 use Rattle.context.proofs.Splicing.{front_then_back}
-use borrow.Author.Rules.{rules}
 use Rattle.context.proofs.buffer.copy_eight.Goals as goal
 
 pub returns : goal.returns

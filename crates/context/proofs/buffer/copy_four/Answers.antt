@@ -7,7 +7,6 @@ use lib.ListN.{length, get_or, set, take, length-set}
 use mathlib.Core.Path.{◌≡◌}
 use Rattle.context.specs.Splice.{splice}
 use Rattle.context.proofs.Splicing.{splice-nil, loop_step}
-use borrow.Author.Rules.{rules}
 use Rattle.context.proofs.buffer.copy_four.Goals as goal
 
 four-laid : (ps xs : List ℕ) → 4 ≤ length ps

@@ -1,12 +1,10 @@
 -- `context::buffer::copy_in_case` meets its contract: after i passes the first i bytes of the text, in the asked case, are laid over the part.
-use mathlib.Core.Path.{◌≡◌, refl, sym, ◌∙◌}
+use mathlib.Core.Path.{refl, sym, ◌∙◌}
 use mathlib.Core.List.{map}
-use Prim.Native.Nat.{◌≤◌, ◌<◌, ◌-◌, min}
+use Prim.Native.Nat.{◌<◌}
 use native.Mathlib.Nat.{min-le_left, min-le_right}
 use native.Mathlib.Omega.{arith}
-use lib.ListN.{length, take, length-map, length-set, get_or-map}
-use borrow.Author.Rules.{rules}
-use Rattle.context.specs.Splice.{splice}
+use lib.ListN.{length, length-map, length-set, get_or-map}
 use Rattle.context.proofs.Splicing.{splice-nil, loop_step, loop_end}
 use Rattle.context.specs.Cells.{to_case}
 use Rattle.context.proofs.buffer.copy_in_case.Goals as goal

@@ -3,7 +3,6 @@ use mathlib.Core.Path.{sym}
 use mathlib.Core.List.{map}
 use Rattle.context.proofs.Splicing.{part_back, splice-past}
 use Rattle.context.specs.Cells.{to_case}
-use borrow.Author.Rules.{rules}
 use Rattle.context.proofs.buffer.copy_in_case_at.Goals as goal
 
 pub returns-then-at-out : goal.returns-then-at-out

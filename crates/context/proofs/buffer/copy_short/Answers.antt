@@ -7,7 +7,6 @@ use lib.ListN.{length}
 use lib.Seq.{take-length}
 use Rattle.context.specs.Splice.{splice}
 use Rattle.context.proofs.Splicing.{front_then_back, back_then_front}
-use borrow.Author.Rules.{rules}
 use Rattle.context.proofs.buffer.copy_short.Goals as goal
 
 pub returns-then-n-lt4 : goal.returns-then-n-lt4

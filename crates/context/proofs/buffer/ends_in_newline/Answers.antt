@@ -6,7 +6,6 @@ use lib.ListN.{length}
 use Prim.Native.Nat.{ℕ}
 use native.Mathlib.Omega.{arith}
 use Rattle.context.specs.Context.{ends_in_newline}
-use borrow.Author.Rules.{rules}
 use Rattle.context.proofs.buffer.ends_in_newline.Goals as goal
 
 none : (s : List ℕ) → length s ≡ 0 → false ≡ ends_in_newline s

@@ -1,11 +1,10 @@
 -- `context::buffer::fill` meets its contract: one byte is laid over the part by itself; else, after i passes the first i of the n bytes are.
 use mathlib.Core.Path.{◌≡◌, refl, sym, ap, ◌∙◌}
 use mathlib.Core.List.{List, [], ◌∷◌}
-use Prim.Native.Nat.{ℕ, ◌≤◌, ◌<◌, ◌-◌, min}
+use Prim.Native.Nat.{ℕ, ◌<◌}
 use native.Mathlib.Nat.{min-le_left, min-le_right}
 use native.Mathlib.Omega.{arith}
-use lib.ListN.{length, set, take, replicate, length-replicate, get_or-replicate, length-set}
-use borrow.Author.Rules.{rules}
+use lib.ListN.{length, set, replicate, length-replicate, get_or-replicate, length-set}
 use Rattle.context.specs.Splice.{splice}
 use Rattle.context.proofs.Splicing.{splice-nil, splice-past, loop_step, loop_end}
 use Rattle.context.proofs.buffer.fill.Goals as goal

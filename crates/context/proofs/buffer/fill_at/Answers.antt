@@ -2,7 +2,6 @@
 use mathlib.Core.Path.{sym}
 use lib.ListN.{replicate}
 use Rattle.context.proofs.Splicing.{part_back, splice-past}
-use borrow.Author.Rules.{rules}
 use Rattle.context.proofs.buffer.fill_at.Goals as goal
 
 pub returns-then-at-out : goal.returns-then-at-out

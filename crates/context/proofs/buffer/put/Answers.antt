@@ -3,7 +3,6 @@ use mathlib.Core.Path.{ap, ◌∙◌}
 use mathlib.Core.List.{List}
 use Prim.Native.Nat.{ℕ, ◌+◌}
 use Rattle.context.specs.Splice.{splice}
-use borrow.Author.Rules.{rules}
 use Rattle.context.proofs.buffer.put.Goals as goal
 
 pub returns : goal.returns

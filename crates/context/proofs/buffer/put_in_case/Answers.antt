@@ -4,7 +4,6 @@ use mathlib.Core.List.{List, map}
 use Prim.Native.Nat.{ℕ, ◌+◌}
 use Rattle.context.specs.Cells.{to_case}
 use Rattle.context.specs.Splice.{splice}
-use borrow.Author.Rules.{rules}
 use Rattle.context.proofs.buffer.put_in_case.Goals as goal
 
 pub returns : goal.returns

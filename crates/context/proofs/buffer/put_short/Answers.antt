@@ -4,7 +4,6 @@ use mathlib.Core.List.{List}
 use Prim.Native.Nat.{ℕ, ◌+◌}
 use Rattle.context.specs.Splice.{splice}
 use Rattle.context.proofs.Splicing.{part_back}
-use borrow.Author.Rules.{rules}
 use Rattle.context.proofs.buffer.put_short.Goals as goal
 
 pub returns : goal.returns

@@ -1,7 +1,6 @@
 -- `context::buffer::to_case` meets its contract, by the tests that lead to each answer.
 use borrow.Author.Tests.{le-leb, lt-leb}
 use Rattle.basics.specs.Case.{to_uppercase, to_lowercase}
-use borrow.Author.Rules.{rules}
 use Rattle.context.proofs.buffer.to_case.Goals as goal
 
 pub returns-then-b-lt97 : goal.returns-then-b-lt97

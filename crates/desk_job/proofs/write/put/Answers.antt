@@ -1,5 +1,4 @@
 -- `put` meets its contract.
-use borrow.Author.Rules.{rules}
 use native.Mathlib.Omega.{arith}
 use Rattle.desk_job.proofs.Writing.{wrote_one, wrote_past}
 use Rattle.desk_job.proofs.write.put.Goals as goal

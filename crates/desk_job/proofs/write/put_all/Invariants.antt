@@ -1,9 +1,7 @@
 -- `put_all` meets its contract: after i passes the first i bytes are written.
-use borrow.Author.Rules.{rules}
 use Prim.Native.Nat.{◌-◌, ◌≤◌}
-use native.Mathlib.Omega.{arith}
 use lib.ListN.{length, take}
-use Rattle.desk_job.proofs.Writing.{Wrote, same_length-of, within, wrote_all, wrote_nothing, wrote_step}
+use Rattle.desk_job.proofs.Writing.{Wrote}
 use Rattle.desk_job.proofs.write.put_all.Given as goal
 
 abbrev pub invariant-loop-i : goal.invariant-loop-i

@@ -1,7 +1,6 @@
 -- `put_field` meets its contract.
 use Rattle.desk_job.proofs.Writing.{within, wrote_then}
 use Rattle.desk_job.specs.Job.{field}
-use borrow.Author.Rules.{rules}
 use Rattle.desk_job.proofs.write.put_field.Goals as goal
 
 pub put_decimal-requires : goal.put_decimal-requires

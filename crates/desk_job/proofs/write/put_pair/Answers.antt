@@ -1,7 +1,6 @@
 -- `put_pair` meets its contract.
 use Rattle.desk_job.proofs.Writing.{within, wrote_then}
 use Rattle.desk_job.specs.Job.{pair}
-use borrow.Author.Rules.{rules}
 use Rattle.desk_job.proofs.write.put_pair.Goals as goal
 
 pub put_field-b-requires : goal.put_field-b-requires

@@ -1,14 +1,11 @@
 -- Written by scripts/cycle_proof.py; do not edit.
-use Prim.Native.Nat.{◌*◌, ◌+◌, ◌-◌}
 use native.Mathlib.Omega.{arith}
 use mathlib.Core.Bool.{Bool, false, ◌&&◌}
 use mathlib.Core.Path.{◌∙◌, ap, refl, sym}
 use lib.Dec.{eqb}
-use lib.ListN.{length}
-use borrow.Author.Rules.{rules}
 use Rattle.layout.specs.declared.Routine.TheVariants as TheVariants
 use Rattle.formatter.proofs.RoutineLaws.{case-after, case-kept, is-list, list-known, list-node, list_node, multi_noted, select_kept, settings_kept, union_after}
-use Rattle.formatter.proofs.Walks.{Loop, child_noted, copy_ready, decided_clean, decided_copied, decided_list, fact_fits, left-pos, loop_first, loop_fits, loop_last, node-copied, node-next, node-noted, node-ready, node_by, opened-at, side_ready, token-next, token-ready}
+use Rattle.formatter.proofs.Walks.{child_noted, copy_ready, decided_clean, decided_copied, decided_list, fact_fits, left-pos, loop_first, loop_fits, loop_last, node-copied, node-next, node-noted, node-ready, node_by, opened-at, side_ready, token-next, token-ready}
 use Rattle.formatter.specs.RoutinePromises.{always}
 use Rattle.layout.specs.FormatNode.{arms_of}
 use Rattle.layout.specs.Routines.{flagged, format_alter_command_list, format_binary_expression, format_brace_list, format_bracket_list, format_case_expression, format_comma_list, format_data_type, format_file, format_function_call, format_inline, format_inline_comma_list, format_inline_no_spaces, format_inline_tight_parens, format_join_clause, format_list_clause, format_paren_list, format_passthrough, format_query_list, format_select_clause, format_select_statement, format_settings_clause, format_simple_clause, format_subquery, format_unary_expression, format_union_clause, format_when_clause, format_with_clause, inline_node, list_clause_arms, space_after, space_if, union_token}

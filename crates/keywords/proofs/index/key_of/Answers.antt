@@ -1,5 +1,4 @@
 -- `key_of` meets its contract.
-use borrow.Author.Rules.{rules}
 use Rattle.keywords.specs.Index.{key}
 use Rattle.keywords.proofs.index.key_of.Goals as goal
 

@@ -1,10 +1,9 @@
 -- `blank` meets its contract: after i passes the first i bytes are 255.
-use mathlib.Core.List.{List, ◌++◌}
-use Prim.Native.Nat.{ℕ, ◌≤◌, ◌-◌}
-use lib.ListN.{set, length, drop, replicate, length-set}
-use mathlib.Core.Path.{◌≡◌, refl, ap, ◌∙◌}
+use mathlib.Core.List.{List}
+use Prim.Native.Nat.{ℕ}
+use lib.ListN.{set, length-set}
+use mathlib.Core.Path.{refl, ap, ◌∙◌}
 use native.Mathlib.Omega.{arith}
-use borrow.Author.Rules.{rules}
 use borrow.Author.Fill.{fill_more}
 use Rattle.replay_list.proofs.Agreeing.{filled-all}
 use Rattle.replay_list.proofs.agree.blank.Goals as goal

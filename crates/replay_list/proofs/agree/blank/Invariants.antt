@@ -1,12 +1,8 @@
 -- `blank` meets its contract: after i passes the first i bytes are 255.
-use mathlib.Core.List.{List, ◌++◌}
-use Prim.Native.Nat.{ℕ, ◌≤◌, ◌-◌}
-use lib.ListN.{set, length, drop, replicate, length-set}
-use mathlib.Core.Path.{◌≡◌, refl, ap, ◌∙◌}
-use native.Mathlib.Omega.{arith}
-use borrow.Author.Rules.{rules}
-use borrow.Author.Fill.{fill_more}
-use Rattle.replay_list.proofs.Agreeing.{filled-all}
+use mathlib.Core.List.{◌++◌}
+use Prim.Native.Nat.{◌≤◌, ◌-◌}
+use lib.ListN.{length, drop, replicate}
+use mathlib.Core.Path.{◌≡◌}
 use Rattle.replay_list.proofs.agree.blank.Given as goal
 
 abbrev pub invariant-loop-i : goal.invariant-loop-i

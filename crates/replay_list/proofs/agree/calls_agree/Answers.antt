@@ -3,7 +3,6 @@ use lib.ListN.{length}
 use Rattle.layout.specs.Layout.{original}
 use Rattle.layout.specs.Outcome.{outcome}
 use Rattle.replay_list.proofs.Agreeing.{differs_in_none, differs_laid, compares_space}
-use borrow.Author.Rules.{rules}
 use Rattle.replay_list.proofs.agree.calls_agree.Goals as goal
 
 pub returns-then-not-same_answer : goal.returns-then-not-same_answer

@@ -1,6 +1,5 @@
 -- `expected_at` meets its contract.
 use mathlib.Core.Path.{sym}
-use borrow.Author.Rules.{rules}
 use lib.ListN.{get_or-eq_default}
 use Rattle.replay_list.proofs.Agreeing.{get_d_any}
 use Rattle.replay_list.proofs.agree.expected_at.Goals as goal

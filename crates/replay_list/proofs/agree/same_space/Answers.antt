@@ -1,11 +1,9 @@
 -- `same_space` meets its contract: after i passes what is left of the two decides.
-use mathlib.Core.Path.{◌≡◌, refl, sym, ◌∙◌}
-use Prim.Native.Nat.{◌≤◌, ◌-◌}
+use mathlib.Core.Path.{refl, sym, ◌∙◌}
+use Prim.Native.Nat.{◌≤◌}
 use native.Mathlib.Omega.{arith}
-use borrow.Author.Rules.{rules}
 use borrow.Author.Tests.{eq-eqb, ne_eqb}
-use lib.ListN.{length, drop, drop_of_length-le}
-use Rattle.keywords.specs.Words.{same}
+use lib.ListN.{length, drop_of_length-le}
 use Rattle.basics.proofs.Same.{same-lengths, same_step, same-nil}
 use Rattle.replay_list.proofs.Agreeing.{expected, expected_byte, length-expected, longer_expected}
 use Rattle.replay_list.proofs.agree.same_space.Goals as goal

@@ -1,7 +1,6 @@
 -- `print_bad` meets its contract: three writes in a row are one.
 use Rattle.desk_job.proofs.Writing.{within, wrote_then}
 use Rattle.replay_list.specs.Line.{bad_line}
-use borrow.Author.Rules.{rules}
 use Rattle.replay_list.proofs.line.print_bad.Goals as goal
 
 pub put_decimal-b-requires : goal.put_decimal-b-requires

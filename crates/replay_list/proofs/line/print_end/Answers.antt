@@ -2,7 +2,6 @@
 use borrow.Author.Tests.{eq-eqb, ne_eqb}
 use Rattle.desk_job.proofs.Writing.{within, wrote_then}
 use Rattle.replay_list.specs.Line.{end_line}
-use borrow.Author.Rules.{rules}
 use Rattle.replay_list.proofs.line.print_end.Goals as goal
 
 pub put_all-b-requires : goal.put_all-b-requires

@@ -3,7 +3,6 @@ use borrow.Author.Tests.{lt-leb}
 use Rattle.desk_job.proofs.HeaderReading.{answered-false, answered-true}
 use Rattle.replay_list.specs.Record.{fitting}
 use Rattle.replay_list.proofs.RecordLimits.{layout-left}
-use borrow.Author.Rules.{rules}
 use Rattle.replay_list.proofs.record.fits.Goals as goal
 
 pub returns-then-not-run_fits : goal.returns-then-not-run_fits

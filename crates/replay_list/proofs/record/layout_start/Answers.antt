@@ -1,6 +1,5 @@
 -- `layout_start` meets its contract: the limits keep the sum small.
 use native.Mathlib.Omega.{arith}
-use borrow.Author.Rules.{rules}
 use Rattle.replay_list.proofs.RecordLimits.{within-limits}
 use Rattle.replay_list.proofs.record.layout_start.Goals as goal
 

@@ -1,5 +1,4 @@
 -- `read_head` meets its contract.
-use borrow.Author.Rules.{rules}
 use Rattle.replay_list.specs.Record.{head_of}
 use Rattle.replay_list.proofs.record.read_head.Goals as goal
 

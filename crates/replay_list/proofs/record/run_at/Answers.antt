@@ -1,5 +1,4 @@
 -- `run_at` meets its contract.
-use borrow.Author.Rules.{rules}
 use Rattle.replay_list.proofs.record.run_at.Goals as goal
 
 pub returns : goal.returns

@@ -1,7 +1,6 @@
 -- `run_fits` meets its contract: its tests are those of the definition, with no sum that wraps.
 use Prim.Native.Nat.{◌+◌, ◌<◌, ◌≤◌}
 use native.Mathlib.Omega.{arith}
-use borrow.Author.Rules.{rules}
 use borrow.Author.Tests.{le-leb, lt-leb}
 use Rattle.replay_list.specs.Record.{run_fits}
 use Rattle.replay_list.proofs.record.run_fits.Goals as goal

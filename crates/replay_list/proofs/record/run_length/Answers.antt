@@ -1,6 +1,5 @@
 -- `run_length` meets its contract: the limits keep the sum small.
 use native.Mathlib.Omega.{arith}
-use borrow.Author.Rules.{rules}
 use Rattle.replay_list.proofs.RecordLimits.{run-within}
 use Rattle.replay_list.proofs.record.run_length.Goals as goal
 

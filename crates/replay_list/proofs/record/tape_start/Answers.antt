@@ -1,6 +1,5 @@
 -- `tape_start` meets its contract: the limits keep the sum small.
 use native.Mathlib.Omega.{arith}
-use borrow.Author.Rules.{rules}
 use Rattle.replay_list.proofs.RecordLimits.{within-limits}
 use Rattle.replay_list.proofs.record.tape_start.Goals as goal
 

@@ -1,5 +1,4 @@
 -- `count` meets its contract: its cases are those of the definition.
-use borrow.Author.Rules.{rules}
 use borrow.Author.Tests.{ne_eqb}
 use Rattle.replay_list.specs.Replay.{counted}
 use Rattle.replay_list.proofs.replay.count.Goals as goal

@@ -1,7 +1,6 @@
 -- `record_agrees` meets its contract: the arrays' fronts are the record's text and tape, zeros included.
 use mathlib.Core.Path.{refl, sym}
 use native.Mathlib.Omega.{arith}
-use borrow.Author.Rules.{rules}
 use lib.ListN.{replicate}
 use lib.Seq.{length-take-le}
 use Rattle.replay_list.proofs.RecordLimits.{within-limits}

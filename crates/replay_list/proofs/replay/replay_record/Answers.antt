@@ -1,5 +1,4 @@
 -- `replay_record` meets its contract: its tests are those of the definition.
-use borrow.Author.Rules.{rules}
 use native.Mathlib.Omega.{arith}
 use Rattle.desk_job.proofs.HeaderReading.{answered-false, answered-true}
 use Rattle.replay_list.proofs.Replaying.{cut-in_head, over_limit, cut-in_run, record_compared}

@@ -4,7 +4,6 @@ use mathlib.Core.Path.{sym, ap, ◌∙◌}
 use lib.ListN.{length}
 use lib.Seq.{take-length}
 use Rattle.utf8.specs.Table.{is_ascii}
-use borrow.Author.Rules.{rules}
 use Rattle.tape.proofs.check.ascii_start.Goals as goal
 
 pub returns-then-is_ascii : goal.returns-then-is_ascii

@@ -2,7 +2,6 @@
 use mathlib.Core.Path.{refl}
 use borrow.Author.Tests.{lt-ltb, le-ltb}
 use Rattle.tape.specs.Call.{read_call}
-use borrow.Author.Rules.{rules}
 use Rattle.tape.proofs.check.check_call.Goals as goal
 
 pub returns-then-width-gt16 : goal.returns-then-width-gt16

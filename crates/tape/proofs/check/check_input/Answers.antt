@@ -2,7 +2,6 @@
 use mathlib.Core.Path.{refl, sym, ◌∙◌}
 use borrow.Author.Tests.{lt-ltb, le-ltb}
 use Rattle.tape.specs.Call.{read_input}
-use borrow.Author.Rules.{rules}
 use Rattle.tape.proofs.check.check_input.Goals as goal
 
 pub returns-then-text-gt262144 : goal.returns-then-text-gt262144

@@ -5,7 +5,6 @@ use lib.ListN.{take}
 use lib.Seq.{take-length}
 use Rattle.utf8.specs.Table.{is_ascii}
 use Rattle.utf8.proofs.CharacterLength.{ascii-well}
-use borrow.Author.Rules.{rules}
 use Rattle.tape.proofs.check.ill_formed_at.Goals as goal
 
 pub returns-then-ascii-text : goal.returns-then-ascii-text

@@ -2,7 +2,6 @@
 use mathlib.Core.Path.{ap₂, ◌∙◌}
 use mathlib.Core.Bool.{◌&&◌}
 use Rattle.tape.proofs.SpanBounds.{at_bounds}
-use borrow.Author.Rules.{rules}
 use Rattle.tape.proofs.commands.at_bounds.Goals as goal
 
 pub returns : goal.returns

@@ -1,13 +1,11 @@
 -- `open_finding` meets its contract: each answer by the tests that led to it.
 use mathlib.Core.Path.{sym, ap, ◌∙◌}
 use mathlib.Core.Bool.{cond}
-use mathlib.Core.Logic.{⊎_elim}
 use Rattle.tape.specs.declared.Fault.TheVariants.{TooDeep}
 use Rattle.tape.specs.declared.Finding.TheVariants.{Sound, Faulty}
 use Rattle.tape.specs.Tape.{tests_of, check_open}
 use Rattle.tape.proofs.KnownCommands.{NodePasses, span-passes, no_span_passes, open_rest}
 use borrow.Author.Tests.{lt-ltb, le-ltb, le-leb, lt-leb, not-true, not-false}
-use borrow.Author.Rules.{rules}
 use Rattle.tape.proofs.commands.open_finding.Goals as goal
 use Rattle.tape.proofs.commands.open_finding.Goals.{else-h, then-h+else-text-h+else-not-at_bounds}
 

@@ -2,7 +2,6 @@
 use mathlib.Core.Path.{sym, ◌∙◌}
 use Rattle.tape.specs.Tape.{tests_of, check_token}
 use borrow.Author.Tests.{lt-ltb, le-ltb, not-true, not-false}
-use borrow.Author.Rules.{rules}
 use Rattle.tape.proofs.commands.token_finding.Goals as goal
 
 pub returns-then-t-gt-ERROR_MAX_QUERY_SIZE_EXCEEDED : goal.returns-then-t-gt-ERROR_MAX_QUERY_SIZE_EXCEEDED

@@ -1,7 +1,6 @@
 -- `u16_at` meets its contract: bytes are below 256, so that nothing wraps.
 use Prim.Native.Nat.{◌+◌}
 use native.Mathlib.Omega.{arith}
-use borrow.Author.Rules.{rules}
 use Rattle.tape.proofs.commands.u16_at.Goals as goal
 
 pub overflow_cast-result : goal.overflow_cast-result

@@ -3,7 +3,6 @@ use mathlib.Core.Path.{ap}
 use mathlib.Core.Bool.{not}
 use Rattle.basics.specs.Bytes.{token_text}
 use borrow.Author.Tests.{eq-eqb, ne_eqb}
-use borrow.Author.Rules.{rules}
 use Rattle.tape.proofs.commands.word_not_ascii.Goals as goal
 
 pub returns-then-t-eq-BARE_WORD : goal.returns-then-t-eq-BARE_WORD

@@ -1,8 +1,7 @@
 -- `skip` meets its contract. The loops' invariant is `Skipping`, the measure what is left of the tape.
 use Prim.Native.Nat.{◌-◌, ◌≤◌, ◌<◌}
-use native.Mathlib.Omega.{arith}
 use lib.ListN.{length}
-use Rattle.tape.proofs.Skips.{Skipping, skip_first, skip_low, skip_close, skip_open, skip_token, skip_last}
+use Rattle.tape.proofs.Skips.{Skipping}
 use Rattle.tape.proofs.scan.skip.Given as goal
 
 abbrev pub invariant-loop-i : goal.invariant-loop-i
