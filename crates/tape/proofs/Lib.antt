@@ -2,6 +2,7 @@
 pub mod KnownCommands
 pub mod Trees
 pub mod Reading
+pub mod AddedBits
 pub mod NotedFacts
 pub mod SpanBounds
 pub mod LengthAlone

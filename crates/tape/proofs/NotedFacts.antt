@@ -8,7 +8,6 @@ use mathlib.Core.Logic.{◌⊎◌, inl, inr, ⊎_elim}
 use lib.ListN.{length, get_or, set, length-set}
 use lib.Seq.{lt-length-set, get_or-set_same, get_or-set_other}
 use lib.Dec.{eqb, ltb, leb-suc-suc}
-use lib.Bits.{bit_and, bit_or}
 use borrow.Author.Tests.{ltb-true, eqb-true, lt-ltb, le-ltb}
 use Rattle.tape.specs.declared.Head.{Head}
 use Rattle.tape.specs.Kinds.{Error, GroupByList, OrderByList}
@@ -16,6 +15,7 @@ use Rattle.tape.specs.Tree.{Children, done, token, node, Tree, size, has_child, 
 use Rattle.tape.specs.Tape.{head_at}
 use Rattle.tape.specs.SpelledAt.{OpenAt, SpelledAt}
 use Rattle.tape.specs.NodeFacts.{notes_error, notes_several, notes_list, NodeFacts, NotedNode, Noted, opened, with_child}
+use Rattle.tape.proofs.AddedBits.{with_bits}
 
 -- the byte f after all children
 pub noted : ℕ → Children → ℕ
@@ -71,9 +71,6 @@ child_noted : (f k : ℕ) → ltb f 32 ≡ true → notes (with_child f k) ≡ a
 unfolding table
 child_noted f k l = go (eqb k Error) (eqb k GroupByList) (eqb k OrderByList) refl refl refl
   where
-    with_bits : ℕ → ℕ → ℕ
-    with_bits b x = bit_or (bit_or x b) (bit_and x 2 * 2)
-
     computed : (b : ℕ) (e g o : Bool) → table 32 (λ x. notes (with_bits b x)) ≡ table 32 (λ x. after e g o (notes x))
         → notes (with_bits b f) ≡ after e g o (notes f)
     computed b e g o t = below 32 (λ x. notes (with_bits b x)) (λ x. after e g o (notes x)) t f (ltb-true f 32 l)

@@ -42,7 +42,8 @@ returns-then-is_trailing-3 c =
 
 pub returns-else-is_trailing-3 : goal.returns-else-is_trailing-3
 returns-else-is_trailing-3 c =
-    fourth_at _ _ c.requires c.if-a-lt240.false c.if-a-gt244.false
+    let low = c.if-a-gt244.false in
+    fourth_at _ _ c.requires c.if-a-lt240.false low
     (said (is_second _) c.byte_at-b.ensures c.is_second.ensures c.if-is_second.true)
     (said is_trailing c.byte_at.ensures c.is_trailing-then-is_second.ensures c.if-is_trailing-2.true)
     false

@@ -38,5 +38,5 @@ pub returns : goal.returns
 returns c =
     let tests = tests_of c.args.text.now in
     let passes : NodePasses tests c.args.h =
-    (elim c.if-h.branch [ then-h+else-text-h+else-not-at_bounds w ↦ span-passes tests c.args.h w.if-text-h.false (not-true (tests.inside_character c.args.h) (sym w.at_bounds.ensures ∙ w.if-not-at_bounds.false)) | else-h w ↦ no_span_passes tests c.args.h w.if-h.false ]) in
+    (elim c.if-h.branch [ then-h+else-text-h+else-not-at_bounds v ↦ span-passes tests c.args.h v.if-text-h.false (not-true (tests.inside_character c.args.h) (sym v.at_bounds.ensures ∙ v.if-not-at_bounds.false)) | else-h v ↦ no_span_passes tests c.args.h v.if-h.false ]) in
     sym (open_rest tests c.args.depth c.args.h c.if-h-gt-ERROR_MAX_QUERY_SIZE_EXCEEDED.false (sym c.not_carried.ensures ∙ c.if-not_carried.false) passes ∙ ap (λ t. cond t (Faulty TooDeep) Sound) (le-leb _ _ c.if-depth-lt64.false))
