@@ -7,4 +7,3 @@ pub mod Looping
 pub mod Totals
 pub mod WholeReport
 pub mod SmallBooks
-pub mod Again

@@ -12,11 +12,11 @@ use Rattle.desk_job.specs.declared.Header.TheVariants.{Refused, Accepted}
 use Rattle.desk_job.specs.Job.{has_command, text_end, read_header}
 
 -- an answer that is negated in the test
-pub answered-false : {r t : Bool} → r ≡ t → not r ≡ true → t ≡ false
-answered-false e n = sym e ∙ not-true _ n
+pub answered-false : {r t : Bool} → r ≡ t → r ≡ false → t ≡ false
+answered-false e n = sym e ∙ n
 
-pub answered-true : {r t : Bool} → r ≡ t → not r ≡ false → t ≡ true
-answered-true e n = sym e ∙ not-false _ n
+pub answered-true : {r t : Bool} → r ≡ t → r ≡ true → t ≡ true
+answered-true e n = sym e ∙ n
 
 first-true : (a b : Bool) → (a && b) ≡ true → a ≡ true
 first-true true b h = refl

@@ -63,6 +63,7 @@ use token_map::{Signs, note_none, note_token};
 use tokens::{emit_other, format_error_verbatim, space_after, space_if};
 
 // format_file
+#[cycle(routines)]
 fn file(
     source: &[u8],
     keywords: &[u8; TABLE_LENGTH],
@@ -121,6 +122,7 @@ fn file(
 }
 
 // format_query_list
+#[cycle(routines)]
 fn queries(
     source: &[u8],
     keywords: &[u8; TABLE_LENGTH],
@@ -179,6 +181,7 @@ fn queries(
 }
 
 // format_select_statement
+#[cycle(routines)]
 fn sel_stmt(
     source: &[u8],
     keywords: &[u8; TABLE_LENGTH],
@@ -237,6 +240,7 @@ fn sel_stmt(
 }
 
 // format_select_clause
+#[cycle(routines)]
 fn select(
     source: &[u8],
     keywords: &[u8; TABLE_LENGTH],
@@ -292,6 +296,7 @@ fn select(
 }
 
 // format_simple_clause
+#[cycle(routines)]
 fn simple(
     source: &[u8],
     keywords: &[u8; TABLE_LENGTH],
@@ -352,6 +357,7 @@ fn simple(
 }
 
 // format_group_by_clause, format_order_by_clause: `list` is the kind of their list
+#[cycle(routines)]
 fn list_by(
     source: &[u8],
     keywords: &[u8; TABLE_LENGTH],
@@ -412,6 +418,7 @@ fn list_by(
 }
 
 // format_limit_by_clause, format_join_clause
+#[cycle(routines)]
 fn join(
     source: &[u8],
     keywords: &[u8; TABLE_LENGTH],
@@ -472,6 +479,7 @@ fn join(
 }
 
 // format_settings_clause
+#[cycle(routines)]
 fn settings(
     source: &[u8],
     keywords: &[u8; TABLE_LENGTH],
@@ -527,6 +535,7 @@ fn settings(
 }
 
 // format_with_clause
+#[cycle(routines)]
 fn with(
     source: &[u8],
     keywords: &[u8; TABLE_LENGTH],
@@ -578,6 +587,7 @@ fn with(
 }
 
 // format_comma_list
+#[cycle(routines)]
 fn comma(
     source: &[u8],
     keywords: &[u8; TABLE_LENGTH],
@@ -638,6 +648,7 @@ fn comma(
 }
 
 // format_inline_comma_list
+#[cycle(routines)]
 fn inl_list(
     source: &[u8],
     keywords: &[u8; TABLE_LENGTH],
@@ -688,6 +699,7 @@ fn inl_list(
 }
 
 // format_binary_expression
+#[cycle(routines)]
 fn binary(
     source: &[u8],
     keywords: &[u8; TABLE_LENGTH],
@@ -738,6 +750,7 @@ fn binary(
 }
 
 // format_unary_expression
+#[cycle(routines)]
 fn unary(
     source: &[u8],
     keywords: &[u8; TABLE_LENGTH],
@@ -788,6 +801,7 @@ fn unary(
 }
 
 // format_function_call
+#[cycle(routines)]
 fn call(
     source: &[u8],
     keywords: &[u8; TABLE_LENGTH],
@@ -838,6 +852,7 @@ fn call(
 }
 
 // format_case_expression
+#[cycle(routines)]
 fn case(
     source: &[u8],
     keywords: &[u8; TABLE_LENGTH],
@@ -892,6 +907,7 @@ fn case(
 }
 
 // format_when_clause
+#[cycle(routines)]
 fn when(
     source: &[u8],
     keywords: &[u8; TABLE_LENGTH],
@@ -942,6 +958,7 @@ fn when(
 }
 
 // format_subquery
+#[cycle(routines)]
 fn subquery(
     source: &[u8],
     keywords: &[u8; TABLE_LENGTH],
@@ -992,6 +1009,7 @@ fn subquery(
 }
 
 // format_paren_list
+#[cycle(routines)]
 fn paren(
     source: &[u8],
     keywords: &[u8; TABLE_LENGTH],
@@ -1042,6 +1060,7 @@ fn paren(
 }
 
 // format_bracket_list
+#[cycle(routines)]
 fn bracket(
     source: &[u8],
     keywords: &[u8; TABLE_LENGTH],
@@ -1092,6 +1111,7 @@ fn bracket(
 }
 
 // format_brace_list
+#[cycle(routines)]
 fn brace(
     source: &[u8],
     keywords: &[u8; TABLE_LENGTH],
@@ -1142,6 +1162,7 @@ fn brace(
 }
 
 // format_data_type
+#[cycle(routines)]
 fn dtype(
     source: &[u8],
     keywords: &[u8; TABLE_LENGTH],
@@ -1192,6 +1213,7 @@ fn dtype(
 }
 
 // format_inline_tight_parens
+#[cycle(routines)]
 fn tight_paren(
     source: &[u8],
     keywords: &[u8; TABLE_LENGTH],
@@ -1253,6 +1275,7 @@ fn tight_paren(
 }
 
 // format_inline
+#[cycle(routines)]
 fn inline(
     source: &[u8],
     keywords: &[u8; TABLE_LENGTH],
@@ -1314,6 +1337,7 @@ fn inline(
 }
 
 // format_inline_no_spaces
+#[cycle(routines)]
 fn no_spaces(
     source: &[u8],
     keywords: &[u8; TABLE_LENGTH],
@@ -1364,6 +1388,7 @@ fn no_spaces(
 }
 
 // format_passthrough
+#[cycle(routines)]
 fn pass(
     source: &[u8],
     keywords: &[u8; TABLE_LENGTH],
@@ -1414,6 +1439,7 @@ fn pass(
 }
 
 // format_alter_command_list
+#[cycle(routines)]
 fn alter(
     source: &[u8],
     keywords: &[u8; TABLE_LENGTH],
@@ -1464,6 +1490,7 @@ fn alter(
 }
 
 // format_union_clause
+#[cycle(routines)]
 fn union(
     source: &[u8],
     keywords: &[u8; TABLE_LENGTH],
@@ -1520,6 +1547,7 @@ fn union(
 
 // format_node. The caller has read the node's kind. The two tests stand apart, so that the compiler takes a call of a routine for likely enough
 // to put each routine's loop in here.
+#[cycle(routines)]
 pub(crate) fn node(
     source: &[u8],
     keywords: &[u8; TABLE_LENGTH],

@@ -1,10 +1,9 @@
 -- The space that a record expects, and from what the calls promise to the comparison.
 use mathlib.Core.Path.{◌≡◌, refl, ap, subst, ◌∙◌}
-use mathlib.Core.Bool.{Bool, true, false, not, ◌&&◌}
+use mathlib.Core.Bool.{Bool, true, false, ◌&&◌}
 use mathlib.Core.List.{List, [], ◌∷◌, ◌++◌, append-nil}
 use Prim.Native.Nat.{ℕ, zero, suc, ◌+◌, ◌-◌, ◌≤◌, ◌<◌}
 use native.Mathlib.Omega.{arith}
-use borrow.Author.Tests.{not-true, not-false}
 use lib.Seq.{drop-length}
 use lib.ListN.{length, get_or, drop, replicate, length-append, length-replicate, get_or-replicate}
 use Rattle.keywords.specs.Words.{same}
@@ -67,16 +66,16 @@ module _ (o : Outcome) (number value : ℕ) (layout : List ℕ) (room : ℕ) (m 
       comparison r (h ∙ ap (λ (x : Bool). x && (q && s)) hp ∙ ap (λ (x : Bool). answers m n value && (x && s)) hq ∙ ap (λ (x : Bool). answers m n value && (answers a number value && x)) hs)
 
   module _ (p : Bool) (hp : p ≡ answers m n value) where
-    pub differs_in_none : not p ≡ true → false ≡ calls_agree o number value layout room
+    pub differs_in_none : p ≡ false → false ≡ calls_agree o number value layout room
     differs_in_none t =
         by_parts false p (answers a number value) (same after (expected layout (length after))) hp refl refl
-        (rw (not-true p t))
+        (rw t)
 
-    module _ (tp : not p ≡ false) (q : Bool) (hq : q ≡ answers a number value) where
-      pub differs_laid : not q ≡ true → false ≡ calls_agree o number value layout room
+    module _ (tp : p ≡ true) (q : Bool) (hq : q ≡ answers a number value) where
+      pub differs_laid : q ≡ false → false ≡ calls_agree o number value layout room
       differs_laid t =
           by_parts false p q (same after (expected layout (length after))) hp hq refl
-          (rw (not-false p tp, not-true q t))
+          (rw (tp, t))
 
-      pub compares_space : not q ≡ false → (s : Bool) → s ≡ same after (expected layout (length after)) → s ≡ calls_agree o number value layout room
-      compares_space t s hs = by_parts s p q s hp hq hs (rw (not-false p tp, not-false q t))
+      pub compares_space : q ≡ true → (s : Bool) → s ≡ same after (expected layout (length after)) → s ≡ calls_agree o number value layout room
+      compares_space t s hs = by_parts s p q s hp hq hs (rw (tp, t))
