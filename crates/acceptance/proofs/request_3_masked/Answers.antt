@@ -1,0 +1,7 @@
+-- `request_3_masked` meets its contract.
+use borrow.Author.Rules.{rules}
+use Rattle.acceptance.proofs.Maps.{maps-masked}
+use Rattle.acceptance.proofs.request_3_masked.Goals as goal
+
+pub returns : goal.returns
+returns c = maps-masked _ _ _ _ _ _ _ _ _ _ _ _ _ _ c.layout_map_both.ensures
