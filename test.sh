@@ -34,7 +34,7 @@ prove_from_nothing() {
     verdict=$(tail -n 1 "$kept/printed")
     [ -f "$kept/passed" ] || { echo "$verdict"; echo "FAILED: rt ci"; exit 1; }
     if grep -q '^rt: ok.*, [0-9][0-9]* bad' "$kept/printed" || ! grep -q '^rt: ok' "$kept/printed"; then
-        echo "FAILED: rt ci: a must-fail edit is bad"
+        echo "FAILED: rt ci: its line 'rt: ok' is missing, or tells of bad must-fail edits"
         exit 1
     fi
 }
