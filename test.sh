@@ -1,8 +1,9 @@
 #!/bin/sh
 # The tests. Needs rt of the version in rattle-version, cargo, rustc, cc, c++ and the original source (rust/README.md); nothing is fetched.
 #
-#     sh test.sh          the verdict: `rt ci` proves everything from nothing and tries the must-fail edits, and the rest runs on what it
-#                         built. Where all of it passes, the last line is rt's own 'N passed, 0 failed'
+#     sh test.sh          the verdict: `rt ci` proves everything from nothing (what an earlier run on this machine proved it knows by its checksums)
+#                         and tries the must-fail edits, and the rest runs on the programs that it built. Where all of it passes, the last line
+#                         is rt's own 'N passed, 0 failed'
 #     sh test.sh quick    for every day: proves what changed, tries no must-fail edit, and runs the rest
 set -eu
 cd "$(dirname "$0")"
@@ -24,13 +25,18 @@ run() {
     "$@" || { echo "FAILED: $*"; exit 1; }
 }
 
-# Proves everything from nothing, and keeps rt's last line for the end.
+# Proves everything from nothing, and keeps rt's last line for the end. A must-fail edit that could not be applied or read shows nothing of a
+# contract, and rt passes it.
 prove_from_nothing() {
     kept=$(mktemp -d)
     trap 'rm -rf "$kept"' EXIT
     { rt ci && : >"$kept/passed"; } | tee "$kept/printed" | sed '$d'
     verdict=$(tail -n 1 "$kept/printed")
     [ -f "$kept/passed" ] || { echo "$verdict"; echo "FAILED: rt ci"; exit 1; }
+    if grep -q '^rt: ok.*, [0-9][0-9]* bad' "$kept/printed" || ! grep -q '^rt: ok' "$kept/printed"; then
+        echo "FAILED: rt ci: its line 'rt: ok' is missing, or tells of bad must-fail edits"
+        exit 1
+    fi
 }
 
 run sh scripts/tools_at_hand.sh
@@ -47,11 +53,12 @@ if ! cargo run --offline --quiet --manifest-path rust/Cargo.toml --bin oracle so
 fi
 
 if [ "${1:-}" = quick ]; then
-    run rt check
+    run rt all check
     verdict="quick: passed; no must-fail edit was tried, and the verdict is that of \`sh test.sh\`"
 else
     prove_from_nothing
 fi
+run sh scripts/programs.sh
 run sh scripts/static_libraries.sh
 for stored in scripts/*_runs.sh; do
     run sh "$stored"

@@ -1,6 +1,6 @@
 /*
  * Lays out a ClickHouse query, one clause to a line, from its text and its syntax tree, tells the sorts of word apart, and reports on
- * books of saved queries: the C interface of libqdesk.a, which `rt staticlib qdesk` writes to target/staticlib, for Linux on x86-64.
+ * books of saved queries: the C interface of libqdesk.a, which `sh scripts/static_libraries.sh` writes to target/staticlib, for Linux on x86-64.
  *
  * What goes in
  *

@@ -1,12 +1,12 @@
 #!/bin/sh
 # Compiles examples/c/layout.c with include/qdesk.h as C and as C++, runs both, and holds what they print to examples/c/layout.out. Needs
-# `rt staticlib qdesk` first.
+# scripts/static_libraries.sh first.
 set -eu
 cd "$(dirname "$0")/.."
 library=target/staticlib/libqdesk.a
 built=target/c_example
 if [ ! -f "$library" ]; then
-    echo "c_example: no $library: run \`rt staticlib qdesk\`" >&2
+    echo "c_example: no $library: run \`sh scripts/static_libraries.sh\`" >&2
     exit 1
 fi
 mkdir -p "$built"

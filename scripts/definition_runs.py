@@ -127,19 +127,19 @@ def batches(calls):
 
 CLAIM = """-- Calls and the answers that the source gives to them.
 use Prim.Native.Nat.{ℕ}
-use mathlib.Core.Bool.{Bool, true, _&&_}
-use mathlib.Core.List.{List, [], _∷_, _++_}
+use mathlib.Core.Bool.{Bool, true, ◌&&◌}
+use mathlib.Core.List.{List, [], ◌∷◌, ◌++◌}
 use lib.Dec.{T, eqb}
 USES
-use Rattle·layout.specs.declared.Answer.{Answer}
-use Rattle·layout.specs.Outcome.{Result}
-use Rattle·layout.specs.CourseSheet.{lowBytes}
+use Rattle.layout.specs.declared.Answer.{Answer}
+use Rattle.layout.specs.Outcome.{Result}
+use Rattle.layout.specs.CourseSheet.{low_bytes}
 
 abbrev is : Answer → ℕ → ℕ → Bool
-is a number value = eqb (a .number) number && eqb (a .value) value
+is a number value = eqb a.number number && eqb a.value value
 
 abbrev wrote : Result → ℕ → ℕ → List ℕ → Bool
-wrote r number value after = is (r .answer) number value && same (r .space) after
+wrote r number value after = is r.answer number value && same r.space after
 
 -- the call of this width, case, text, tape and space: the numbers that it answers, and the space afterwards
 abbrev call : ℕ → ℕ → List ℕ → List ℕ → List ℕ → ℕ → ℕ → List ℕ → Bool
@@ -160,7 +160,7 @@ answered = tt
 def claim(calls):
     """The claim that the definition answers the calls so. It unfolds what the claims of the crate's own tables do."""
     tables = (ROOT / "crates" / CRATE / "proofs" / "Tables.antt").read_text(encoding="utf-8").splitlines()
-    uses = [line.replace("·specs.specs.", ".specs.") for line in tables if line.startswith("use Rattle·")]
+    uses = [line for line in tables if line.startswith("use Rattle.")]
     unfolding = next(line for line in tables if line.startswith("unfolding "))
     rows = [f"    {row(call)} ∷" for call in calls]
     text = CLAIM.replace("USES", "\n".join(uses)).replace("UNFOLDING", unfolding)
@@ -175,7 +175,7 @@ def row(call):
 
 def literal(data):
     parts = [data[place : place + NUMBER] for place in range(0, len(data), NUMBER)]
-    numbers = [f"lowBytes {len(part)} {int.from_bytes(part, 'little')} ++ (" for part in parts]
+    numbers = [f"low_bytes {len(part)} {int.from_bytes(part, 'little')} ++ (" for part in parts]
     return f"({''.join(numbers)}[]{')' * len(parts)})"
 
 
@@ -202,7 +202,7 @@ class Repository:
         self.folder = pathlib.Path(folder)
         crates = needed()
         for crate in crates:
-            ignored = shutil.ignore_patterns("target", "must-fail")
+            ignored = shutil.ignore_patterns("out", "must-fail")
             shutil.copytree(ROOT / "crates" / crate, self.folder / "crates" / crate, ignore=ignored)
         listed = {**crates, "runs": list(crates)}
         lines = [f"{name}: {' '.join(depends)}\n" for name, depends in listed.items()]
@@ -216,7 +216,7 @@ class Repository:
         path.write_text(text, encoding="utf-8")
 
     def check(self, crate):
-        return run(["rt", "check", crate], cwd=self.folder, stderr=subprocess.STDOUT)
+        return run(["rt", "check"], cwd=self.folder / "crates" / crate, stderr=subprocess.STDOUT)
 
     def ready(self):
         done = self.check(CRATE)

@@ -1,6 +1,6 @@
 #!/bin/sh
 # Turns each example (examples/NAME.job.txt, NAME.book.txt) into bytes, holds what target/bin/desk or target/bin/report prints for them to
-# NAME.out, and holds the example to the readable form of the bytes. Needs cargo, and `rt check desk report` first.
+# NAME.out, and holds the example to the readable form of the bytes. Needs cargo, and scripts/programs.sh first.
 set -u
 cd "$(dirname "$0")/.."
 cargo build --offline --quiet --manifest-path rust/Cargo.toml -p job_text || exit 1

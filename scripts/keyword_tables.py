@@ -70,32 +70,27 @@ def numbers(words, shift):
 
 def proof(function, argument, uses, unfolding, table, arms, answer):
     """The proof of a `match`: one equation for each arm, and one for the rest."""
-    name = function.replace("_", "-")
-    needs = ["returns"] + [f"returns-{i}" for i in range(2, len(arms) + 2)]
     lines = [
         "-- Written by scripts/keyword_tables.py; do not edit.",
         f"-- `{function}` meets its contract: each arm against the list of the definition.",
-        "use mathlib.Core.List.{[], _∷_, map}",
+        "use mathlib.Core.List.{[], ◌∷◌, map}",
         "use mathlib.Core.Path.{refl}",
         "use Prim.Native.Nat.{ℕ}",
-        "use Rattle·basics.specs.Match.{match}",
-        "use Rattle·basics.proofs.Match.{arm-is, other-is}",
+        "use Rattle.basics.specs.Match.{match}",
+        "use Rattle.basics.proofs.Match.{arm_is, other_is}",
         *uses,
-        f"use Rattle·keywords·proofs.proofs.index.{function}.Statement.{{statement}}",
-        f"use Rattle·keywords·proofs.proofs.index.{function}.Tie as tie",
+        f"use Rattle.keywords.proofs.index.{function}.Goals as goal",
     ]
     value = f"(λ (k : ℕ). match k {table} 0)"
-    for i, ((key, _), need) in enumerate(zip(arms, needs), start=1):
-        arm = f"arm-is {value} _ ({key} ∷ []) (c .before .args .{argument}) refl (c .match .keys{i})"
-        lines += ["", f"{need} : tie.Need-{need}", f"unfolding {unfolding}", f"{need} c = {answer(arm)}"]
+    facts = {f"in-{key}": f"arm_is {value} _ ({key} ∷ []) c.args.{argument} refl c.in-{key}.is" for key, _ in arms}
     keys = listed(key for key, _ in reversed(arms))
-    rest = f"other-is (map (λ k. k ∷ []) ({keys})) (c .before .args .{argument}) (c .match .rest) {table} 0 refl"
-    lines += ["", f"{needs[-1]} : tie.Need-{needs[-1]}", f"unfolding {unfolding}", f"{needs[-1]} c = {answer(rest)}"]
-    lines += ["", f"pub {name}-spec : {{M : Type 1}} → statement M", f"{name}-spec =", "    tie.close", "    (tie.spec"]
-    lines += [f"    {need}" for need in needs]
-    path = CRATE / "proofs" / "index" / function / "Proof.antt"
+    facts["in_default"] = f"other_is (map (λ k. k ∷ []) ({keys})) c.args.{argument} c.in_default.in_default-own.rest {table} 0 refl"
+    for arm, fact in facts.items():
+        name = f"returns-{arm}"
+        lines += ["", f"pub {name} : goal.{name}", f"unfolding {unfolding}", f"{name} c = {answer(fact)}"]
+    path = CRATE / "proofs" / "index" / function / "Answers.antt"
     path.parent.mkdir(parents=True, exist_ok=True)
-    path.write_text("\n".join(lines) + ")\n")
+    path.write_text("\n".join(lines) + "\n")
 
 
 def main():
@@ -116,7 +111,7 @@ def main():
     )
     pairs = textwrap.wrap(listed(shift_arms), width=136)
     rewrite(CRATE / "specs" / "Index.antt", [(r"(\nshifts =\n).*?(\n\n)", "\n".join("    " + line for line in pairs))])
-    index = "use Rattle·keywords·specs.specs.Index."
+    index = "use Rattle.keywords.specs.Index."
     proof(
         "shift_of",
         "bucket",
@@ -130,8 +125,8 @@ def main():
         "number_of",
         "key",
         [
-            "use Rattle·keywords·specs.specs.Names.{names}",
-            "use Rattle·keywords·specs.specs.Words.{words}",
+            "use Rattle.keywords.specs.Names.{names}",
+            "use Rattle.keywords.specs.Words.{words}",
             index + "{index, key, numbers, shifts}",
         ],
         "names words index key numbers shifts",

@@ -1,6 +1,7 @@
 #!/bin/sh
 # Runs target/bin/replay on each stored list (crates/replay/runs/NAME.list, written by scripts/replay_lists.py) and holds what it prints to
-# NAME.out; then on a list of 1,048,576 bytes, the most that it takes, and on the same with a byte more. Needs `rt check replay` first.
+# NAME.out; then on a list of 1,048,576 bytes, the most that it takes, and on the same with a byte more. Needs scripts/programs.sh
+# first.
 set -u
 cd "$(dirname "$0")/.."
 full=$(mktemp) || exit 1

@@ -1,23 +1,19 @@
 #!/bin/sh
-# Writes libqdesk.a, the library that C and Rust link, to target/staticlib. One that is there already, made from its crate as it was last
-# proved, stays: `rt staticlib` proves the crate once more. Needs `rt check` first.
+# Copies libqdesk.a, the library that C and Rust link, to target/staticlib. Where it is older than a file of the crates it is made first, by `rt lib`
+# in the folder of the crate qdesk_c, which proves it and what it depends on. `rt ci` proves it, and makes no library.
 set -eu
 cd "$(dirname "$0")/.."
+made=crates/qdesk_c/out/libqdesk_c.a
 library=target/staticlib/libqdesk.a
-kept=target/staticlib/qdesk.made
 
-# What the library was made from, and what it is.
-made() {
-    cat target/stamp/qdesk && sha256sum "$library"
-}
-
-if made 2>/dev/null | cmp -s - "$kept"; then
-    echo "static library qdesk: made before"
-    # Sources that were written again and are the same are no reason for qdesk's build script to take the library for an old one.
-    if [ -n "$(find crates/*/src -newer "$library")" ]; then
-        touch "$library"
-    fi
-else
-    rt staticlib qdesk
-    made >"$kept"
+if sh scripts/is_old.sh "$made"; then
+    (cd crates/qdesk_c && rt lib)
 fi
+mkdir -p target/staticlib
+if ! cmp -s "$made" "$library"; then
+    cp "$made" "$library"
+elif sh scripts/is_old.sh "$library"; then
+    # Sources that were written again and make the same library are no reason for qdesk's build script to take it for an old one.
+    touch "$library"
+fi
+echo "static library: target/staticlib has libqdesk.a"

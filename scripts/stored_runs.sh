@@ -1,6 +1,6 @@
 #!/bin/sh
 # Runs target/bin/desk on each stored job (crates/desk/runs/NAME.job) and target/bin/report on each stored book (crates/report/runs/NAME.book),
-# and holds what they print to NAME.out. Needs `rt check desk report` first.
+# and holds what they print to NAME.out. Needs scripts/programs.sh first.
 set -u
 cd "$(dirname "$0")/.."
 all=0

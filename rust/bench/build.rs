@@ -1,4 +1,4 @@
-//! Links the static library that `rt staticlib qdesk` writes to the repository's target/.
+//! Links the static library that scripts/static_libraries.sh writes to the repository's target/.
 
 use std::env;
 use std::path::PathBuf;
@@ -14,6 +14,6 @@ fn main() {
         println!("cargo::rustc-link-search=native={}", folder.display());
         println!("cargo::rustc-link-lib=static=qdesk");
     } else {
-        println!("cargo::warning=no target/staticlib/libqdesk.a in the repository: run `rt staticlib qdesk` there");
+        println!("cargo::warning=no target/staticlib/libqdesk.a in the repository: run `sh scripts/static_libraries.sh` there");
     }
 }

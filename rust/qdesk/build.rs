@@ -1,7 +1,7 @@
 //! Finds libqdesk.a and links it. Where there is none it says how it is made and makes nothing: the proof takes minutes, and cargo
 //! shows a build script's words only when the script has ended.
 
-use std::collections::HashSet;
+use std::collections::HashMap;
 use std::path::{Path, PathBuf};
 use std::time::SystemTime;
 use std::{env, fs};
@@ -9,7 +9,9 @@ use std::{env, fs};
 const VARIABLE: &str = "QDESK_LIB_DIR";
 pub const LIBRARY: &str = "libqdesk.a";
 /// The crate of the repository that the library is made from.
-const CRATE: &str = "qdesk";
+const CRATE: &str = "qdesk_c";
+/// What makes the library.
+const COMMAND: &str = "sh scripts/static_libraries.sh";
 
 fn main() {
     println!("cargo::rerun-if-env-changed={VARIABLE}");
@@ -46,7 +48,7 @@ fn folder() -> Result<PathBuf, String> {
         println!("cargo::rerun-if-changed={}", source.display());
     }
     if let Some(source) = newer_source(&repository) {
-        println!("cargo::warning={LIBRARY} is older than {}: run `rt staticlib {CRATE}`", source.display());
+        println!("cargo::warning={LIBRARY} is older than {}: run `{COMMAND}`", source.display());
     }
     Ok(folder)
 }
@@ -69,7 +71,7 @@ pub fn repository_folder(repository: &Path) -> Result<PathBuf, String> {
         return Ok(folder);
     }
     Err(format!(
-        "no target/staticlib/{LIBRARY} in the repository: run `rt staticlib {CRATE}` there, which proves it first, in 3 to 7 \
+        "no target/staticlib/{LIBRARY} in the repository: run `{COMMAND}` there, which proves it first, in 3 to 7 \
          minutes on two cores, or set {VARIABLE} to a folder that holds {LIBRARY}"
     ))
 }
@@ -86,14 +88,23 @@ fn modified(file: &Path) -> Option<SystemTime> {
     fs::metadata(file).and_then(|facts| facts.modified()).ok()
 }
 
-/// The folders of the code that the library is made from. In crates.txt a crate stands below those that it depends on.
+/// The folders of the code that the library is made from. In crates.txt lines come in any order; `staticlib` may follow the name.
 fn sources(repository: &Path) -> Vec<PathBuf> {
     let list = fs::read_to_string(repository.join("crates.txt")).unwrap_or_default();
-    let mut needed = HashSet::from([CRATE]);
-    for (name, others) in list.lines().rev().filter_map(|line| line.split_once(':')) {
-        if needed.contains(name) {
-            needed.extend(others.split_whitespace());
+    let lines: HashMap<_, _> = list
+        .lines()
+        .filter_map(|line| line.split_once(':'))
+        .map(|(head, others)| (head.split(' ').next().unwrap_or(head), others.split_whitespace()))
+        .collect();
+    let mut needed = vec![CRATE];
+    let mut seen = 0;
+    while let Some(&name) = needed.get(seen) {
+        for other in lines.get(name).into_iter().flat_map(|others| others.clone()) {
+            if !needed.contains(&other) {
+                needed.push(other);
+            }
         }
+        seen += 1;
     }
     needed.iter().map(|name| repository.join("crates").join(name).join("src")).collect()
 }

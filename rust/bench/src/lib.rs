@@ -1,4 +1,4 @@
-//! Calls of the proved functions: those of the static library that `rt staticlib qdesk` writes.
+//! Calls of the proved functions: those of the static library that scripts/static_libraries.sh writes.
 
 pub mod compare;
 pub mod corpora;
@@ -9,7 +9,7 @@ pub mod search;
 pub const AT_HAND: bool = cfg!(has_library);
 
 /// What to do where it was not.
-pub const HINT: &str = "no target/staticlib/libqdesk.a in the repository: run `rt staticlib qdesk` there";
+pub const HINT: &str = "no target/staticlib/libqdesk.a in the repository: run `sh scripts/static_libraries.sh` there";
 
 /// The library's functions, declared once: the file is the crate qdesk's own, so that what holds here holds of its calls.
 #[cfg(has_library)]

@@ -1,5 +1,5 @@
 //! The port's report over a book is the oracle's, byte for byte: by the library's call, and by the program target/bin/report, which
-//! `rt check report` writes, on standard input.
+//! scripts/programs.sh writes, on standard input.
 
 mod cases;
 mod program;

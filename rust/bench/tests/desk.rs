@@ -1,4 +1,4 @@
-//! The desk's program prints for a job what documents 01 and 02 say: target/bin/desk, which `rt check desk` writes, on standard input.
+//! The desk's program prints for a job what documents 01 and 02 say: target/bin/desk, which scripts/programs.sh writes, on standard input.
 
 mod program;
 

@@ -54,7 +54,9 @@ fn the_repositorys_library_is_taken() {
 #[test]
 fn where_there_is_no_library_it_is_said_how_it_is_made_and_how_long_that_takes() {
     let message = repository_folder(&empty("no_library")).unwrap_err();
-    assert!(message.starts_with("no target/staticlib/libqdesk.a in the repository: run `rt staticlib qdesk`"));
+    assert!(
+        message.starts_with("no target/staticlib/libqdesk.a in the repository: run `sh scripts/static_libraries.sh`")
+    );
     assert!(message.contains("3 to 7 minutes") && message.contains("set QDESK_LIB_DIR"), "{message}");
 }
 
@@ -69,8 +71,8 @@ fn changed(repository: &Path, file: &str, after: u64) {
 #[test]
 fn a_library_that_is_older_than_its_sources_is_told() {
     let repository = empty("older");
-    let list =
-        "# NAME: what it depends on\nbasics:\ntape: basics\nformatter: tape\nqdesk: formatter\ndesk: formatter\n";
+    let list = "# NAME: what it depends on\nbasics:\ntape: basics\nqdesk: formatter\nqdesk_c staticlib: qdesk\nformatter: tape\n\
+                desk: formatter\n";
     fs::write(repository.join("crates.txt"), list).unwrap();
     changed(&repository, "target/staticlib/libqdesk.a", 1);
     changed(&repository, "crates/basics/src/lib.rt", 0);
