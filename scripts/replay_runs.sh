@@ -1,12 +1,16 @@
 #!/bin/sh
 # Runs target/bin/replay on each stored list (crates/replay/runs/NAME.list, written by scripts/replay_lists.py) and holds what it prints to
-# NAME.out; then on a list of 1,048,576 bytes, the most that it takes, and on the same with a byte more. Needs scripts/programs.sh
-# first.
+# NAME.out; then on a list of 1,048,576 bytes, the most that it takes, and on the same with a byte more. Before that it holds the list of
+# vectors/ to the one that the program reads in the gate. Needs scripts/programs.sh first.
 set -u
 cd "$(dirname "$0")/.."
 full=$(mktemp) || exit 1
 printed=$(mktemp) || exit 1
 trap 'rm -f "$full" "$printed"' EXIT
+if ! cmp vectors/vectors.bin crates/replay/stdin; then
+    echo "replay: vectors/vectors.bin is to be a copy of crates/replay/stdin"
+    exit 1
+fi
 runs=0
 failed=0
 # run LIST LINE: the program prints the line for the list
