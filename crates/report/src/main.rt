@@ -9,7 +9,7 @@ fn main(rt: HostRuntime) -> io::Result<()> {
     let mut book = [0u8; 65536];
     let mut work = [0u8; 65536];
     let mut out = [0u8; 65536];
-    let read = input::read_input(&mut rt.stdin(), &mut book)?;
+    let read = input::read_input(&mut rt.stdin(), &mut book);
     let length = read.length;
     let done = book::report_from(
         &book[..length],
