@@ -13,7 +13,7 @@ use Rattle.token_map.proofs.SignedRoutines.{alter_signed, binary_signed, brace_s
 use Rattle.tokens.proofs.Choices.{as_spaced}
 use Rattle.tokens.proofs.Runs.{no_spacing, spaced}
 use Rattle.formatter.proofs.format.+routines.Goals as goal
-use Rattle.formatter.proofs.format.+routines.Goals.{node-then-has_error+else-kind-ne-QUERY_LIST, node-else-has_error}
+use Rattle.formatter.proofs.format.+routines.Goals.{node-then-has_error+else-kind-ne-QUERY_LIST as listed, node-else-has_error as clean}
 
 pub alter-overflow_add-i : goal.alter-overflow_add-i
 alter-overflow_add-i t c = omega (arith, c.requires.inside, c.requires.sizes.tape-fits)
@@ -856,111 +856,111 @@ node-pass-requires t c = (omega (arith, c.decreases), c.requires.0)
 
 pub node-returns-in-File : goal.node-returns-in-File
 unfolding arms_of
-node-returns-in-File t c = node_by TheVariants.File (c.requires.1) (elim c.if-has_error.branch [ node-then-has_error+else-kind-ne-QUERY_LIST w ↦ decided_list (c.requires.0) (c.requires.1) w.if-kind-ne-QUERY_LIST.false | node-else-has_error w ↦ decided_clean (c.requires.0) (c.requires.1) (c.has_error.ensures) w.if-has_error.false ]) (sym (c.in-File.is) ∙ c.routine_of-r.ensures) (c.file.ensures)
+node-returns-in-File t c = node_by TheVariants.File (c.requires.1) (elim c.if-has_error.branch [ listed w ↦ decided_list (c.requires.0) (c.requires.1) (omega arith) | clean w ↦ decided_clean (c.requires.0) (c.requires.1) (c.has_error.ensures) w.if-has_error.false ]) (sym (c.in-File.is) ∙ c.routine_of-r.ensures) (c.file.ensures)
 
 pub node-returns-in-QueryList : goal.node-returns-in-QueryList
 unfolding arms_of
-node-returns-in-QueryList t c = node_by TheVariants.QueryList (c.requires.1) (elim c.if-has_error.branch [ node-then-has_error+else-kind-ne-QUERY_LIST w ↦ decided_list (c.requires.0) (c.requires.1) w.if-kind-ne-QUERY_LIST.false | node-else-has_error w ↦ decided_clean (c.requires.0) (c.requires.1) (c.has_error.ensures) w.if-has_error.false ]) (sym (c.in-QueryList.is) ∙ c.routine_of-r.ensures) (c.queries.ensures)
+node-returns-in-QueryList t c = node_by TheVariants.QueryList (c.requires.1) (elim c.if-has_error.branch [ listed w ↦ decided_list (c.requires.0) (c.requires.1) (omega arith) | clean w ↦ decided_clean (c.requires.0) (c.requires.1) (c.has_error.ensures) w.if-has_error.false ]) (sym (c.in-QueryList.is) ∙ c.routine_of-r.ensures) (c.queries.ensures)
 
 pub node-returns-in-SelectStatement : goal.node-returns-in-SelectStatement
 unfolding arms_of
-node-returns-in-SelectStatement t c = node_by TheVariants.SelectStatement (c.requires.1) (elim c.if-has_error.branch [ node-then-has_error+else-kind-ne-QUERY_LIST w ↦ decided_list (c.requires.0) (c.requires.1) w.if-kind-ne-QUERY_LIST.false | node-else-has_error w ↦ decided_clean (c.requires.0) (c.requires.1) (c.has_error.ensures) w.if-has_error.false ]) (sym (c.in-SelectStatement.is) ∙ c.routine_of-r.ensures) (c.sel_stmt.ensures)
+node-returns-in-SelectStatement t c = node_by TheVariants.SelectStatement (c.requires.1) (elim c.if-has_error.branch [ listed w ↦ decided_list (c.requires.0) (c.requires.1) (omega arith) | clean w ↦ decided_clean (c.requires.0) (c.requires.1) (c.has_error.ensures) w.if-has_error.false ]) (sym (c.in-SelectStatement.is) ∙ c.routine_of-r.ensures) (c.sel_stmt.ensures)
 
 pub node-returns-in-SelectClause : goal.node-returns-in-SelectClause
 unfolding arms_of
-node-returns-in-SelectClause t c = node_by TheVariants.SelectClause (c.requires.1) (elim c.if-has_error.branch [ node-then-has_error+else-kind-ne-QUERY_LIST w ↦ decided_list (c.requires.0) (c.requires.1) w.if-kind-ne-QUERY_LIST.false | node-else-has_error w ↦ decided_clean (c.requires.0) (c.requires.1) (c.has_error.ensures) w.if-has_error.false ]) (sym (c.in-SelectClause.is) ∙ c.routine_of-r.ensures) (c.select.ensures)
+node-returns-in-SelectClause t c = node_by TheVariants.SelectClause (c.requires.1) (elim c.if-has_error.branch [ listed w ↦ decided_list (c.requires.0) (c.requires.1) (omega arith) | clean w ↦ decided_clean (c.requires.0) (c.requires.1) (c.has_error.ensures) w.if-has_error.false ]) (sym (c.in-SelectClause.is) ∙ c.routine_of-r.ensures) (c.select.ensures)
 
 pub node-returns-in-SimpleClause : goal.node-returns-in-SimpleClause
 unfolding arms_of
-node-returns-in-SimpleClause t c = node_by TheVariants.SimpleClause (c.requires.1) (elim c.if-has_error.branch [ node-then-has_error+else-kind-ne-QUERY_LIST w ↦ decided_list (c.requires.0) (c.requires.1) w.if-kind-ne-QUERY_LIST.false | node-else-has_error w ↦ decided_clean (c.requires.0) (c.requires.1) (c.has_error.ensures) w.if-has_error.false ]) (sym (c.in-SimpleClause.is) ∙ c.routine_of-r.ensures) (c.simple.ensures)
+node-returns-in-SimpleClause t c = node_by TheVariants.SimpleClause (c.requires.1) (elim c.if-has_error.branch [ listed w ↦ decided_list (c.requires.0) (c.requires.1) (omega arith) | clean w ↦ decided_clean (c.requires.0) (c.requires.1) (c.has_error.ensures) w.if-has_error.false ]) (sym (c.in-SimpleClause.is) ∙ c.routine_of-r.ensures) (c.simple.ensures)
 
 pub node-returns-in-ListClause : goal.node-returns-in-ListClause
 unfolding arms_of
-node-returns-in-ListClause t c = node_by (TheVariants.ListClause _) (c.requires.1) (elim c.if-has_error.branch [ node-then-has_error+else-kind-ne-QUERY_LIST w ↦ decided_list (c.requires.0) (c.requires.1) w.if-kind-ne-QUERY_LIST.false | node-else-has_error w ↦ decided_clean (c.requires.0) (c.requires.1) (c.has_error.ensures) w.if-has_error.false ]) (sym (c.in-ListClause.is) ∙ c.routine_of-r.ensures) (c.list_by.ensures)
+node-returns-in-ListClause t c = node_by (TheVariants.ListClause _) (c.requires.1) (elim c.if-has_error.branch [ listed w ↦ decided_list (c.requires.0) (c.requires.1) (omega arith) | clean w ↦ decided_clean (c.requires.0) (c.requires.1) (c.has_error.ensures) w.if-has_error.false ]) (sym (c.in-ListClause.is) ∙ c.routine_of-r.ensures) (c.list_by.ensures)
 
 pub node-returns-in-SettingsClause : goal.node-returns-in-SettingsClause
 unfolding arms_of
-node-returns-in-SettingsClause t c = node_by TheVariants.SettingsClause (c.requires.1) (elim c.if-has_error.branch [ node-then-has_error+else-kind-ne-QUERY_LIST w ↦ decided_list (c.requires.0) (c.requires.1) w.if-kind-ne-QUERY_LIST.false | node-else-has_error w ↦ decided_clean (c.requires.0) (c.requires.1) (c.has_error.ensures) w.if-has_error.false ]) (sym (c.in-SettingsClause.is) ∙ c.routine_of-r.ensures) (c.settings.ensures)
+node-returns-in-SettingsClause t c = node_by TheVariants.SettingsClause (c.requires.1) (elim c.if-has_error.branch [ listed w ↦ decided_list (c.requires.0) (c.requires.1) (omega arith) | clean w ↦ decided_clean (c.requires.0) (c.requires.1) (c.has_error.ensures) w.if-has_error.false ]) (sym (c.in-SettingsClause.is) ∙ c.routine_of-r.ensures) (c.settings.ensures)
 
 pub node-returns-in-WithClause : goal.node-returns-in-WithClause
 unfolding arms_of
-node-returns-in-WithClause t c = node_by TheVariants.WithClause (c.requires.1) (elim c.if-has_error.branch [ node-then-has_error+else-kind-ne-QUERY_LIST w ↦ decided_list (c.requires.0) (c.requires.1) w.if-kind-ne-QUERY_LIST.false | node-else-has_error w ↦ decided_clean (c.requires.0) (c.requires.1) (c.has_error.ensures) w.if-has_error.false ]) (sym (c.in-WithClause.is) ∙ c.routine_of-r.ensures) (c.with.ensures)
+node-returns-in-WithClause t c = node_by TheVariants.WithClause (c.requires.1) (elim c.if-has_error.branch [ listed w ↦ decided_list (c.requires.0) (c.requires.1) (omega arith) | clean w ↦ decided_clean (c.requires.0) (c.requires.1) (c.has_error.ensures) w.if-has_error.false ]) (sym (c.in-WithClause.is) ∙ c.routine_of-r.ensures) (c.with.ensures)
 
 pub node-returns-in-JoinClause : goal.node-returns-in-JoinClause
 unfolding arms_of
-node-returns-in-JoinClause t c = node_by TheVariants.JoinClause (c.requires.1) (elim c.if-has_error.branch [ node-then-has_error+else-kind-ne-QUERY_LIST w ↦ decided_list (c.requires.0) (c.requires.1) w.if-kind-ne-QUERY_LIST.false | node-else-has_error w ↦ decided_clean (c.requires.0) (c.requires.1) (c.has_error.ensures) w.if-has_error.false ]) (sym (c.in-JoinClause.is) ∙ c.routine_of-r.ensures) (c.join.ensures)
+node-returns-in-JoinClause t c = node_by TheVariants.JoinClause (c.requires.1) (elim c.if-has_error.branch [ listed w ↦ decided_list (c.requires.0) (c.requires.1) (omega arith) | clean w ↦ decided_clean (c.requires.0) (c.requires.1) (c.has_error.ensures) w.if-has_error.false ]) (sym (c.in-JoinClause.is) ∙ c.routine_of-r.ensures) (c.join.ensures)
 
 pub node-returns-in-Inline : goal.node-returns-in-Inline
 unfolding arms_of
-node-returns-in-Inline t c = node_by TheVariants.Inline (c.requires.1) (elim c.if-has_error.branch [ node-then-has_error+else-kind-ne-QUERY_LIST w ↦ decided_list (c.requires.0) (c.requires.1) w.if-kind-ne-QUERY_LIST.false | node-else-has_error w ↦ decided_clean (c.requires.0) (c.requires.1) (c.has_error.ensures) w.if-has_error.false ]) (sym (c.in-Inline.is) ∙ c.routine_of-r.ensures) (c.inline.ensures)
+node-returns-in-Inline t c = node_by TheVariants.Inline (c.requires.1) (elim c.if-has_error.branch [ listed w ↦ decided_list (c.requires.0) (c.requires.1) (omega arith) | clean w ↦ decided_clean (c.requires.0) (c.requires.1) (c.has_error.ensures) w.if-has_error.false ]) (sym (c.in-Inline.is) ∙ c.routine_of-r.ensures) (c.inline.ensures)
 
 pub node-returns-in-CommaList : goal.node-returns-in-CommaList
 unfolding arms_of
-node-returns-in-CommaList t c = node_by TheVariants.CommaList (c.requires.1) (elim c.if-has_error.branch [ node-then-has_error+else-kind-ne-QUERY_LIST w ↦ decided_list (c.requires.0) (c.requires.1) w.if-kind-ne-QUERY_LIST.false | node-else-has_error w ↦ decided_clean (c.requires.0) (c.requires.1) (c.has_error.ensures) w.if-has_error.false ]) (sym (c.in-CommaList.is) ∙ c.routine_of-r.ensures) (c.comma.ensures)
+node-returns-in-CommaList t c = node_by TheVariants.CommaList (c.requires.1) (elim c.if-has_error.branch [ listed w ↦ decided_list (c.requires.0) (c.requires.1) (omega arith) | clean w ↦ decided_clean (c.requires.0) (c.requires.1) (c.has_error.ensures) w.if-has_error.false ]) (sym (c.in-CommaList.is) ∙ c.routine_of-r.ensures) (c.comma.ensures)
 
 pub node-returns-in-InlineCommaList : goal.node-returns-in-InlineCommaList
 unfolding arms_of
-node-returns-in-InlineCommaList t c = node_by TheVariants.InlineCommaList (c.requires.1) (elim c.if-has_error.branch [ node-then-has_error+else-kind-ne-QUERY_LIST w ↦ decided_list (c.requires.0) (c.requires.1) w.if-kind-ne-QUERY_LIST.false | node-else-has_error w ↦ decided_clean (c.requires.0) (c.requires.1) (c.has_error.ensures) w.if-has_error.false ]) (sym (c.in-InlineCommaList.is) ∙ c.routine_of-r.ensures) (c.inl_list.ensures)
+node-returns-in-InlineCommaList t c = node_by TheVariants.InlineCommaList (c.requires.1) (elim c.if-has_error.branch [ listed w ↦ decided_list (c.requires.0) (c.requires.1) (omega arith) | clean w ↦ decided_clean (c.requires.0) (c.requires.1) (c.has_error.ensures) w.if-has_error.false ]) (sym (c.in-InlineCommaList.is) ∙ c.routine_of-r.ensures) (c.inl_list.ensures)
 
 pub node-returns-in-BinaryExpression : goal.node-returns-in-BinaryExpression
 unfolding arms_of
-node-returns-in-BinaryExpression t c = node_by TheVariants.BinaryExpression (c.requires.1) (elim c.if-has_error.branch [ node-then-has_error+else-kind-ne-QUERY_LIST w ↦ decided_list (c.requires.0) (c.requires.1) w.if-kind-ne-QUERY_LIST.false | node-else-has_error w ↦ decided_clean (c.requires.0) (c.requires.1) (c.has_error.ensures) w.if-has_error.false ]) (sym (c.in-BinaryExpression.is) ∙ c.routine_of-r.ensures) (c.binary.ensures)
+node-returns-in-BinaryExpression t c = node_by TheVariants.BinaryExpression (c.requires.1) (elim c.if-has_error.branch [ listed w ↦ decided_list (c.requires.0) (c.requires.1) (omega arith) | clean w ↦ decided_clean (c.requires.0) (c.requires.1) (c.has_error.ensures) w.if-has_error.false ]) (sym (c.in-BinaryExpression.is) ∙ c.routine_of-r.ensures) (c.binary.ensures)
 
 pub node-returns-in-UnaryExpression : goal.node-returns-in-UnaryExpression
 unfolding arms_of
-node-returns-in-UnaryExpression t c = node_by TheVariants.UnaryExpression (c.requires.1) (elim c.if-has_error.branch [ node-then-has_error+else-kind-ne-QUERY_LIST w ↦ decided_list (c.requires.0) (c.requires.1) w.if-kind-ne-QUERY_LIST.false | node-else-has_error w ↦ decided_clean (c.requires.0) (c.requires.1) (c.has_error.ensures) w.if-has_error.false ]) (sym (c.in-UnaryExpression.is) ∙ c.routine_of-r.ensures) (c.unary.ensures)
+node-returns-in-UnaryExpression t c = node_by TheVariants.UnaryExpression (c.requires.1) (elim c.if-has_error.branch [ listed w ↦ decided_list (c.requires.0) (c.requires.1) (omega arith) | clean w ↦ decided_clean (c.requires.0) (c.requires.1) (c.has_error.ensures) w.if-has_error.false ]) (sym (c.in-UnaryExpression.is) ∙ c.routine_of-r.ensures) (c.unary.ensures)
 
 pub node-returns-in-FunctionCall : goal.node-returns-in-FunctionCall
 unfolding arms_of
-node-returns-in-FunctionCall t c = node_by TheVariants.FunctionCall (c.requires.1) (elim c.if-has_error.branch [ node-then-has_error+else-kind-ne-QUERY_LIST w ↦ decided_list (c.requires.0) (c.requires.1) w.if-kind-ne-QUERY_LIST.false | node-else-has_error w ↦ decided_clean (c.requires.0) (c.requires.1) (c.has_error.ensures) w.if-has_error.false ]) (sym (c.in-FunctionCall.is) ∙ c.routine_of-r.ensures) (c.call.ensures)
+node-returns-in-FunctionCall t c = node_by TheVariants.FunctionCall (c.requires.1) (elim c.if-has_error.branch [ listed w ↦ decided_list (c.requires.0) (c.requires.1) (omega arith) | clean w ↦ decided_clean (c.requires.0) (c.requires.1) (c.has_error.ensures) w.if-has_error.false ]) (sym (c.in-FunctionCall.is) ∙ c.routine_of-r.ensures) (c.call.ensures)
 
 pub node-returns-in-CaseExpression : goal.node-returns-in-CaseExpression
 unfolding arms_of
-node-returns-in-CaseExpression t c = node_by TheVariants.CaseExpression (c.requires.1) (elim c.if-has_error.branch [ node-then-has_error+else-kind-ne-QUERY_LIST w ↦ decided_list (c.requires.0) (c.requires.1) w.if-kind-ne-QUERY_LIST.false | node-else-has_error w ↦ decided_clean (c.requires.0) (c.requires.1) (c.has_error.ensures) w.if-has_error.false ]) (sym (c.in-CaseExpression.is) ∙ c.routine_of-r.ensures) (c.case.ensures)
+node-returns-in-CaseExpression t c = node_by TheVariants.CaseExpression (c.requires.1) (elim c.if-has_error.branch [ listed w ↦ decided_list (c.requires.0) (c.requires.1) (omega arith) | clean w ↦ decided_clean (c.requires.0) (c.requires.1) (c.has_error.ensures) w.if-has_error.false ]) (sym (c.in-CaseExpression.is) ∙ c.routine_of-r.ensures) (c.case.ensures)
 
 pub node-returns-in-WhenClause : goal.node-returns-in-WhenClause
 unfolding arms_of
-node-returns-in-WhenClause t c = node_by TheVariants.WhenClause (c.requires.1) (elim c.if-has_error.branch [ node-then-has_error+else-kind-ne-QUERY_LIST w ↦ decided_list (c.requires.0) (c.requires.1) w.if-kind-ne-QUERY_LIST.false | node-else-has_error w ↦ decided_clean (c.requires.0) (c.requires.1) (c.has_error.ensures) w.if-has_error.false ]) (sym (c.in-WhenClause.is) ∙ c.routine_of-r.ensures) (c.when.ensures)
+node-returns-in-WhenClause t c = node_by TheVariants.WhenClause (c.requires.1) (elim c.if-has_error.branch [ listed w ↦ decided_list (c.requires.0) (c.requires.1) (omega arith) | clean w ↦ decided_clean (c.requires.0) (c.requires.1) (c.has_error.ensures) w.if-has_error.false ]) (sym (c.in-WhenClause.is) ∙ c.routine_of-r.ensures) (c.when.ensures)
 
 pub node-returns-in-Subquery : goal.node-returns-in-Subquery
 unfolding arms_of
-node-returns-in-Subquery t c = node_by TheVariants.Subquery (c.requires.1) (elim c.if-has_error.branch [ node-then-has_error+else-kind-ne-QUERY_LIST w ↦ decided_list (c.requires.0) (c.requires.1) w.if-kind-ne-QUERY_LIST.false | node-else-has_error w ↦ decided_clean (c.requires.0) (c.requires.1) (c.has_error.ensures) w.if-has_error.false ]) (sym (c.in-Subquery.is) ∙ c.routine_of-r.ensures) (c.subquery.ensures)
+node-returns-in-Subquery t c = node_by TheVariants.Subquery (c.requires.1) (elim c.if-has_error.branch [ listed w ↦ decided_list (c.requires.0) (c.requires.1) (omega arith) | clean w ↦ decided_clean (c.requires.0) (c.requires.1) (c.has_error.ensures) w.if-has_error.false ]) (sym (c.in-Subquery.is) ∙ c.routine_of-r.ensures) (c.subquery.ensures)
 
 pub node-returns-in-ParenList : goal.node-returns-in-ParenList
 unfolding arms_of
-node-returns-in-ParenList t c = node_by TheVariants.ParenList (c.requires.1) (elim c.if-has_error.branch [ node-then-has_error+else-kind-ne-QUERY_LIST w ↦ decided_list (c.requires.0) (c.requires.1) w.if-kind-ne-QUERY_LIST.false | node-else-has_error w ↦ decided_clean (c.requires.0) (c.requires.1) (c.has_error.ensures) w.if-has_error.false ]) (sym (c.in-ParenList.is) ∙ c.routine_of-r.ensures) (c.paren.ensures)
+node-returns-in-ParenList t c = node_by TheVariants.ParenList (c.requires.1) (elim c.if-has_error.branch [ listed w ↦ decided_list (c.requires.0) (c.requires.1) (omega arith) | clean w ↦ decided_clean (c.requires.0) (c.requires.1) (c.has_error.ensures) w.if-has_error.false ]) (sym (c.in-ParenList.is) ∙ c.routine_of-r.ensures) (c.paren.ensures)
 
 pub node-returns-in-BracketList : goal.node-returns-in-BracketList
 unfolding arms_of
-node-returns-in-BracketList t c = node_by TheVariants.BracketList (c.requires.1) (elim c.if-has_error.branch [ node-then-has_error+else-kind-ne-QUERY_LIST w ↦ decided_list (c.requires.0) (c.requires.1) w.if-kind-ne-QUERY_LIST.false | node-else-has_error w ↦ decided_clean (c.requires.0) (c.requires.1) (c.has_error.ensures) w.if-has_error.false ]) (sym (c.in-BracketList.is) ∙ c.routine_of-r.ensures) (c.bracket.ensures)
+node-returns-in-BracketList t c = node_by TheVariants.BracketList (c.requires.1) (elim c.if-has_error.branch [ listed w ↦ decided_list (c.requires.0) (c.requires.1) (omega arith) | clean w ↦ decided_clean (c.requires.0) (c.requires.1) (c.has_error.ensures) w.if-has_error.false ]) (sym (c.in-BracketList.is) ∙ c.routine_of-r.ensures) (c.bracket.ensures)
 
 pub node-returns-in-InlineNoSpaces : goal.node-returns-in-InlineNoSpaces
 unfolding arms_of
-node-returns-in-InlineNoSpaces t c = node_by TheVariants.InlineNoSpaces (c.requires.1) (elim c.if-has_error.branch [ node-then-has_error+else-kind-ne-QUERY_LIST w ↦ decided_list (c.requires.0) (c.requires.1) w.if-kind-ne-QUERY_LIST.false | node-else-has_error w ↦ decided_clean (c.requires.0) (c.requires.1) (c.has_error.ensures) w.if-has_error.false ]) (sym (c.in-InlineNoSpaces.is) ∙ c.routine_of-r.ensures) (c.no_spaces.ensures)
+node-returns-in-InlineNoSpaces t c = node_by TheVariants.InlineNoSpaces (c.requires.1) (elim c.if-has_error.branch [ listed w ↦ decided_list (c.requires.0) (c.requires.1) (omega arith) | clean w ↦ decided_clean (c.requires.0) (c.requires.1) (c.has_error.ensures) w.if-has_error.false ]) (sym (c.in-InlineNoSpaces.is) ∙ c.routine_of-r.ensures) (c.no_spaces.ensures)
 
 pub node-returns-in-BraceList : goal.node-returns-in-BraceList
 unfolding arms_of
-node-returns-in-BraceList t c = node_by TheVariants.BraceList (c.requires.1) (elim c.if-has_error.branch [ node-then-has_error+else-kind-ne-QUERY_LIST w ↦ decided_list (c.requires.0) (c.requires.1) w.if-kind-ne-QUERY_LIST.false | node-else-has_error w ↦ decided_clean (c.requires.0) (c.requires.1) (c.has_error.ensures) w.if-has_error.false ]) (sym (c.in-BraceList.is) ∙ c.routine_of-r.ensures) (c.brace.ensures)
+node-returns-in-BraceList t c = node_by TheVariants.BraceList (c.requires.1) (elim c.if-has_error.branch [ listed w ↦ decided_list (c.requires.0) (c.requires.1) (omega arith) | clean w ↦ decided_clean (c.requires.0) (c.requires.1) (c.has_error.ensures) w.if-has_error.false ]) (sym (c.in-BraceList.is) ∙ c.routine_of-r.ensures) (c.brace.ensures)
 
 pub node-returns-in-DataType : goal.node-returns-in-DataType
 unfolding arms_of
-node-returns-in-DataType t c = node_by TheVariants.DataType (c.requires.1) (elim c.if-has_error.branch [ node-then-has_error+else-kind-ne-QUERY_LIST w ↦ decided_list (c.requires.0) (c.requires.1) w.if-kind-ne-QUERY_LIST.false | node-else-has_error w ↦ decided_clean (c.requires.0) (c.requires.1) (c.has_error.ensures) w.if-has_error.false ]) (sym (c.in-DataType.is) ∙ c.routine_of-r.ensures) (c.dtype.ensures)
+node-returns-in-DataType t c = node_by TheVariants.DataType (c.requires.1) (elim c.if-has_error.branch [ listed w ↦ decided_list (c.requires.0) (c.requires.1) (omega arith) | clean w ↦ decided_clean (c.requires.0) (c.requires.1) (c.has_error.ensures) w.if-has_error.false ]) (sym (c.in-DataType.is) ∙ c.routine_of-r.ensures) (c.dtype.ensures)
 
 pub node-returns-in-InlineTightParens : goal.node-returns-in-InlineTightParens
 unfolding arms_of
-node-returns-in-InlineTightParens t c = node_by TheVariants.InlineTightParens (c.requires.1) (elim c.if-has_error.branch [ node-then-has_error+else-kind-ne-QUERY_LIST w ↦ decided_list (c.requires.0) (c.requires.1) w.if-kind-ne-QUERY_LIST.false | node-else-has_error w ↦ decided_clean (c.requires.0) (c.requires.1) (c.has_error.ensures) w.if-has_error.false ]) (sym (c.in-InlineTightParens.is) ∙ c.routine_of-r.ensures) (c.tight_paren.ensures)
+node-returns-in-InlineTightParens t c = node_by TheVariants.InlineTightParens (c.requires.1) (elim c.if-has_error.branch [ listed w ↦ decided_list (c.requires.0) (c.requires.1) (omega arith) | clean w ↦ decided_clean (c.requires.0) (c.requires.1) (c.has_error.ensures) w.if-has_error.false ]) (sym (c.in-InlineTightParens.is) ∙ c.routine_of-r.ensures) (c.tight_paren.ensures)
 
 pub node-returns-in-AlterCommandList : goal.node-returns-in-AlterCommandList
 unfolding arms_of
-node-returns-in-AlterCommandList t c = node_by TheVariants.AlterCommandList (c.requires.1) (elim c.if-has_error.branch [ node-then-has_error+else-kind-ne-QUERY_LIST w ↦ decided_list (c.requires.0) (c.requires.1) w.if-kind-ne-QUERY_LIST.false | node-else-has_error w ↦ decided_clean (c.requires.0) (c.requires.1) (c.has_error.ensures) w.if-has_error.false ]) (sym (c.in-AlterCommandList.is) ∙ c.routine_of-r.ensures) (c.alter.ensures)
+node-returns-in-AlterCommandList t c = node_by TheVariants.AlterCommandList (c.requires.1) (elim c.if-has_error.branch [ listed w ↦ decided_list (c.requires.0) (c.requires.1) (omega arith) | clean w ↦ decided_clean (c.requires.0) (c.requires.1) (c.has_error.ensures) w.if-has_error.false ]) (sym (c.in-AlterCommandList.is) ∙ c.routine_of-r.ensures) (c.alter.ensures)
 
 pub node-returns-in-UnionClause : goal.node-returns-in-UnionClause
 unfolding arms_of
-node-returns-in-UnionClause t c = node_by TheVariants.UnionClause (c.requires.1) (elim c.if-has_error.branch [ node-then-has_error+else-kind-ne-QUERY_LIST w ↦ decided_list (c.requires.0) (c.requires.1) w.if-kind-ne-QUERY_LIST.false | node-else-has_error w ↦ decided_clean (c.requires.0) (c.requires.1) (c.has_error.ensures) w.if-has_error.false ]) (sym (c.in-UnionClause.is) ∙ c.routine_of-r.ensures) (c.union.ensures)
+node-returns-in-UnionClause t c = node_by TheVariants.UnionClause (c.requires.1) (elim c.if-has_error.branch [ listed w ↦ decided_list (c.requires.0) (c.requires.1) (omega arith) | clean w ↦ decided_clean (c.requires.0) (c.requires.1) (c.has_error.ensures) w.if-has_error.false ]) (sym (c.in-UnionClause.is) ∙ c.routine_of-r.ensures) (c.union.ensures)
 
 pub node-returns-in-Passthrough : goal.node-returns-in-Passthrough
 unfolding arms_of
-node-returns-in-Passthrough t c = node_by TheVariants.Passthrough (c.requires.1) (elim c.if-has_error.branch [ node-then-has_error+else-kind-ne-QUERY_LIST w ↦ decided_list (c.requires.0) (c.requires.1) w.if-kind-ne-QUERY_LIST.false | node-else-has_error w ↦ decided_clean (c.requires.0) (c.requires.1) (c.has_error.ensures) w.if-has_error.false ]) (sym (c.in-Passthrough.is) ∙ c.routine_of-r.ensures) (c.pass.ensures)
+node-returns-in-Passthrough t c = node_by TheVariants.Passthrough (c.requires.1) (elim c.if-has_error.branch [ listed w ↦ decided_list (c.requires.0) (c.requires.1) (omega arith) | clean w ↦ decided_clean (c.requires.0) (c.requires.1) (c.has_error.ensures) w.if-has_error.false ]) (sym (c.in-Passthrough.is) ∙ c.routine_of-r.ensures) (c.pass.ensures)
 
 pub paren-overflow_add-i : goal.paren-overflow_add-i
 paren-overflow_add-i t c = omega (arith, c.requires.inside, c.requires.sizes.tape-fits)
