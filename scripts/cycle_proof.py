@@ -1,51 +1,55 @@
 #!/usr/bin/env python3
 """Writes the proof of the cycle of calls in crates/formatter/src/format.rt: the routines and the dispatch `node`.
 
-    python3 scripts/cycle_proof.py            asks the prover for the needs, then writes the proof
-    python3 scripts/cycle_proof.py --again    writes it from the needs that the last run asked for
+    python3 scripts/cycle_proof.py
 
-Run it at the top of the repository, with `rt` on the path. The prover runs twice in a copy of the crates without the proof, in
-target/cycle/: once it prints the file to write, with a hole `?` for each need, and once it writes the records of what is known at each
-need. Each hole is filled by its name from the tables below, and `rt fmt` lays the file out. Then `rt dev formatter` says whether it proves.
+Run it at the top of the repository, with `rt` on the path. It reads each routine's code: the definition that its contract names, the call for
+a token, the calls around `node` and after the loop, and whether the local variables change. From these it writes Invariants.antt and
+Answers.antt, and `rt fmt` lays them out. Then `rt check` in crates/formatter says whether the cycle proves, and names each goal that is
+refused or has no answer. A goal is named after the code that asks for it, as `file-file_before-a-requires` for `let a = file_before(..)` in
+the routine `file`. Where SignedRoutines has no law for a routine's signs, its answer has a hole `?`.
 
-In an answer, `@THING` is the path to what THING bound, as `c .before .before .loop` for `@loop`: the `.before`s are counted in the
-records. `{PIECE}` is what differs from routine to routine: `pieces` chooses it by the calls that the routine makes, and a row of ROWS
-replaces it. A need with no answer keeps its hole and is named at the end.
+In an answer `@CALL` is the step of a call, as `c.file_before-a`, and `{PIECE}` is what differs from routine to routine: `pieces` chooses it by
+the calls that the routine makes, and a row of ROWS replaces it. A call whose `requires` needs no answer is proved without one.
 """
-import glob
 import os
 import re
-import shutil
 import subprocess
 import sys
 
-SOURCE = "crates/formatter/src/format.rt"
-PROOFS = "crates/formatter/proofs/format/+*"
-COPY = "target/cycle"
-PRINTED = COPY + "/printed"
-RECORDS = COPY + "/target/goals/formatter"
+CRATE = "crates/formatter"
+SOURCE = CRATE + "/src/format.rt"
 
-HEAD = """\
+INVARIANTS_HEAD = """\
+-- Written by scripts/cycle_proof.py; do not edit.
+-- The loops and the measures of the routines and the dispatch. The measure is twice the levels left, one more for the dispatch.
+use Prim.Native.Nat.{◌*◌, ◌+◌, ◌-◌}
+use mathlib.Core.Bool.{false}
+use lib.ListN.{length}
+use Rattle.formatter.proofs.Walks.{Loop}
+use Rattle.formatter.specs.RoutinePromises.{always}
+use Rattle.layout.specs.Routines.{USED}
+use Rattle.formatter.proofs.format.+CYCLE.Given as goal
+"""
+ANSWERS_HEAD = """\
 -- Written by scripts/cycle_proof.py; do not edit.
 -- The routines and the dispatch meet their contracts: one proof for the cycle of calls. The answers are alike for each routine; the laws
--- are those of Walks. The measure is twice the levels left, one more for the dispatch.
-use borrow.Author.Needs.{needs}
-use Prim.Native.Nat.{_*_, _+_, _-_}
+-- are those of Walks.
 use native.Mathlib.Omega.{arith}
-use mathlib.Core.Bool.{Bool, false, _&&_}
-use mathlib.Core.Logic.{⊎-elim}
-use mathlib.Core.Path.{_∙_, ap, refl, sym}
+use mathlib.Core.Bool.{Bool, false, ◌&&◌}
+use mathlib.Core.Path.{◌∙◌, ap, refl, sym}
 use lib.Dec.{eqb}
-use lib.ListN.{length}
-use Rattle·tokens.proofs.Choices.{as-spaced}
-use Rattle·token_map.proofs.SignedRoutines.{USED}
-use Rattle·tokens.proofs.Runs.{no-spacing, spaced}
-use Rattle·formatter·proofs.proofs.RoutineLaws.{USED}
-use Rattle·formatter·proofs.proofs.Walks.{USED}
-use Rattle·formatter·specs.specs.RoutinePromises.{always}
-use Rattle·layout.specs.FormatNode.{armsOf}
-use Rattle·layout.specs.Routines.{USED}
-use Rattle·layout.specs.declared.Routine.the-variants as the-variants
+use Rattle.layout.specs.declared.Routine.TheVariants as TheVariants
+use Rattle.formatter.proofs.RoutineLaws.{USED}
+use Rattle.formatter.proofs.Walks.{USED}
+use Rattle.formatter.specs.RoutinePromises.{always}
+use Rattle.layout.specs.FormatNode.{arms_of}
+use Rattle.layout.specs.Routines.{USED}
+use Rattle.token_map.proofs.SignedRoutines.{USED}
+use Rattle.tokens.proofs.Choices.{as_spaced}
+use Rattle.tokens.proofs.Runs.{no_spacing, spaced}
+use Rattle.formatter.proofs.format.+CYCLE.Goals as goal
+use Rattle.formatter.proofs.format.+CYCLE.Goals.{node-then-has_error+else-kind-ne-QUERY_LIST as listed, node-else-has_error as clean}
 """
 # The modules of which the names that are used are found in their files.
 MODULES = {
@@ -55,280 +59,245 @@ MODULES = {
     "Routines": "crates/layout/specs/Routines.antt",
 }
 
-# The measure of a routine and of the dispatch.
-MEASURE = "2 * a .1 .1 .1 .1 .1 .1 .1 .0"
+MEASURE = "2 * l.left"
 NODE_MEASURE = MEASURE + " + 1"
+LOOP = "Loop l.source l.tape l.facts l.config l.left l.at {done} {arms} l.initial.ctx l.initial.out l.out l.initial.map l.map l.i l.ctx {local}"
+LOOP_MEASURE = "length l.tape - l.i"
 
-LOOP = "Loop source tape facts config left at "
-HERE = "({ready}) (@loop .inv)"
-CHILD = HERE + " (@if1 .taken) (@if2 .left)"
-KIND = "(@head-at .result .kind)"
-SPACE_AFTER = "(spaced 0 (space_if (space_after ((@loop .local) .prev))) (omega arith) (ap space_if (sym (@space-after .ensures))) "
+HERE = "{ready} c.loop-i.invariant"
+CHILD = HERE + " c.loop-i-test.true c.if-tape-i-eq2.false"
+TOKEN = "token-ready " + HERE + " _ c.if-tape-i-eq2.true c.head_at-h.ensures"
+KIND = "c.head_at-h.result.kind"
+LOCAL = "c.loop-i.local"
+SPACE_AFTER = f"(spaced 0 (space_if (space_after {LOCAL}.prev)) (omega arith) (ap space_if (sym @space_after.ensures)) {{spacing}})"
 
-# The needs of a routine. The call for a token and a call `.._before` have the names TOKEN-requires and BEFORE-requires here, the addition
-# that gives the place after the loop is add-end. A call that is not named here is answered by `search needs`.
-ANSWERS = {
-    "Inv-loop": LOOP + "{done} {arms} ctx₀ out₀ out map₀ map i ctx {local}",
-    "μ-loop": "length tape - i",
-    "add-i": "omega (arith, {ready} .inside, {ready} .sizes .tape-fits)",
-    "loop-holds": "loop-first {done} {arms} _ _ ({ready}) (λ all z. {known})",
-    "shared-slice-read-if1": "omega (arith, @loop .inv .inside)",
-    "head-at-requires": f"loop-fits {HERE} (@if1 .taken)",
-    "shared-slice-read-if2": "omega (arith, @loop .inv .inside)",
-    "TOKEN-requires": f"(token-ready {HERE} _ (@if2 .taken) (@head-at .ensures), ({{ready}}) .words)",
-    "add-i-2": f"omega (arith, loop-fits {HERE} (@if1 .taken), {{ready}} .sizes .tape-fits)",
-    "loop-less": "omega (arith, @loop .inv .inside)",
-    "note-token-requires": f"let t = token-ready {HERE} _ (@if2 .taken) (@head-at .ensures) in (t .ordered, t .within)",
-    "loop-again": f"token-next {HERE} {{signed}} (@if2 .taken) (@head-at .ensures) {{acted}} (@note-token .ensures) (@{{token}} .kept .1 .1 .1 .0) (@note-token .kept .0)",
-    "BEFORE-requires": f"let r = side-ready {HERE} in omega arith",
-    "sub-node": f"left-pos {CHILD}",
-    "node-requires": f"(omega (arith, @pre .0, left-pos {CHILD}), node-ready {CHILD} (@head-at .ensures) {{before}} (omega arith))",
-    "loop-less-2": "omega (arith, @loop .inv .inside, @node .ensures .forward)",
-    "loop-again-2": f"node-next {HERE} {{at-node}} (@if1 .taken) (@if2 .left) (@head-at .ensures) (λ k z. {{same-node}}) {{before}} "
-    "(@node .ensures) {next-local} {after} (omega arith) (omega arith) (@node .kept .1 .1 .1 .1 .1 .0{kept}) (@node .kept .1 .1 .1 .1 .1 .1 .0)",
-    "add-end": "omega (arith, @loop .inv .inside, {ready} .sizes .tape-fits)",
-    "same-length": "@loop .inv .same",
-    "same-length-2": "@loop .inv .same-map",
-    "returns": f"loop-last {HERE} (@if1 .left) {{end}} (omega arith)",
-    "multi-item-requires": "fact-fits ({ready})",
-    "several-items-requires": f"omega (arith, loop-fits {HERE} (@if1 .taken), {{ready}} .sizes .facts-fit)",
+# The goals of a routine in the order of its code, with `TOKEN` for the call for a token. Under `start`, `node` and so on stand the goals of CALLS.
+GOALS = {
+    "start": None,
+    "overflow_add-i": "omega (arith, {ready}.inside, {ready}.sizes.tape-fits)",
+    "loop-i-init": "loop_first {done} {arms} _ _ {ready} (λ all z. {known})",
+    "bounds-tape-i": "omega (arith, c.loop-i.invariant.inside)",
+    "head_at-h-requires": f"loop_fits {HERE} c.loop-i-test.true",
+    "bounds-tape-i-in-loop-i": "omega (arith, c.loop-i.invariant.inside)",
+    "TOKEN-requires": f"({TOKEN}, {{ready}}.words)",
+    "note_token-requires": f"let t = {TOKEN} in (t.ordered, t.within)",
+    "overflow_add-i-then-tape-i-eq2": f"omega (arith, loop_fits {HERE} c.loop-i-test.true, {{ready}}.sizes.tape-fits)",
+    "loop-i-smaller-then-tape-i-eq2": "omega (arith, c.loop-i.invariant.inside)",
+    "loop-i-preserved-then-tape-i-eq2": f"token-next {HERE} {{signed}} c.if-tape-i-eq2.true c.head_at-h.ensures {{acted}} c.note_token.ensures {{token}}.auto.out c.note_token.auto.map",
+    "node": None,
+    "overflow_sub-left": f"left-pos {CHILD}",
+    "node-w-requires": f"(omega (arith, c.decreases, left-pos {CHILD}), node-ready {CHILD} c.head_at-h.ensures {{before}} (omega arith))",
+    "loop-i-smaller": "omega (arith, c.loop-i.invariant.inside, c.node-w.ensures.forward)",
+    "loop-i-preserved": f"node-next {HERE} {{at-node}} c.loop-i-test.true c.if-tape-i-eq2.false c.head_at-h.ensures (λ k z. {{same-node}}) {{before}} "
+    "c.node-w.ensures {next-local} {after} (omega arith) (omega arith) {kept} c.node-w.auto.map",
+    "overflow_add-result": "omega (arith, c.loop-i.invariant.inside, {ready}.sizes.tape-fits)",
+    "returns": f"loop_last {HERE} c.loop-i-test.false {{end}} (omega arith)",
 }
-# The needs for which the routine's definition is unfolded.
-UNFOLDED = ("loop-holds", "loop-again", "loop-again-2", "returns")
-
-# The needs of the dispatch: those of a copied node by name, then those of each routine that it calls.
-NODE_ANSWERS = {
-    "has-error-requires": "fact-fits (@pre .1 .0)",
-    "head-at-requires": "@pre .1 .0 .inside",
-    "skip-requires": "opened-at (@pre .1 .0)",
-    "format-error-verbatim-requires": "copy-ready (@pre .1 .0) (@head-at .ensures)",
-    "note-none-requires": "search needs",
-    "same-length": "@format-error-verbatim .kept .1 .1 .0",
-    "same-length-of-map": "@note-none .kept .0",
-    "returns": "node-copied (@pre .1 .0) (@pre .1 .1) (@head-at .ensures) (decided-copied (@pre .1 .0) (@pre .1 .1) (@has-error .ensures) (@if1 .taken) (@if2 .taken)) (@skip .ensures) "
-    "(@format-error-verbatim .ensures) (@note-none .ensures)",
-    "routine-of-requires": "search needs",
-    "enum-told": "search needs",
-    "enum-known-r": "search needs",
-    "CALL-requires": "(omega (arith, @pre .0), @pre .1 .0)",
-    "list-by-requires": "(omega (arith, @pre .0), (@pre .1 .0, is-list _ _ (sym (@r .given .1) ∙ @routine-of .ensures)))",
-    "CALL-same-length": "@{called} .kept .1 .1 .1 .1 .1 .0",
-    "CALL-same-length-of-map": "@{called} .kept .1 .1 .1 .1 .1 .1 .0",
-    "CALL-returns": "node-by {variant} (@pre .1 .1) (⊎-elim (λ w. decided-list (@pre .1 .0) (@pre .1 .1) (w .1 .left)) "
-    "(λ w. decided-clean (@pre .1 .0) (@pre .1 .1) (@has-error .ensures) (w .left)) (@if1 .came)) (sym (@{told} .given .1) ∙ @routine-of .ensures) (@{called} .ensures)",
+# The goals for which the routine's definition is unfolded.
+UNFOLDED = ("loop-i-init", "loop-i-preserved-then-tape-i-eq2", "loop-i-preserved", "returns")
+# What the calls before the loop and before `node` require, by the end of their names.
+CALLS = {
+    "multi_item": "fact_fits {ready}",
+    "several_items": f"omega (arith, loop_fits {HERE} c.loop-i-test.true, {{ready}}.sizes.facts_fit)",
+    "_before": f"let r = side_ready {HERE} in omega arith",
 }
 
-# The variant that holds a number.
-HOLDING = "(the-variants.ListClause _)"
+# The goals of the dispatch: those of a copied node, then what each routine that it calls requires, then the contract after each.
+NODE_GOALS = {
+    "has_error-requires": "fact_fits c.requires.0",
+    "head_at-h-requires": "c.requires.0.inside",
+    "skip-end-requires": "opened-at c.requires.0",
+    "format_error_verbatim-ctx-requires": "copy_ready c.requires.0 c.head_at-h.ensures",
+    "returns-then-kind-ne-QUERY_LIST": "node-copied c.requires.0 c.requires.1 c.head_at-h.ensures (decided_copied c.requires.0 c.requires.1 c.has_error.ensures "
+    "c.if-has_error.true c.if-kind-ne-QUERY_LIST.true) c.skip-end.ensures c.format_error_verbatim-ctx.ensures c.note_none.ensures",
+}
+NODE_REQUIRES = "(omega (arith, c.decreases), c.requires.0)"
+LIST_REQUIRES = "(omega (arith, c.decreases), (c.requires.0, is-list _ _ (sym c.in-{variant}.is ∙ c.routine_of-r.ensures)))"
+NODE_RETURNS = (
+    "node_by {routine} c.requires.1 (elim c.if-has_error.branch [ listed w ↦ decided_list c.requires.0 c.requires.1 (omega arith) "
+    "| clean w ↦ decided_clean c.requires.0 c.requires.1 c.has_error.ensures w.if-has_error.false ]) "
+    "(sym c.in-{variant}.is ∙ c.routine_of-r.ensures) c.{called}.ensures"
+)
 
 # Pieces of rows, by a law of RoutineLaws: the local after a node is the one before it; nothing is written after a node.
 KEPT = "({} {{local}} " + KIND + ")"
-NOTHING = "(spaced 0 _ (omega arith) (sym ({} {{local}} " + KIND + ")) no-spacing)"
+NOTHING = "(spaced 0 _ (omega arith) (sym ({} {{local}} " + KIND + ")) no_spacing)"
 
-LIST, MULTI = "(@args .list)", "(@multi-item .result)"
-LIST_NODE = f"{LIST} {MULTI} (@loop .local) {KIND}"
+LIST, MULTI = "c.args.list", "c.multi_item-multi.result"
+LIST_NODE = f"{LIST} {MULTI} {LOCAL} {KIND}"
 
-# What a routine has of its own: pieces that replace those of `pieces`, and whole answers; `unfolding`, a name that is unfolded beside the
-# definition for all of UNFOLDED, or for the one need that is named with it.
+# What a routine has of its own: pieces that replace those of `pieces`; `unfolding`, a name that is unfolded beside the definition for all of
+# UNFOLDED, or for the one goal that is named with it.
 ROWS = {
     "case": {"next-local": KEPT.format("case-kept"), "after": NOTHING.format("case-after")},
     "inline": {"unfolding": "inline_node"},
-    "list-by": {
+    "list_by": {
+        "definition": "list_clause_arms",
         "arms": f"(list_clause_arms {LIST} {MULTI})",
         "done": f"(format_list_clause {LIST})",
-        "Inv-loop": LOOP + "(format_list_clause list) (list_clause_arms list multi) ctx₀ out₀ out map₀ map i ctx local",
-        "signed": f"(list-by-signed {LIST} {MULTI})",
-        "ready": "@pre .1 .0",
-        "known": f"list-known {LIST} all {MULTI} (@multi-item .ensures ∙ multi-noted (@pre .1 .1) (node-noted (@pre .1 .0) all z))",
-        "at-node": f"(list_node {LIST_NODE} (@several-items .result))",
-        "same-node": f"list-node {LIST_NODE} _ (@several-items .result) "
-        f"(@several-items .ensures ∙ ap (λ (b : Bool). eqb {KIND} {LIST} && b) (child-noted {CHILD} k z))",
-        "definition": "list_clause_arms",
+        "loop-arms": "(list_clause_arms l.list l.multi)",
+        "loop-done": "(format_list_clause l.list)",
+        "signed": f"(list-by_signed {LIST} {MULTI})",
+        "ready": "c.requires.0",
+        "known": f"list-known {LIST} all {MULTI} (c.multi_item-multi.ensures ∙ multi_noted c.requires.1 (node-noted c.requires.0 all z))",
+        "at-node": f"(list_node {LIST_NODE} c.several_items-several.result)",
+        "same-node": f"list-node {LIST_NODE} _ c.several_items-several.result "
+        f"(c.several_items-several.ensures ∙ ap (λ (b : Bool). eqb {KIND} {LIST} && b) (child_noted {CHILD} k z))",
     },
-    "select": {"next-local": KEPT.format("select-kept")},
-    "settings": {"next-local": KEPT.format("settings-kept")},
-    "tight-paren": {"unfolding": "inline_node"},
-    "union": {"after": NOTHING.format("union-after"), "unfolding loop-again": "union_token"},
+    "select": {"next-local": KEPT.format("select_kept")},
+    "settings": {"next-local": KEPT.format("settings_kept")},
+    "tight_paren": {"unfolding": "inline_node"},
+    "union": {"after": NOTHING.format("union_after"), "unfolding loop-i-preserved-then-tape-i-eq2": "union_token"},
 }
 
 
 def read(place):
-    with open(place) as file:
+    with open(place, encoding="utf-8") as file:
         return file.read()
 
 
-def ask():
-    """Has the prover print the needs and write the records, in a copy of the crates that lacks the proof."""
-    shutil.rmtree(COPY + "/crates", ignore_errors=True)
-    shutil.copytree("crates", COPY + "/crates")
-    shutil.copy("crates.txt", COPY)
-    for folder in glob.glob(f"{COPY}/{PROOFS}"):
-        shutil.rmtree(folder)
-    os.makedirs(COPY + "/target", exist_ok=True)
-    for proved in ("rlib", "stamp"):
-        os.makedirs("target/" + proved, exist_ok=True)
-        if not os.path.islink(f"{COPY}/target/{proved}"):
-            os.symlink("../../" + proved, f"{COPY}/target/{proved}")
-    with open(PRINTED, "w") as printed:
-        for words in (["dev", "formatter", "--allow-holes"], ["goals", "formatter"]):
-            subprocess.run(["rt", *words], cwd=COPY, env={**os.environ, "RT_CUT": "0"}, stdout=printed, stderr=subprocess.STDOUT)
+def names_of(module):
+    return re.findall(r"^[a-z ]*pub (?:record )?([^\s:]+)", read(MODULES[module]), re.M)
 
 
-def skeleton():
-    """The place of the file to write and its text with holes, as printed."""
-    printed = read(PRINTED)
-    found = re.search(r"^help: write \S*?(crates/formatter/proofs/format/\+\S+) with these lines.*\n((?:    .*\n)+)", printed, re.M)
-    if not found:
-        sys.exit(f"the prover asked for no proof of a cycle: see {PRINTED}")
-    text = "".join(line[4:] + "\n" for line in found[2].splitlines() if not line.startswith("    -- src/"))
-    return found[1], re.sub(r"\{\n  (\w+),\n\}", r"{\1}", text).replace(" =\n    ?", " = ?")
+def calls_in(code):
+    """The calls of a piece of code by their steps, as `file_before-a`: a call that is bound by its function and its variable, another by its function."""
+    steps = {}
+    for bound, call in re.findall(r"(?:\b(\w+) = )?\b([a-z]\w*)\(", code):
+        steps[call] = f"{call}-{bound}" if bound else call
+    return steps
 
 
 class Routine:
-    """A member of the cycle: its needs, and for each the things bound on the way to it."""
+    """A routine of the cycle: the definition that its contract names, and the calls of each part of its code."""
 
-    def __init__(self, name, definitions, text):
+    def __init__(self, name, code):
         self.name, self.row = name, ROWS.get(name, {})
-        self.definition = self.row.get("definition", definitions.get(name))
-        self.changes_local = re.search(rf"^{name}-Inv-loop .*local₀", text, re.M)
-        (place,) = glob.glob(f"{RECORDS}/**/Lts-{name.replace('-', '_')}.antt", recursive=True)
-        records = read(place)
-        steps = re.findall(r"pub record (\S+) : .*\n\s+pub before : (\S+)\n\s+pub (\S+) :", records)
-        self.before = {record: (before, thing) for record, before, thing in steps}
-        self.needs = dict(re.findall(r"\n\s+Need-(\S+) =\s+\(c : (\S+)\)", records))
-        self.calls = [need.removesuffix("-requires") for need in self.needs if need.endswith("-requires")]
-        self.token = dict(zip(self.calls, self.calls[1:])).get("head-at")
+        self.definition = self.row.get("definition") or re.search(r"RoutineDone .* at \((?:always )?(\w+)", code)[1]
+        self.changes_local = "let mut local" in code
+        body = code.split("\n{\n", 1)[1]
+        start, loop = body.split("    while tape[i] != 3 {\n")
+        loop, end = loop.split("\n    }\n", 1)
+        token, node = loop.split("        } else {\n")
+        self.start, self.at_token, self.at_node, self.at_end = (calls_in(part) for part in (start, token.split("== 2 {\n")[1], node, end))
+        self.token = next(iter(self.at_token.values()))
+        self.calls = {**self.start, **self.at_token, **self.at_node, **self.at_end}
 
-    def trail(self, need):
-        """The things bound on the way to a need, the last one first."""
-        things, record = [], self.needs.get(need)
-        while record in self.before:
-            record, thing = self.before[record]
-            things.append(thing)
-        return things
+    def step(self, part, ends):
+        """The step of the first call of a part whose name ends so; `space_after` is no arm after a node."""
+        return next((f"c.{step}" for call, step in part.items() if call.endswith(ends) and call != "space_after"), None)
 
 
-def pieces(routine, need):
-    """What differs from routine to routine, chosen by the calls on the way to a need."""
-    trail = routine.trail(need)
-    arms = [thing for thing in trail if thing in routine.calls and not thing.startswith("space-")]
-    before, after, local, end = (next((arm for arm in arms if arm.endswith(part)), "") for part in ("-before", "-after", "-local", "-end"))
-    token, spaced = f"@{routine.token} .ensures", "(as-spaced (@{} .ensures))".format
-    spacing = f"(@{before} .ensures)" if before else spaced("space-if") if "space-if" in trail else "(no-spacing {xs = @loop .out})"
-    if "space-after" in trail:
-        spacing = SPACE_AFTER + spacing + ")"
+def pieces(routine):
+    """What differs from routine to routine, chosen by the calls that it makes."""
+    token = f"c.{routine.token}"
+    before, local, after = (routine.step(routine.at_node, ends) for ends in ("_before", "_local", "_after"))
+    space_if, end = routine.step(routine.at_node, "space_if"), routine.step(routine.at_end, "_end")
+    spaced = "(as_spaced {}.ensures)".format
+    spacing = f"{before}.ensures" if before else spaced(space_if) if space_if else "(no_spacing {xs = c.loop-i.out})"
+    arms = routine.definition
     return {
-        "ready": "@pre .1",
-        "arms": routine.definition,
-        "done": f"(always {routine.definition})",
+        "ready": "c.requires",
+        "arms": arms,
+        "done": f"(always {arms})",
+        "loop-arms": arms,
+        "loop-done": f"(always {arms})",
         "known": "refl",
-        "token": routine.token,
-        "signed": f"{routine.name}-signed",
-        "acted": f"({token} .acted) ({token} .local)" if "local" in trail else f"({token}) refl",
-        "before": spacing,
-        "kept": f" ∙ @{before} .kept .0" if before else "",
-        "at-node": f"({routine.definition} .at_node {{local}} {KIND} 0)",
+        "token": token,
+        "signed": next((name for name in names_of("SignedRoutines") if name.replace("-", "_") == routine.name + "_signed"), "?"),
+        "acted": f"{token}.ensures.acted {token}.ensures.local" if routine.token.endswith("-a") else f"{token}.ensures refl",
+        "spacing": spacing,
+        "before": SPACE_AFTER if "space_after" in routine.at_node else spacing,
+        "kept": f"(c.node-w.auto.out ∙ {before}.auto.out)" if before else "c.node-w.auto.out",
+        "at-node": f"({arms}.at_node {{local}} {KIND} 0)",
         "same-node": "refl",
-        "next-local": f"(@{local} .ensures)" if local else "refl",
-        "after": spaced(after) if after else "no-spacing",
-        "end": spaced(end) if end else "no-spacing",
-        "local": ("(@loop .local)" if trail else "local") if routine.changes_local else "(flagged false)",
+        "local": LOCAL if routine.changes_local else "(flagged false)",
+        "loop-local": "l.local" if routine.changes_local else "(flagged false)",
+        "next-local": f"{local}.ensures" if local else "refl",
+        "after": spaced(after) if after else "no_spacing",
+        "end": spaced(end) if end else "no_spacing",
     } | routine.row
 
 
-def routine_answer(routine, need):
-    """The answer to a need of a routine, its pieces, and the names to unfold."""
-    call, kind = need.removesuffix("-requires"), need
-    if call == routine.token:
-        kind = "TOKEN-requires"
-    elif call.endswith("-before"):
-        kind = "BEFORE-requires"
-    elif re.fullmatch(r"add-t\d+", need):
-        kind = "add-end"
-    answer = routine.row.get(need) or ANSWERS.get(kind) or ("search needs" if call in routine.calls else None)
-    unfolded = [routine.definition, routine.row.get("unfolding"), routine.row.get("unfolding " + need)]
-    return answer, pieces(routine, need), [name for name in unfolded if name] if need in UNFOLDED else []
+def filled(text, own, calls):
+    """A text with its pieces and the steps of its calls in their places."""
+    while re.search(r"\{[a-z-]+\}", text):
+        text = re.sub(r"\{([a-z-]+)\}", lambda piece: own[piece[1]], text)
+    return re.sub(r"@(\w+)", lambda call: f"c.{calls[call[1]]}", text)
 
 
-def node_answer(routine, need, members, variants):
-    """The answer to a need of the dispatch, its pieces, and the names to unfold."""
-    trail, kind, place = routine.trail(need), *re.fullmatch(r"(.*?)(?:-(\d+))?", need).groups("1")
-    # after each call the length of `out`, then that of `map`
-    if kind == "same-length" and int(place) % 2 == 0:
-        kind = "same-length-of-map"
-    called = next((thing for thing in trail if thing.rstrip("0123456789") in members), None)
-    if called:
-        told = next(thing for thing in trail if thing.startswith("enum-told") or thing == "r")
-        variant = HOLDING if told == "r" else "the-variants." + variants[int(told.removeprefix("enum-told") or 1) - 1]
-        own = {"called": called, "told": told, "variant": variant}
-        return NODE_ANSWERS.get("CALL-" + kind), own, ["armsOf"] if kind == "returns" else []
-    if kind not in NODE_ANSWERS and kind.removesuffix("-requires") in members:
-        kind = "CALL-requires"
-    return NODE_ANSWERS.get(kind), {}, []
+def answer(name, goal, text, unfolded=()):
+    unfolding = [f"unfolding {' '.join(unfolded)}"] if unfolded else []
+    return "\n".join([f"pub {name}-{goal} : goal.{name}-{goal}", *unfolding, f"{name}-{goal} t c = {text}"])
 
 
-def written(answer, own, trail):
-    """An answer with its pieces and its paths in their places; none if it names a thing that is not on the way to the need."""
-    while answer and re.search(r"\{[a-z-]+\}", answer):
-        answer = re.sub(r"\{([a-z-]+)\}", lambda piece: own[piece[1]], answer)
-    places = {thing: place for place, thing in reversed(list(enumerate(trail)))} | {"pre": len(trail), "args": len(trail)}
-    if not answer or set(re.findall(r"@([a-z0-9-]+)", answer)) - set(places):
-        return None
-    return re.sub(r"@([a-z0-9-]+)", lambda thing: "c" + " .before" * places[thing[1]] + " ." + thing[1], answer)
+def routine_answers(routine):
+    own = pieces(routine)
+    for goal, text in GOALS.items():
+        if text is None:
+            for call, step in {"start": routine.start, "node": routine.at_node}[goal].items():
+                known = next((text for ends, text in CALLS.items() if call.endswith(ends)), None)
+                if known:
+                    yield answer(routine.name, step + "-requires", filled(known, own, routine.calls))
+            continue
+        unfolded = [routine.definition, own.get("unfolding"), own.get("unfolding " + goal)] if goal in UNFOLDED else []
+        goal = goal.replace("TOKEN", routine.token)
+        yield answer(routine.name, goal, filled(text, own, routine.calls), [name for name in unfolded if name])
 
 
-def filled(text, definitions, variants):
-    """The text with its holes filled, and the needs that keep theirs."""
-    members = re.findall(r"^abbrev μ-(\S+) :", text, re.M)
-    routines = {name: Routine(name, definitions, text) for name in members}
-    blocks, left = [], []
-    for block in text.split("\n\n"):
-        head, _, equation = block.rpartition("\n")
-        measure, asked = re.match(r"abbrev μ-(\S+)", head), re.search(r"(\S+)-lts\.(?:Need-(\S+)|InvT-loop|(MeasureT-loop))", head)
-        if measure:
-            block = block.replace("= ?", "= " + (NODE_MEASURE if measure[1] == "node" else MEASURE))
-        elif asked and equation.endswith("= ?"):
-            routine, need = routines[asked[1]], asked[2] or ("μ-loop" if asked[3] else "Inv-loop")
-            known = node_answer(routine, need, members, variants) if routine.name == "node" else routine_answer(routine, need)
-            answer, unfolded = written(*known[:2], routine.trail(need)), known[2]
-            if answer:
-                block = "\n".join([head, *(["unfolding " + " ".join(unfolded)] if unfolded else []), equation[:-1] + answer])
-            else:
-                left.append(f"{routine.name}-{need}")
-        blocks.append(block)
-    return "\n\n".join(blocks), left
+def node_answers(arms):
+    """The answers of the dispatch, from its arms: variant, whether it holds a number, and the routine."""
+    for goal, text in NODE_GOALS.items():
+        yield answer("node", goal, text)
+    for variant, holds, called in arms:
+        yield answer("node", called + "-requires", filled(LIST_REQUIRES if holds else NODE_REQUIRES, {"variant": variant}, {}))
+    for variant, holds, called in arms:
+        routine = f"(TheVariants.{variant} _)" if holds else f"TheVariants.{variant}"
+        yield answer("node", f"returns-in-{variant}", filled(NODE_RETURNS, {"variant": variant, "called": called, "routine": routine}, {}), ["arms_of"])
 
 
-def definitions_of(code):
-    """The definition that the contract of each routine names."""
-    parts = [(part.split("(")[0], re.search(r"RoutineDone .* at \((?:always )?(\w+)", part)) for part in code.split("\nfn ")[1:]]
-    return {name.replace("_", "-"): named[1] for name, named in parts if named}
+def given(name, text):
+    return f"abbrev pub {name} : goal.{name}\n{name} l = {text}"
 
 
-def used(module, body):
+def invariants(members):
+    for name in members:
+        yield given(f"decreases-{name}", NODE_MEASURE if name == "node" else MEASURE)
+    for name, routine in members.items():
+        if routine:
+            own = pieces(routine)
+            loop = {"done": own["loop-done"], "arms": own["loop-arms"], "local": own["loop-local"]}
+            yield given(f"invariant-{name}-loop-i", filled(LOOP, loop, {}))
+            yield given(f"decreases-{name}-loop-i", LOOP_MEASURE)
+
+
+def used(module, head, body):
     """The names of a module that a text uses, but for those that the head has from another one."""
-    names = re.findall(r"^[a-z ]*pub (?:record )?([^\s:]+)", read(MODULES[module]), re.M)
-    taken = re.findall(r"[\w-]+", HEAD)
-    return ", ".join(sorted(name for name in names if name not in taken and re.search(rf"(?<![\w.-]){name}(?![\w-])", body)))
+    taken = re.findall(r"[\w-]+", head)
+    return ", ".join(sorted(name for name in names_of(module) if name not in taken and re.search(rf"(?<![\w.-]){name}(?![\w-])", body)))
+
+
+def write(place, head, cycle, blocks):
+    body = "\n\n".join(blocks) + "\n"
+    head = re.sub(r"(\w+)\.\{USED\}", lambda found: f"{found[1]}.{{{used(found[1], head, body)}}}", head.replace("+CYCLE", "+" + cycle))
+    os.makedirs(os.path.dirname(place), exist_ok=True)
+    with open(place, "w", encoding="utf-8") as out:
+        out.write(head + "\n" + body)
 
 
 def main():
-    if sys.argv[1:] not in ([], ["--again"]):
+    if sys.argv[1:]:
         sys.exit(__doc__)
-    if not sys.argv[1:]:
-        ask()
-    place, text = skeleton()
     code = read(SOURCE)
-    body, left = filled(text, definitions_of(code), re.findall(r"Routine::(\w+) =>", code))
-    head = re.sub(r"(\w+)\.\{USED\}", lambda found: f"{found[1]}.{{{used(found[1], body)}}}", HEAD)
-    os.makedirs(os.path.dirname(place), exist_ok=True)
-    with open(place, "w") as out:
-        out.write(head + body)
-    for folder in glob.glob(PROOFS):
-        if folder != os.path.dirname(place):
-            shutil.rmtree(folder)
-    subprocess.run(["rt", "fmt"], check=True)
-    sys.exit("\n".join("no answer: " + need for need in left) or None)
+    cycle = re.search(r"#\[cycle\((\w+)\)\]", code)[1]
+    codes = dict(re.findall(r"\nfn (\w+)(\(.*?\n\}\n)", code, re.S))
+    members = {name: Routine(name, codes[name]) if name != "node" else None for name in sorted([*codes, "node"])}
+    arms = re.findall(r"Routine::(\w+)(\(\w+\))? => (\w+)\(", code)
+    folder = f"{CRATE}/proofs/format/+{cycle}"
+    write(folder + "/Invariants.antt", INVARIANTS_HEAD, cycle, invariants(members))
+    answers = [block for routine in members.values() for block in (routine_answers(routine) if routine else node_answers(arms))]
+    write(folder + "/Answers.antt", ANSWERS_HEAD, cycle, answers)
+    sys.exit(subprocess.run(["rt", "fmt"], cwd=CRATE).returncode)
 
 
 main()

@@ -1,4 +1,5 @@
 -- Written by scripts/cycle_proof.py; do not edit.
+-- The loops and the measures of the routines and the dispatch. The measure is twice the levels left, one more for the dispatch.
 use Prim.Native.Nat.{◌*◌, ◌+◌, ◌-◌}
 use mathlib.Core.Bool.{false}
 use lib.ListN.{length}
