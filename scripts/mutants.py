@@ -10,7 +10,7 @@ refusals.
 
 Writes vectors/score.txt: how many edits of each family the list shows, and how many vectors/equivalent.txt names as ones that change
 nothing; fails if any other is left. With --choose the calls are chosen anew first, so that every edit that any of many calls shows is
-shown: that writes vectors/cases.txt and vectors/vectors.bin.
+shown: that writes vectors/cases.txt, vectors/vectors.bin and its copy crates/replay/stdin.
 
 Needs cargo and the source (rust/README.md); takes minutes, and is no part of the gate.
 """
@@ -613,6 +613,7 @@ def work(folder, choose):
     built = build(folder, texts, all_functions, copies)
     if choose:
         run(folder, "choose", VECTORS)
+        shutil.copy(VECTORS / "vectors.bin", VECTORS.parent / "crates/replay/stdin")
     text, wrong = score(run(folder, "score", VECTORS / "vectors.bin"), len(copies) - len(built))
     (VECTORS / "score.txt").write_text(text, encoding="utf-8")
     print(text, end="")

@@ -46,7 +46,7 @@ NAMES = [
     ("Lies", "SpelledAt", ANY),
     ("lies", "spelled", ANY),
     ("lies-", "spelled-", ANY),
-    ("told", "answered_as", "crates/*/specs/*"),
+    ("told", "answeredAs", "crates/*/specs/*"),
     ("told-false", "answered-false", ANY),
     ("told-true", "answered-true", ANY),
     ("on", "readThen", "crates/tape/proofs/CheckSteps.antt"),
@@ -57,7 +57,7 @@ NAMES = [
     ("count-turn", "count-step", ANY),
     ("wrote-turn", "wrote-step", ANY),
     ("same-turn", "same-step", ANY),
-    ("on", "is_listed", "field crates/keywords/*"),
+    ("on", "isListed", "field crates/keywords/*"),
     ("on", "forward", "field " + ANY),
     ("trimmed-solid", "trimmed-not-white", ANY),
     ("FineToken", "TokenAlike", ANY),
@@ -65,24 +65,24 @@ NAMES = [
     ("FineCall", "CallAlike", ANY),
     ("fine-", "alike-", "crates/layout/*"),
     ("-fine", "-alike", "crates/layout/*"),
-    ("sight", "seen_same", "crates/layout/*"),
+    ("sight", "seenSame", "crates/layout/*"),
     ("Steady", "KeepsAlike", ANY),
     ("original-steady", "original-keeps-alike", ANY),
-    ("solidEnds", "no_white_space_end", ANY),
+    ("solidEnds", "noWhiteSpaceEnd", ANY),
     ("every-on", "every-act", "crates/layout/*"),
     ("on-spacing", "act-spacing", "crates/tokens/*"),
     ("-apart", "-spacing", ANY),
-    ("apart", "put_spacing", "layout/specs/Calls"),
-    ("on", "act_at", "layout/specs/Calls"),
-    ("text", "write_text", "layout/specs/Arms"),
-    ("keyword", "write_keyword", "layout/specs/Arms"),
-    ("sign", "write_sign", "layout/specs/Arms"),
+    ("apart", "putSpacing", "layout/specs/Calls"),
+    ("on", "actAt", "layout/specs/Calls"),
+    ("text", "writeText", "layout/specs/Arms"),
+    ("keyword", "writeKeyword", "layout/specs/Arms"),
+    ("sign", "writeSign", "layout/specs/Arms"),
     ("texted", "did-text", ANY),
     ("cased", "did-keyword", ANY),
     ("signed", "did-sign", ANY),
-    ("silent", "nothing_written", "layout/specs/Layout"),
-    ("simply", "tokens_only", "layout/specs/Routines"),
-    ("keeping", "local_unchanged", "layout/specs/Routines"),
+    ("silent", "nothingWritten", "layout/specs/Layout"),
+    ("simply", "tokensOnly", "layout/specs/Routines"),
+    ("keeping", "localUnchanged", "layout/specs/Routines"),
     ("Silent", "SpacedUnwritten", ANY),
     ("no-silent", "no-unwritten", ANY),
     ("silently", "unwritten-as", ANY),
@@ -177,7 +177,7 @@ def expression(old, where, place, code):
 
 def with_names(text, place, code):
     """The new names in a text that belongs to a place."""
-    if imports(code, "keyword", "layout", "specs", "Arms") and imports(code, "write_keyword", "context", "specs", "Context"):
+    if imports(code, "keyword", "layout", "specs", "Arms") and imports(code, "writeKeyword", "context", "specs", "Context"):
         text = qualified(text)
     for old, new, where in NAMES:
         found = expression(old, where, place, code)
@@ -199,13 +199,13 @@ def with_order(text, code):
 
 
 def qualified(text):
-    """The context's write_keyword as context.write_keyword, since the act has that name now."""
+    """The context's writeKeyword as context.writeKeyword, since the act has that name now."""
     whole = re.search(r"(?m)^use Rattle·context\.specs\.Context\.\{[^}]*\}\n", text)
     if whole:
         alias = "use Rattle·context.specs.Context as context\n"
         fewer = re.sub(r", writeKeyword\b|\bwriteKeyword, ", "", whole[0])
         text = text.replace(whole[0], fewer + ("" if alias in text else alias))
-    return re.sub(rf"(?<!\.){BEFORE}write_keyword{AFTER}", "context.write_keyword", text)
+    return re.sub(rf"(?<!\.){BEFORE}writeKeyword{AFTER}", "context.writeKeyword", text)
 
 
 def with_edit(text, place, codes):

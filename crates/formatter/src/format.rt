@@ -1,7 +1,7 @@
 // format_node.rs: each routine's loop over the children of its node, and the dispatch. They form one cycle of calls over the tape: with
 // each call of `node` a level less is left, and each pass of a loop moves on along the tape. A child's context is a copy (`a`): the loop's own, which
-// no pointer leads to, stays in registers. `map` is where the places of tokens are noted; a plain layout lends one of no numbers. The proof of a cycle is named after all of its
-// members, and a file's name has at most 255 bytes, so the source's names are shortened:
+// no pointer leads to, stays in registers. `map` is where the places of tokens are noted; a plain layout lends one of no numbers. The source's
+// names are shortened here:
 //
 //     format_node                                     node
 //     format_file                                     file
