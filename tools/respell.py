@@ -40,7 +40,12 @@ def snake(name):
 
 
 def declared(places):
-    return {name: {p for p in places if name in names[p]} for p0 in places for name in names[p0]} if (names := {p: set(DECLARED.findall(read(p))) for p in places}) else {}
+    """The names that these files declare, each with the files that do."""
+    found = {}
+    for place in places:
+        for name in DECLARED.findall(read(place)):
+            found.setdefault(name, set()).add(place)
+    return found
 
 
 def table(specs, proofs):
