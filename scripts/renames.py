@@ -16,7 +16,7 @@ scripts/renames.py writes":
 
 After that the branch merges with main as one that was begun with the new names. The script renames files, names in code, in must-fail edits
 and in scripts, and names between backticks in documents, and it takes the sentence "Assumes nothing." out of the heads. It leaves the
-generated proof of the cycle alone (crates/formatter/proofs/format/+..): the merge brings the new one, or scripts/cycle_proof.py writes it.
+proof of the cycle alone (crates/formatter/proofs/format/+..): the merge brings the new one.
 """
 import fnmatch
 import os
@@ -90,23 +90,6 @@ NAMES = [
     ("Comes", "WalkDone", ANY),
 ]
 
-# The routines of formatter/src/format.rt that have other names now: the source's name, the old one, the new one.
-ROUTINES = [
-    ("format_select_statement", "query", "sel_stmt"),
-    ("format_with_clause", "with_of", "with"),
-    ("format_comma_list", "commas", "comma"),
-    ("format_inline_comma_list", "row", "inl_list"),
-    ("format_case_expression", "cases", "case"),
-    ("format_when_clause", "when_of", "when"),
-    ("format_paren_list", "parens", "paren"),
-    ("format_bracket_list", "brackets", "bracket"),
-    ("format_brace_list", "braces", "brace"),
-    ("format_data_type", "types", "dtype"),
-    ("format_inline_tight_parens", "tight", "tight_paren"),
-    ("format_inline_no_spaces", "solid", "no_spaces"),
-    ("format_union_clause", "unions", "union"),
-]
-
 # Other text: a regular expression, what stands there now, a pattern of files.
 TEXTS = [
     (r"(?m)^-- Assumes nothing(: these are definitions)?\.\n", "", "crates/*.antt"),
@@ -118,7 +101,6 @@ TEXTS = [
 ]
 
 GENERATED = "crates/formatter/proofs/format/+*"
-FORMAT = "crates/formatter/src/format.rt"
 BEFORE, AFTER = r"(?<![\w·«'-])", r"(?![\w»'-])"
 
 
@@ -215,19 +197,7 @@ def with_edit(text, place, codes):
         named = re.match(r"file: (\S+)", part)
         target = f"{folder}/{named[1]}" if named else place
         parts[i] = with_names(part, target, codes.get(target, ""))
-        parts[i] = with_routines(parts[i], target)
     return "".join(parts)
-
-
-def with_routines(text, place):
-    for rust, old, new in ROUTINES:
-        if place == FORMAT:
-            text = re.sub(rf"(?<![\w.:]){old}\(", f"{new}(", text)
-        elif place == "scripts/cycle_proof.py":
-            text = text.replace(f'    "{old.replace("_", "-")}": {{', f'    "{new.replace("_", "-")}": {{')
-        elif place.endswith(".md"):
-            text = re.sub(rf"(?m)^(\| [^|]*`{rust}`[^|]*\| [^|]*)`{old}`", rf"\g<1>`{new}`", text)
-    return text
 
 
 def with_document(text):
@@ -250,9 +220,9 @@ def main():
         if place.endswith(".edit"):
             text = with_edit(text, place, codes)
         elif place.endswith(".md"):
-            text = with_document(with_routines(text, place))
-        elif place.endswith((".antt", ".rt")) or place == "scripts/cycle_proof.py":
-            text = with_routines(with_names(text, "crates/" if place.endswith(".py") else place, code), place)
+            text = with_document(text)
+        elif place.endswith((".antt", ".rt")):
+            text = with_names(text, place, code)
             text = with_order(text, code)
         for old, new, where in TEXTS:
             text = re.sub(old, new, text) if fnmatch.fnmatchcase(place, where) else text

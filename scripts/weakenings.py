@@ -18,7 +18,7 @@ LAYOUT_MASKED = "  pub masked : MaskedPairForLayout width case a b tape → xs �
 LAYOUT_PROOF = "            λ m e.\n            let k = masking_original width case a b tape m xs in\n"
 
 BOOKS, BOOKS_PROOF = "two_books/specs/Both.antt", "two_books/proofs/MaskedReports.antt"
-BOOKS_SECOND = "  pub second : ◌≡◌ {A = Called} (record { end = r.second.put; space = zs; work = vb; tally = r.second.tally }) (reported more b t wb us)\n"
+BOOKS_SECOND = "  pub second : ◌≡◌ {A = Called} (record { end = r.1.put; space = zs; work = vb; tally = r.1.tally }) (reported more b t wb us)\n"
 
 LENGTH = ("qdesk/src/lib.rt", "ghost use Rattle.std.specs.Prelude.{◌≡◌, ltb};\n", "ghost use Rattle.std.specs.Prelude.{◌≡◌, length, ltb};\n")
 
@@ -49,11 +49,11 @@ WEAKENINGS = {
         ("two_calls/src/lib.rt", "ghost use Rattle.two_calls", "ghost use Rattle.std.specs.Prelude.{◌≡◌};\nghost use Rattle.two_calls"),
     ],
     "one text in two spaces says nothing of the second": [
-        (BOTH, "  pub second : ◌≡◌ {A = Result} (record { answer = r.second; space = zs }) (laid_out (outcome original width case text tape) us)\n", ""),
+        (BOTH, "  pub second : ◌≡◌ {A = Result} (record { answer = r.1; space = zs }) (laid_out (outcome original width case text tape) us)\n", ""),
         (BOTH_PROOF, "        second = q;\n        one_value", "        one_value"),
     ],
     "one text in two spaces says nothing of the length": [
-        (BOTH, "  pub one_value : r.first.value ≡ r.second.value\n", ""),
+        (BOTH, "  pub one_value : r.0.value ≡ r.1.value\n", ""),
         (BOTH_PROOF, "        one_value = value p ∙ one_value_lem (outcome original width case text tape) xs us ∙ sym (value q);\n", ""),
     ],
     "laying out both texts says nothing of a space of no bytes": [
@@ -84,7 +84,7 @@ WEAKENINGS = {
         (BOTH_PROOF, "              λ w. ap (λ (z : Mapped). z.map) p ∙ k.maps w ∙ sym (ap (λ (z : Mapped). z.map) q'),\n", ""),
     ],
     "two reports say nothing of the tallies": [
-        (BOOKS, "xs ≡ us → (r.first ≡ r.second) ×", "xs ≡ us → (r.first.put ≡ r.second.put) ×"),
+        (BOOKS, "xs ≡ us → (r.0 ≡ r.1) ×", "xs ≡ us → (r.0.put ≡ r.1.put) ×"),
         (BOOKS_PROOF, "λ m same. (one_answer m same, ", "λ m same. (one_end m same, "),
     ],
     "two reports say nothing of the second alone": [

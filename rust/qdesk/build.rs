@@ -88,7 +88,8 @@ fn modified(file: &Path) -> Option<SystemTime> {
     fs::metadata(file).and_then(|facts| facts.modified()).ok()
 }
 
-/// The folders of the code that the library is made from. In crates.txt lines come in any order; `staticlib` may follow the name.
+/// The folders of the code that the library is made from. In crates.txt lines come in any order; `staticlib` may follow the name. A library of the
+/// kit, which has no line of its own, has no folder here either.
 fn sources(repository: &Path) -> Vec<PathBuf> {
     let list = fs::read_to_string(repository.join("crates.txt")).unwrap_or_default();
     let lines: HashMap<_, _> = list
@@ -100,7 +101,7 @@ fn sources(repository: &Path) -> Vec<PathBuf> {
     let mut seen = 0;
     while let Some(&name) = needed.get(seen) {
         for other in lines.get(name).into_iter().flat_map(|others| others.clone()) {
-            if !needed.contains(&other) {
+            if lines.contains_key(other) && !needed.contains(&other) {
                 needed.push(other);
             }
         }

@@ -21,7 +21,6 @@ use Rattle.layout.specs.Masking.{MaskedPair, MaskedPairForLayout, SameLines, cel
 use Rattle.layout.proofs.AsciiPairs.{ascii-pair}
 use Rattle.layout.proofs.TwoCalls.{pair-for_layout, demand_3, cells_after_lem}
 use Rattle.layout.proofs.Origins.{origins-after, comes_from}
-use Rattle.two_calls.specs.declared.Answers.{Answers}
 use Rattle.two_calls.specs.Both.{LaysOutBoth}
 use Rattle.acceptance.specs.Demands.{formatted, Demand1, Demand2, AlikeWhere, Demand3}
 
@@ -102,7 +101,7 @@ both_empty [] [] m n = refl
 both_empty [] (y ∷ ys) m n = absurd (omega (arith, n))
 both_empty (x ∷ xs) ys m n = absurd (omega (arith, m))
 
-module _ (width case : ℕ) (a b : Text) (tape before_a before_b : List ℕ) (r : Answers) (after_a after_b : List ℕ) (lays_out : LaysOutBoth a b tape width case before_a before_b r after_a after_b) where
+module _ (width case : ℕ) (a b : Text) (tape before_a before_b : List ℕ) (r : Answer × Answer) (after_a after_b : List ℕ) (lays_out : LaysOutBoth a b tape width case before_a before_b r after_a after_b) where
   abbrev x : Outcome
   x = outcome original width case a tape
 

@@ -29,7 +29,6 @@ use Rattle.layout.proofs.TwoCalls.{pair-for_layout}
 use Rattle.layout.proofs.TokenMaps.{places_count, map-count}
 use Rattle.layout.proofs.MapCalls.{map-cells_after}
 use Rattle.layout.proofs.Running.{kept, finish-none, finish-length}
-use Rattle.two_calls.specs.declared.Answers.{Answers}
 use Rattle.two_calls.specs.Both.{MapsBoth}
 use Rattle.acceptance.specs.Demands.{formatted}
 use Rattle.acceptance.specs.Requests.{last_line, two_per_token, first_bytes, Placed, TokenPlaces, MapsAlikeWhere, MapsMasked}
@@ -246,7 +245,7 @@ module _ (width case : ℕ) (text : Text) (tape before map_before : List ℕ) (r
 
 -- ── two calls
 
-module _ (width case : ℕ) (a b : Text) (tape before_a before_b map_before_a map_before_b : List ℕ) (r : Answers) (after_a after_b map_after_a map_after_b : List ℕ) (both : MapsBoth a b tape width case before_a before_b map_before_a map_before_b r after_a after_b map_after_a map_after_b) where
+module _ (width case : ℕ) (a b : Text) (tape before_a before_b map_before_a map_before_b : List ℕ) (r : Answer × Answer) (after_a after_b map_after_a map_after_b : List ℕ) (both : MapsBoth a b tape width case before_a before_b map_before_a map_before_b r after_a after_b map_after_a map_after_b) where
   abbrev cells_a : List ℕ → List ℕ → List Cell
   cells_a space map = map_cells_after (outcome original width case a tape) (numbers width case a tape) space map
 
@@ -284,8 +283,8 @@ module _ (width case : ℕ) (a b : Text) (tape before_a before_b map_before_a ma
   pub maps-masked : MapsMasked width case a b tape before_a before_b map_before_a map_before_b r after_a after_b map_after_a map_after_b
   maps-masked =
       record {
-        call_a = token-places width case a tape before_a map_before_a r.first after_a map_after_a both.first;
-        call_b = token-places width case b tape before_b map_before_b r.second after_b map_after_b both.second;
+        call_a = token-places width case a tape before_a map_before_a r.0 after_a map_after_a both.first;
+        call_b = token-places width case b tape before_b map_before_b r.1 after_b map_after_b both.second;
         alike = maps-alike_where (pair-for_layout width case a b tape) both.by_lines;
         ascii = maps-alike_where (λ k. pair-for_layout width case a b tape (ascii-pair width case a b tape k)) (λ k. both.by_lines (ascii-pair width case a b tape k));
         stronger = maps-alike_where (λ k. k.0) (λ k e m. let x = both.masked k.0 e m in (x.1.lines k.1, x.2 k.1));

@@ -8,15 +8,14 @@ use Rattle.desk_job.specs.Written.{written}
 use Rattle.desk_job.specs.Job.{Answered, printed_answer, decimal, field, pair, refused_line}
 use Rattle.book.specs.declared.Tally.{Tally}
 use Rattle.book.specs.declared.Reported.{Reported}
-use Rattle.book.specs.declared.open.Opened.{Opened}
-use Rattle.book.specs.declared.open.Opened.TheVariants.{Fault, Jobs}
-use Rattle.book.specs.Book.{walk, opened, jobs_from}
+use Rattle.std.specs.Prelude.{Result as Opened, Ok, Err}
+use Rattle.book.specs.declared.open.BookFault.{BookFault}
+use Rattle.book.specs.Book.{fault_number, fault_place, walk, opened, jobs_from}
 use Rattle.book.specs.Told.{told_of, answered_job, told_job}
 use Rattle.book.specs.Tally.{zeros, tallied}
 use Rattle.book.specs.Report.{Called, job_line, job_lines, total_line, report_of, reported}
 use Rattle.book.specs.Totals.{Totals}
 use Rattle.book.proofs.Totals.{totals}
-use Rattle.two_books.specs.declared.Reports.{Reports}
 use Rattle.two_books.specs.Both.{ReportsBoth}
 use Rattle.acceptance.specs.Requests.{LineOfJob, Puts, ReportOver, SameReport}
 
@@ -28,7 +27,7 @@ line-of_job n job =
       prints = λ out e. (ap printed_answer e, ap (λ (a : Answered). job_line n (told_of a)) e);
     }
 
-empty-opened : (more : Bool) (book : List ℕ) → more ≡ false → book ≡ [] → opened more book ≡ Jobs 0
+empty-opened : (more : Bool) (book : List ℕ) → more ≡ false → book ≡ [] → opened more book ≡ Ok 0
 unfolding opened walk
 empty-opened more book f e = rw (f, e)
 
@@ -39,34 +38,34 @@ zeros-line = refl
 module _ (more : Bool) (book : List ℕ) (held : Tally) (work before : List ℕ) (r : Reported) (after used : List ℕ)
     (h : ◌≡◌ {A = Called} (record { end = r.put; space = after; work = used; tally = r.tally }) (reported more book held work before)) where
   -- what is put, and the tally, by how the book opens
-  puts : (o : Opened) → opened more book ≡ o → Puts more book held before r after (report_of o book held work).lines
+  puts : (o : Opened ℕ BookFault) → opened more book ≡ o → Puts more book held before r after (report_of o book held work).lines
   unfolding reported
   puts o e =
       ap (λ (c : Called). record { end = c.end; space = c.space }) h
-      ∙ ap (λ (x : Opened). written 0 (report_of x book held work).lines before) e
+      ∙ ap (λ (x : Opened ℕ BookFault). written 0 (report_of x book held work).lines before) e
 
-  tally-by : (o : Opened) → opened more book ≡ o → r.tally ≡ (report_of o book held work).tally
+  tally-by : (o : Opened ℕ BookFault) → opened more book ≡ o → r.tally ≡ (report_of o book held work).tally
   unfolding reported
-  tally-by o e = ap (λ (c : Called). c.tally) h ∙ ap (λ (x : Opened). (report_of x book held work).tally) e
+  tally-by o e = ap (λ (c : Called). c.tally) h ∙ ap (λ (x : Opened ℕ BookFault). (report_of x book held work).tally) e
 
-  module _ (jobs : ℕ) (e : opened more book ≡ Jobs jobs) where
+  module _ (jobs : ℕ) (e : opened more book ≡ Ok jobs) where
     tally-is : r.tally ≡ tallied zeros (map told_job (jobs_from jobs book 0))
     unfolding report_of
-    tally-is = tally-by (Jobs jobs) e
+    tally-is = tally-by (Ok jobs) e
 
     lines-put : Puts more book held before r after (job_lines 1 (map told_job (jobs_from jobs book 0)) ++ total_line r.tally)
     unfolding report_of
     lines-put =
-        puts (Jobs jobs) e
+        puts (Ok jobs) e
         ∙ ap (λ (t : Tally). written 0 (job_lines 1 (map told_job (jobs_from jobs book 0)) ++ total_line t) before) (sym tally-is)
 
-  refusal-put : (n p : ℕ) → opened more book ≡ Fault n p → Puts more book held before r after (refused_line n p) × (r.tally ≡ held)
+  refusal-put : (f : BookFault) → opened more book ≡ Err f → Puts more book held before r after (refused_line (fault_number f) (fault_place f)) × (r.tally ≡ held)
   unfolding report_of
-  refusal-put n p e = (puts (Fault n p) e, tally-by (Fault n p) e)
+  refusal-put f e = (puts (Err f) e, tally-by (Err f) e)
 
-  empty-put : opened more book ≡ Jobs 0 → Puts more book held before r after (bytes "total jobs 0 refused 0 bytes 0 lines 0" ++ (10 ∷ []))
+  empty-put : opened more book ≡ Ok 0 → Puts more book held before r after (bytes "total jobs 0 refused 0 bytes 0 lines 0" ++ (10 ∷ []))
   unfolding report_of jobs_from job_lines tallied
-  empty-put e = puts (Jobs 0) e ∙ ap (λ (l : List ℕ). written 0 l before) zeros-line
+  empty-put e = puts (Ok 0) e ∙ ap (λ (l : List ℕ). written 0 l before) zeros-line
 
   pub report_over : ReportOver more book held before r after
   report_over =
@@ -78,12 +77,12 @@ module _ (more : Bool) (book : List ℕ) (held : Tally) (work before : List ℕ)
         empty = λ f e. empty-put (empty-opened more book f e);
       }
 
-pub same-report : {va vb : List ℕ} (more : Bool) (a b : List ℕ) (t : Tally) (wa wb xs us : List ℕ) (r : Reports) (ys zs : List ℕ)
+pub same-report : {va vb : List ℕ} (more : Bool) (a b : List ℕ) (t : Tally) (wa wb xs us : List ℕ) (r : Reported × Reported) (ys zs : List ℕ)
     → ReportsBoth more a b t wa wb xs us r va vb ys zs → SameReport more a b t xs us r ys zs
 same-report {va} {vb} more a b t wa wb xs us r ys zs h =
     record {
-      call_a = report_over more a t wa xs r.first ys va h.first;
-      call_b = report_over more b t wb us r.second zs vb h.second;
+      call_a = report_over more a t wa xs r.0 ys va h.first;
+      call_b = report_over more b t wb us r.1 zs vb h.second;
       put = λ m e. ap (λ (x : Reported). x.put) (h.masked m e).0;
       bytes = λ m e. (h.masked m e).1;
       tally = λ m e. ap (λ (x : Reported). x.tally) (h.masked m e).0;

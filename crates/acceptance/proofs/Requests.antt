@@ -13,8 +13,7 @@ use Rattle.basics.proofs.Same.{same-equal}
 use Rattle.keywords.specs.Names.{names}
 use Rattle.keywords.specs.Words.{bytes, capitals, next, place_of, same, word_of, words}
 use Rattle.keywords.specs.Walk.{first_equal}
-use Rattle.keywords.specs.declared.Place.{Place}
-use Rattle.keywords.specs.declared.Place.TheVariants.{At, Nowhere}
+use Rattle.std.specs.Prelude.{Option, Some, None}
 use Rattle.keywords.specs.declared.Word.{Word}
 use Rattle.keywords.specs.declared.Word.TheVariants.{Plain, Value, Keyword}
 use Rattle.keywords.proofs.Places.{placed_entry, same_self}
@@ -27,20 +26,19 @@ use Rattle.layout.specs.declared.Answer.{Answer}
 use Rattle.layout.specs.Layout.{original, format}
 use Rattle.layout.specs.Outcome.{answer, config_of, number_in, names_length}
 use Rattle.layout.proofs.OneLength.{named}
-use Rattle.two_calls.specs.declared.Answers.{Answers}
 use Rattle.two_calls.specs.Both.{LaysOutTwice}
 use Rattle.acceptance.specs.Demands.{formatted}
 use Rattle.acceptance.specs.Requests.{FirstAt, FirstEntry, SortOfWord, OneCall}
 use Rattle.acceptance.proofs.Demands.{was_laid, laid-answer, as_long}
 
-first-placed : (w : List ℕ) (list : List (List ℕ)) (i : ℕ) → FirstAt w list i → place_of w list ≡ At i
+first-placed : (w : List ℕ) (list : List (List ℕ)) (i : ℕ) → FirstAt w list i → place_of w list ≡ Some i
 unfolding place_of
 first-placed w [] i x = absurd (not-suc-le-zero x.inside)
 first-placed w (e ∷ es) zero x = rw (x.is, same_self w)
 first-placed w (e ∷ es) (suc i) x =
     go (same e w) refl (first-placed w es i (record { inside = le_of_suc-le-suc x.inside; is = x.is; first = λ j h. x.first (suc j) (omega (arith, h)) }))
   where
-    go : (b : Bool) → same e w ≡ b → place_of w es ≡ At i → cond b (At 0) (next (place_of w es)) ≡ At (suc i)
+    go : (b : Bool) → same e w ≡ b → place_of w es ≡ Some i → cond b (Some 0) (next (place_of w es)) ≡ Some (suc i)
     go true s h = absurd (x.first 0 (omega arith) (same-equal e w s))
     go false s h = ap next h
 
@@ -57,18 +55,18 @@ sort_of-word w r e =
     unlisted (Value i) h = absurd (false≢true (sym h))
     unlisted (Keyword i) h = absurd (false≢true (sym h))
 
-pub first_entry : (n : ℕ) (bytes : List ℕ) (r : Place) → r ≡ first_equal n bytes words → FirstEntry n bytes r
+pub first_entry : (n : ℕ) (bytes : List ℕ) (r : Option ℕ) → r ≡ first_equal n bytes words → FirstEntry n bytes r
 first_entry n bytes r e =
     record {
       first = λ l i x. e ∙ rw (le-leb n (length bytes) l) (first-placed (take n bytes) words i x);
       none = λ h. e ∙ go (leb n (length bytes)) (place_of (take n bytes) words) refl refl h;
     }
   where
-    go : (b : Bool) (p : Place) → leb n (length bytes) ≡ b → place_of (take n bytes) words ≡ p
-        → (n ≤ length bytes → (i : ℕ) → i < length words → get_or words i [] ≡ take n bytes → ⊥) → cond b p Nowhere ≡ Nowhere
+    go : (b : Bool) (p : Option ℕ) → leb n (length bytes) ≡ b → place_of (take n bytes) words ≡ p
+        → (n ≤ length bytes → (i : ℕ) → i < length words → get_or words i [] ≡ take n bytes → ⊥) → cond b p None ≡ None
     go false p l q h = refl
-    go true Nowhere l q h = refl
-    go true (At i) l q h = let x = placed_entry (take n bytes) words i q in absurd (h (leb→le n (length bytes) (rw l tt)) i x.inside x.is)
+    go true None l q h = refl
+    go true (Some i) l q h = let x = placed_entry (take n bytes) words i q in absurd (h (leb→le n (length bytes) (rw l tt)) i x.inside x.is)
 
 -- ── words of each sort, and an entry that stands in a list twice
 
@@ -88,18 +86,18 @@ plain-words : (word_of (bytes "selects") ≡ Plain) × (word_of (bytes "selec") 
 unfolding names words same place_of to_uppercase
 plain-words = (refl, refl, refl)
 
-twice : place_of (bytes "B") (bytes "A" ∷ bytes "B" ∷ bytes "B" ∷ []) ≡ At 1
+twice : place_of (bytes "B") (bytes "A" ∷ bytes "B" ∷ bytes "B" ∷ []) ≡ Some 1
 unfolding same place_of
 twice = refl
 
 -- ── E5
 
-module _ (width case : ℕ) (text : Text) (tape before_a before_b : List ℕ) (r : Answers) (after_a after_b : List ℕ) (twice : LaysOutTwice text tape width case before_a before_b r after_a after_b) where
+module _ (width case : ℕ) (text : Text) (tape before_a before_b : List ℕ) (r : Answer × Answer) (after_a after_b : List ℕ) (twice : LaysOutTwice text tape width case before_a before_b r after_a after_b) where
   -- the first call names the length of what `format` returns, with 0 or 13 by the space
   first-named : (t : Tree) (p : ℕ) → read_call width case text tape ≡ got t p
-      → r.first ≡ answer (number_in (length before_a) (length (formatted width case text t))) (length (formatted width case text t))
+      → r.0 ≡ answer (number_in (length before_a) (length (formatted width case text t))) (length (formatted width case text t))
   first-named t p e =
-      laid-answer width case text tape before_a r.first after_a twice.first (was_laid width case text tape t p e)
+      laid-answer width case text tape before_a r.0 after_a twice.first (was_laid width case text tape t p e)
       ∙ named (format original (config_of width case) text t) before_a
       ∙ ap (λ (n : ℕ). answer (number_in (length before_a) n) n) (sym (as_long width case text t))
 

@@ -15,7 +15,6 @@ use Rattle.layout.specs.Layout.{original, format}
 use Rattle.layout.specs.declared.Answer.{Answer}
 use Rattle.layout.specs.Outcome.{Result, answer, config_of, laid_out, outcome}
 use Rattle.layout.specs.Masking.{MaskedPair, AsciiPair, MaskedPairForLayout, SameLines, cells_after}
-use Rattle.two_calls.specs.declared.Answers.{Answers}
 
 -- what `format` returns for the tree
 abbrev pub formatted : ℕ → ℕ → Text → Tree → List ℕ
@@ -41,21 +40,21 @@ module _ (width case : ℕ) (text tape before : List ℕ) (r : Answer) (after : 
         × (after ≡ formatted width case text t ++ drop (length (formatted width case text t)) before)
 
 -- a call on each of two texts, with the same tree and settings; the output spaces hold before_a and before_b, and then after_a and after_b
-module _ (width case : ℕ) (a b : Text) (tape before_a before_b : List ℕ) (r : Answers) (after_a after_b : List ℕ) where
+module _ (width case : ℕ) (a b : Text) (tape before_a before_b : List ℕ) (r : Answer × Answer) (after_a after_b : List ℕ) where
   -- where the byte at i of the output space comes from
   abbrev pub origin_at : Text → List ℕ → ℕ → Origin
   origin_at text before i = (get_or (cells_after (outcome original width case text tape) before) i (fresh 0)).origin
 
   -- each call is the one that demands 1 and 2 speak of
   pub record EachCall : Type 0 where
-    pub call_a : ◌≡◌ {A = Result} (record { answer = r.first; space = after_a }) (laid_out (outcome original width case a tape) before_a)
-    pub call_b : ◌≡◌ {A = Result} (record { answer = r.second; space = after_b }) (laid_out (outcome original width case b tape) before_b)
+    pub call_a : ◌≡◌ {A = Result} (record { answer = r.0; space = after_a }) (laid_out (outcome original width case a tape) before_a)
+    pub call_b : ◌≡◌ {A = Result} (record { answer = r.1; space = after_b }) (laid_out (outcome original width case b tape) before_b)
 
   -- what follows where the texts differ only as a rule allows
   pub record AlikeWhere (Allowed : Type 0) : Type 0 where
     -- "Then measuring gives both texts the same answer, and so does layout, refused or not, the needed length included."
-    pub measures : Allowed → length before_a ≡ 0 → length before_b ≡ 0 → r.first ≡ r.second
-    pub lays_out : Allowed → before_a ≡ before_b → r.first ≡ r.second
+    pub measures : Allowed → length before_a ≡ 0 → length before_b ≡ 0 → r.0 ≡ r.1
+    pub lays_out : Allowed → before_a ≡ before_b → r.0 ≡ r.1
     -- "Afterwards the output spaces are alike at every byte but those copied from a masked place, and such a byte is copied from the same
     -- place in both."
     pub same_place : Allowed → before_a ≡ before_b → (i : ℕ) → origin_at a before_a i ≡ origin_at b before_b i

@@ -1,8 +1,6 @@
 -- The change requests of document 02, in its words, as promises about calls. E1 is in Demands, in the form that it gave demand 3.
-use Rattle.std.specs.Prelude.{◌≡◌, Bool, true, false, cond, List, [], ◌∷◌, ◌++◌, map, ℕ, suc, ◌+◌, ◌*◌, ◌≤◌, ◌<◌, length, get_or, take, drop, T, eqb}
+use Rattle.std.specs.Prelude.{◌≡◌, Bool, true, false, cond, List, [], ◌∷◌, ◌++◌, map, ℕ, suc, ◌+◌, ◌*◌, ◌≤◌, ◌<◌, length, get_or, take, drop, T, eqb, Option, Some, None, Ok, Err}
 use Rattle.keywords.specs.Words.{bytes, capitals, is_keyword, is_value_keyword, words}
-use Rattle.keywords.specs.declared.Place.{Place}
-use Rattle.keywords.specs.declared.Place.TheVariants.{At, Nowhere}
 use Rattle.keywords.specs.declared.Word.{Word}
 use Rattle.keywords.specs.declared.Word.TheVariants.{Plain, Value, Keyword}
 use Rattle.context.specs.Cells.{Text, Origin, from, Cell, count, fresh}
@@ -22,17 +20,15 @@ use Rattle.layout.specs.Outcome.{Result, answer, config_of, laid_out, names_leng
 use Rattle.layout.specs.TokenMap.{writes, places_from}
 use Rattle.layout.specs.Masking.{MaskedPair, AsciiPair, MaskedPairForLayout, SameLines}
 use Rattle.layout.specs.MapCall.{map_cells_after, numbers}
-use Rattle.two_calls.specs.declared.Answers.{Answers}
 use Rattle.desk_job.specs.Written.{Written, written}
 use Rattle.desk_job.specs.Job.{refused, text, answered, printed, decimal, pair, refused_line}
 use Rattle.book.specs.declared.Tally.{Tally}
 use Rattle.book.specs.declared.Reported.{Reported}
-use Rattle.book.specs.declared.open.Opened.TheVariants.{Fault, Jobs}
-use Rattle.book.specs.Book.{opened, jobs_from}
+use Rattle.book.specs.declared.open.BookFault.{BookFault}
+use Rattle.book.specs.Book.{fault_number, fault_place, opened, jobs_from}
 use Rattle.book.specs.Told.{told_job}
 use Rattle.book.specs.Report.{job_line, job_lines, total_line}
 use Rattle.book.specs.Totals.{Totals}
-use Rattle.two_books.specs.declared.Reports.{Reports}
 use Rattle.two_books.specs.MaskedBooks.{MaskedBooks}
 use Rattle.acceptance.specs.Demands.{formatted}
 
@@ -127,14 +123,14 @@ module _ (width case : ℕ) (text : Text) (tape before map_before : List ℕ) (r
 
 -- E3, of a call with a map on each of two texts; the output spaces hold before_a and before_b, and then after_a and after_b, the map spaces map_before_a and
 -- map_before_b, and then map_after_a and map_after_b
-module _ (width case : ℕ) (a b : Text) (tape before_a before_b map_before_a map_before_b : List ℕ) (r : Answers) (after_a after_b map_after_a map_after_b : List ℕ) where
+module _ (width case : ℕ) (a b : Text) (tape before_a before_b map_before_a map_before_b : List ℕ) (r : Answer × Answer) (after_a after_b map_after_a map_after_b : List ℕ) where
   -- where the byte at i of the output space comes from
   abbrev pub map_origin_at : Text → List ℕ → List ℕ → ℕ → Origin
   map_origin_at source before lent i = (get_or (map_cells_after (outcome original width case source tape) (numbers width case source tape) before lent) i (fresh 0)).origin
 
   -- "The masking rule covers the map too, for calls lent the same map space": what follows where the texts differ only as a rule allows
   pub record MapsAlikeWhere (Allowed : Type 0) : Type 0 where
-    pub answers : Allowed → before_a ≡ before_b → map_before_a ≡ map_before_b → r.first ≡ r.second
+    pub answers : Allowed → before_a ≡ before_b → map_before_a ≡ map_before_b → r.0 ≡ r.1
     pub same_place : Allowed → before_a ≡ before_b → map_before_a ≡ map_before_b → (i : ℕ) → map_origin_at a before_a map_before_a i ≡ map_origin_at b before_b map_before_b i
     pub alike : Allowed → before_a ≡ before_b → map_before_a ≡ map_before_b → (i : ℕ) → Agree a b (map_origin_at a before_a map_before_a i) → get_or after_a i 0 ≡ get_or after_b i 0
     pub lines : Allowed → before_a ≡ before_b → map_before_a ≡ map_before_b → SameLines after_a after_b
@@ -142,8 +138,8 @@ module _ (width case : ℕ) (a b : Text) (tape before_a before_b map_before_a ma
 
   pub record MapsMasked : Type 0 where
     -- each call is the one that `TokenPlaces` speaks of
-    pub call_a : TokenPlaces width case a tape before_a map_before_a r.first after_a map_after_a
-    pub call_b : TokenPlaces width case b tape before_b map_before_b r.second after_b map_after_b
+    pub call_a : TokenPlaces width case a tape before_a map_before_a r.0 after_a map_after_a
+    pub call_b : TokenPlaces width case b tape before_b map_before_b r.1 after_b map_after_b
     pub alike : MapsAlikeWhere (MaskedPair width case a b tape)
     -- for ASCII texts in demand 3's own words
     pub ascii : MapsAlikeWhere (AsciiPair width case a b tape)
@@ -152,22 +148,22 @@ module _ (width case : ℕ) (a b : Text) (tape before_a before_b map_before_a ma
 
 -- E4: "for any length and bytes it is handed, it answers the first entry equal to them, or none". Equal to them is an entry that is so many of the
 -- bytes; where there are fewer none is.
-pub record FirstEntry (n : ℕ) (bytes : List ℕ) (r : Place) : Type 0 where
-  pub first : n ≤ length bytes → (i : ℕ) → FirstAt (take n bytes) words i → r ≡ At i
-  pub none : (n ≤ length bytes → (i : ℕ) → i < length words → get_or words i [] ≡ take n bytes → ⊥) → r ≡ Nowhere
+pub record FirstEntry (n : ℕ) (bytes : List ℕ) (r : Option ℕ) : Type 0 where
+  pub first : n ≤ length bytes → (i : ℕ) → FirstAt (take n bytes) words i → r ≡ Some i
+  pub none : (n ≤ length bytes → (i : ℕ) → i < length words → get_or words i [] ≡ take n bytes → ⊥) → r ≡ None
 
 -- E5, for two calls on one input; the output spaces hold before_a and before_b, and then after_a and after_b
-pub record OneCall (width case : ℕ) (text : Text) (tape before_a before_b : List ℕ) (r : Answers) (after_a after_b : List ℕ) : Type 0 where
+pub record OneCall (width case : ℕ) (text : Text) (tape before_a before_b : List ℕ) (r : Answer × Answer) (after_a after_b : List ℕ) : Type 0 where
   -- each call is the one that demands 1 and 2 speak of
-  pub call_a : ◌≡◌ {A = Result} (record { answer = r.first; space = after_a }) (laid_out (outcome original width case text tape) before_a)
-  pub call_b : ◌≡◌ {A = Result} (record { answer = r.second; space = after_b }) (laid_out (outcome original width case text tape) before_b)
+  pub call_a : ◌≡◌ {A = Result} (record { answer = r.0; space = after_a }) (laid_out (outcome original width case text tape) before_a)
+  pub call_b : ◌≡◌ {A = Result} (record { answer = r.1; space = after_b }) (laid_out (outcome original width case text tape) before_b)
   -- "one call that gives the needed length in an accepted answer and in 13": it answers nothing else where 1 to 12, 15 and 16 let it pass, be the
   -- space of 0 bytes or of any other length
-  pub named : (t : Tree) (p : ℕ) → read_call width case text tape ≡ got t p → T (names_length r.first) × (r.first.value ≡ length (formatted width case text t))
+  pub named : (t : Tree) (p : ℕ) → read_call width case text tape ≡ got t p → T (names_length r.0) × (r.0.value ≡ length (formatted width case text t))
   -- "On one input, 13 and acceptance name the same length whatever the space."
-  pub same_length : T (names_length r.first) → T (names_length r.second) → r.first.value ≡ r.second.value
+  pub same_length : T (names_length r.0) → T (names_length r.1) → r.0.value ≡ r.1.value
   -- "A layout that needs 0 bytes is then accepted."
-  pub needs_none : (t : Tree) (p : ℕ) → read_call width case text tape ≡ got t p → length (formatted width case text t) ≡ 0 → r.first ≡ answer 0 0
+  pub needs_none : (t : Tree) (p : ℕ) → read_call width case text tape ≡ got t p → length (formatted width case text t) ≡ 0 → r.0 ≡ answer 0 0
 
 -- E6, of one job: "for job N from 1, `N bytes B lines L` or `N refused R at P`, each job answered as the first program answers it. Lines are bytes
 -- 10 in the output." The line of job n, beside what the first program prints for that job alone, with its output buffer of 65,536 bytes
@@ -186,21 +182,21 @@ module _ (more : Bool) (book : List ℕ) (held : Tally) (before : List ℕ) (r :
 
   pub record ReportOver : Type 0 where
     -- "only the line `refused N at P` is printed"; "a refused book leaves it as it was"
-    pub refuses : (n p : ℕ) → opened more book ≡ Fault n p → Puts (refused_line n p) × (r.tally ≡ held)
+    pub refuses : (f : BookFault) → opened more book ≡ Err f → Puts (refused_line (fault_number f) (fault_place f)) × (r.tally ≡ held)
     -- a line for each job, and "the last line"
-    pub prints : (jobs : ℕ) → opened more book ≡ Jobs jobs → Puts (job_lines 1 (map told_job (jobs_from jobs book 0)) ++ total_line r.tally)
+    pub prints : (jobs : ℕ) → opened more book ≡ Ok jobs → Puts (job_lines 1 (map told_job (jobs_from jobs book 0)) ++ total_line r.tally)
     pub each_job : (n : ℕ) (job : List ℕ) → LineOfJob n job (job_line n (told_job job))
     -- "S and T equal the sums of the B and L printed above it, K counts the refused lines and J all jobs"; "from zeros whatever it held"
-    pub totals : (jobs : ℕ) → opened more book ≡ Jobs jobs → Totals (map told_job (jobs_from jobs book 0)) r.tally
+    pub totals : (jobs : ℕ) → opened more book ≡ Ok jobs → Totals (map told_job (jobs_from jobs book 0)) r.tally
     -- "An empty book prints only the total line, all zeros."
     pub empty : more ≡ false → book ≡ [] → Puts (bytes "total jobs 0 refused 0 bytes 0 lines 0" ++ (10 ∷ []))
 
 -- E7: "Two books that differ only as the masking rule allows, in any number of jobs at the same time, must give the same report byte for byte",
 -- and the same tally; the output spaces hold before_a and before_b, and then after_a and after_b
-pub record SameReport (more : Bool) (a b : List ℕ) (held : Tally) (before_a before_b : List ℕ) (r : Reports) (after_a after_b : List ℕ) : Type 0 where
+pub record SameReport (more : Bool) (a b : List ℕ) (held : Tally) (before_a before_b : List ℕ) (r : Reported × Reported) (after_a after_b : List ℕ) : Type 0 where
   -- each call is the one that E6 speaks of
-  pub call_a : ReportOver more a held before_a r.first after_a
-  pub call_b : ReportOver more b held before_b r.second after_b
-  pub put : MaskedBooks more a b → before_a ≡ before_b → r.first.put ≡ r.second.put
+  pub call_a : ReportOver more a held before_a r.0 after_a
+  pub call_b : ReportOver more b held before_b r.1 after_b
+  pub put : MaskedBooks more a b → before_a ≡ before_b → r.0.put ≡ r.1.put
   pub bytes : MaskedBooks more a b → before_a ≡ before_b → after_a ≡ after_b
-  pub tally : MaskedBooks more a b → before_a ≡ before_b → r.first.tally ≡ r.second.tally
+  pub tally : MaskedBooks more a b → before_a ≡ before_b → r.0.tally ≡ r.1.tally

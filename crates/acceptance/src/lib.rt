@@ -10,7 +10,7 @@ ghost use Rattle.layout.specs.Outcome.{Result, laid_out, outcome};
 ghost use Rattle.book.specs.Report.{Called, reported};
 ghost use Rattle.desk_job.specs.Job.{printed};
 ghost use Rattle.desk_job.specs.Written.{Written, written};
-ghost use Rattle.qdesk.specs.TallyNumbers.{tally_of};
+ghost use Rattle.book.specs.Tally.{tally_of};
 ghost use Rattle.qdesk.specs.WordAnswer.{word_answer};
 ghost use Rattle.acceptance.specs.Requests.{FirstEntry, MapsMasked, OneCall, ReportOver, SameReport, SortOfWord, TokenPlaces};
 ghost use Rattle.acceptance.specs.Demands.{Demand1, Demand2, Demand3};
@@ -18,11 +18,11 @@ ghost use Rattle.acceptance.specs.Demands.{Demand1, Demand2, Demand3};
 use book::{Reported, Tally, report_from};
 use desk_job::print_job;
 use formatter::{layout, layout_map};
-use keywords::{Place, Word, is_word, walk, word_of};
+use keywords::{Word, is_word, walk, word_of};
 use layout::Answer;
 use qdesk::{qdesk_layout, qdesk_layout_map, qdesk_report, qdesk_word};
-use two_books::{Reports, report_both};
-use two_calls::{Answers, layout_both, layout_map_both, layout_twice};
+use two_books::report_both;
+use two_calls::{layout_both, layout_map_both, layout_twice};
 
 // Demand 1: bad input is refused with its number and place, nothing is written, and nothing else is refused.
 pub fn demand_1(text: &[u8], tape: &[u8], width: u64, case: u64, out: &mut [u8]) -> Answer
@@ -47,7 +47,7 @@ pub fn demand_3(
     case: u64,
     out_a: &mut [u8],
     out_b: &mut [u8],
-) -> Answers
+) -> (Answer, Answer)
     ensures { Demand3 width case a.now b.now tape.now out_a.old out_b.old result out_a.new out_b.new }
 {
     layout_both(a, b, tape, width, case, out_a, out_b)
@@ -99,7 +99,7 @@ pub fn request_3_masked(
     out_b: &mut [u8],
     map_a: &mut [u64],
     map_b: &mut [u64],
-) -> Answers
+) -> (Answer, Answer)
     ensures { MapsMasked width case a.now b.now tape.now out_a.old out_b.old map_a.old map_b.old result out_a.new out_b.new map_a.new map_b.new }
 {
     layout_map_both(a, b, tape, width, case, out_a, out_b, map_a, map_b)
@@ -120,7 +120,7 @@ pub fn c_layout_map(
 }
 
 // E4: the first entry of the list that is equal to a length and bytes, whatever they are, or none.
-pub fn request_4(length: usize, bytes: &[u8]) -> Place
+pub fn request_4(length: usize, bytes: &[u8]) -> Option<usize>
     ensures { FirstEntry length bytes.now result }
 {
     walk(length, bytes)
@@ -134,7 +134,7 @@ pub fn request_5(
     case: u64,
     out_a: &mut [u8],
     out_b: &mut [u8],
-) -> Answers
+) -> (Answer, Answer)
     ensures { OneCall width case text.now tape.now out_a.old out_b.old result out_a.new out_b.new }
 {
     layout_twice(text, tape, width, case, out_a, out_b)
@@ -177,7 +177,7 @@ pub fn request_7(
     work_b: &mut [u8; 65536],
     out_a: &mut [u8],
     out_b: &mut [u8],
-) -> Reports
+) -> (Reported, Reported)
     ensures { SameReport more a.now b.now tally out_a.old out_b.old result out_a.new out_b.new }
 {
     report_both(a, b, more, tally, work_a, work_b, out_a, out_b)

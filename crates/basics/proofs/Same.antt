@@ -7,6 +7,7 @@ use native.Mathlib.Numerals.{add-one}
 use borrow.Author.Tests.{eqb-true}
 use lib.Dec.{T, eqb}
 use lib.ListN.{length, drop, get_or}
+use lib.Pointwise.{pointwise}
 use lib.Seq.{drop-cons}
 use Rattle.basics.specs.Bytes.{same}
 
@@ -47,3 +48,11 @@ same-equal (x ∷ xs) (y ∷ ys) h =
     let q = eqb-true x y p.0 in
     let r = same-equal xs ys p.1 in
     cc
+
+-- the library's equality of lists
+pub same-pointwise : (xs ys : List ℕ) → same xs ys ≡ pointwise eqb xs ys
+unfolding same
+same-pointwise [] [] = refl
+same-pointwise [] (y ∷ ys) = refl
+same-pointwise (x ∷ xs) [] = refl
+same-pointwise (x ∷ xs) (y ∷ ys) = ap (λ t. eqb x y && t) (same-pointwise xs ys)

@@ -1,164 +1,130 @@
--- What holds each time the call's loop is reached.
-use mathlib.Core.Path.{◌≡◌, refl, sym, ap, subst, ◌∙◌}
-use mathlib.Core.Bool.{Bool, true, false, cond}
-use mathlib.Core.List.{List}
-use Prim.Native.Nat.{ℕ, zero, suc, ◌+◌, ◌-◌, ◌≤◌, ◌<◌}
-use native.Mathlib.Numerals.{sub-one}
+-- What holds each time the call's loop is reached, and what the call leaves.
+use mathlib.Core.Path.{◌≡◌, refl, sym, ap, ◌∙◌}
+use mathlib.Core.Bool.{Bool, true}
+use mathlib.Core.List.{List, [], ◌∷◌, ◌++◌, map, append_assoc}
+use Prim.Native.Nat.{ℕ, zero, suc, ◌+◌, ◌-◌, ◌<◌, ◌≤◌}
 use native.Mathlib.Omega.{arith}
 use lib.ListN.{length}
-use lib.Dec.{leb, ltb}
-use borrow.Author.Tests.{ltb-false}
+use Rattle.std.specs.Prelude.{Result, Ok}
+use Rattle.desk_job.specs.declared.write.Writer.{Writer}
+use Rattle.desk_job.specs.Puts.{Puts}
 use Rattle.desk_job.specs.Written.{Written}
-use Rattle.desk_job.proofs.Writing.{within, same_length-of}
+use Rattle.desk_job.proofs.Writing.{Wrote, within, puts_nothing, puts_then}
 use Rattle.book.specs.declared.Tally.{Tally}
 use Rattle.book.specs.declared.Run.{Run}
-use Rattle.book.specs.declared.open.Opened.{Opened}
-use Rattle.book.specs.declared.open.Opened.TheVariants.{Fault, Jobs}
-use Rattle.book.specs.Book.{job_end, is_whole, walk, opened}
-use Rattle.desk_job.specs.Job.{refused_line}
-use Rattle.book.specs.Report.{Called, reported}
-use Rattle.book.specs.Steps.{Begun, begun, Step, stepped, finished, all_whole, Ready}
-use Rattle.book.proofs.Stepping.{ready_next, within-next, length-next}
-use Rattle.book.proofs.Reporting.{turns, all-turns}
+use Rattle.book.specs.declared.open.BookFault.{BookFault}
+use Rattle.book.specs.Book.{job_at, job_end, is_whole, jobs_from, opened}
+use Rattle.book.specs.Told.{Told, answered_job, telling, told_job}
+use Rattle.book.specs.Tally.{zeros, with_job, tallied}
+use Rattle.book.specs.Report.{Called, Report, job_line, total_line, job_lines, work_after, report_of, reported}
+use Rattle.book.specs.Steps.{all_whole, Counted, Ready, Stepped}
+use Rattle.book.proofs.Stepping.{jobs-with, counted-next, first-whole, rest_whole}
+use Rattle.book.proofs.Walking.{walked}
 
--- ── the jobs that the walk counts stand whole
+-- what has been put and counted so far, and what these jobs add to it, is the report
+pub record OnTheWay (report : Report) (jobs : List (List ℕ)) (t : Tally) (work put : List ℕ) : Type 0 where
+  pub lines : put ++ (job_lines (t.jobs + 1) (map told_job jobs) ++ total_line (tallied t (map told_job jobs))) ≡ report.lines
+  pub total : tallied t (map told_job jobs) ≡ report.tally
+  pub used : work_after jobs work ≡ report.work
 
--- from `at` on, behind n jobs, with so many more allowed
-pub record Counted (more : ℕ) (book : List ℕ) (at n count : ℕ) : Type 0 where
-  pub behind : n ≤ count
-  pub allowed : count ≤ n + more
-  pub whole : all_whole (count - n) book at ≡ true
+-- with so many of the jobs done; the writer began as `start`
+pub record Fine (book : List ℕ) (report : Report) (count done : ℕ) (start : Writer) (run : Run) (lent : Tally) (work : List ℕ) (out : Writer) : Type 0 where
+  pub raised : lent ≡ run.tally
+  pub counted : Counted done run.tally
+  pub whole : all_whole (count - done) book run.at ≡ true
+  pub put : List ℕ
+  pub puts : Puts start put out
+  pub way : OnTheWay report (jobs_from (count - done) book run.at) run.tally work put
 
-abbrev count_of : Opened → ℕ
-count_of (Fault n p) = 0
-count_of (Jobs count) = count
+module _ (more : Bool) (book : List ℕ) (t : Tally) (bench : List ℕ) where
+  pub fine_begun : (count : ℕ) (z : Tally) (start : Writer) → opened more book ≡ Ok count → z ≡ zeros
+      → Fine book (report_of (Ok count) book t bench) count 0 start (record { at = 0; tally = z }) z bench start
+  unfolding report_of
+  fine_begun count z start e f =
+      let n : count - 0 ≡ count = omega arith in
+      rw f (record {
+        raised = refl;
+        counted = record { jobs = omega arith; refused = omega arith; bytes = omega arith; lines = omega arith };
+        whole = rw n (walked more book count e).whole;
+        put = [];
+        puts = puts_nothing start;
+        way = rw n (record { lines = refl; total = refl; used = refl });
+      })
 
-abbrev IsJobs : Opened → Type 0
-IsJobs (Fault n p) = ⊥
-IsJobs (Jobs count) = Unit
+-- one job's line, and the others', which go on from the next number
+lines_after : (t : Tally) (told : Told) (rest : List Told) (ps end : List ℕ)
+    → (ps ++ job_line (t.jobs + 1) told) ++ (job_lines ((with_job t told).jobs + 1) rest ++ end) ≡ ps ++ (job_lines (t.jobs + 1) (told ∷ rest) ++ end)
+unfolding job_lines
+lines_after t told rest ps end =
+    append_assoc ps (job_line (t.jobs + 1) told) (job_lines ((with_job t told).jobs + 1) rest ++ end)
+    ∙ ap (λ (l : List ℕ). ps ++ l) (sym (append_assoc (job_line (t.jobs + 1) told) (job_lines ((with_job t told).jobs + 1) rest) end)
+    ∙ ap (λ (n : ℕ). (job_line (t.jobs + 1) told ++ job_lines (n + 1) rest) ++ end) (jobs-with t told))
 
-none-whole : (k : ℕ) (book : List ℕ) (at : ℕ) → k ≡ 0 → all_whole k book at ≡ true
-unfolding all_whole
-none-whole zero book at e = refl
-none-whole (suc k) book at e = absurd (omega (arith, e))
+-- one job less
+way_next : (report : Report) (book : List ℕ) (k : ℕ) (run : Run) (work put : List ℕ) → OnTheWay report (jobs_from (suc k) book run.at) run.tally work put
+    → OnTheWay report (jobs_from k book (job_end book run.at)) (with_job run.tally (told_job (job_at book run.at))) (telling (answered_job (job_at book run.at)) work).work
+    (put ++ job_line (run.tally.jobs + 1) (told_job (job_at book run.at)))
+unfolding jobs_from tallied work_after
+way_next report book k run work put w =
+    let rest = map told_job (jobs_from k book (job_end book run.at)) in
+    record {
+      lines = lines_after run.tally (told_job (job_at book run.at)) rest put (total_line (tallied (with_job run.tally (told_job (job_at book run.at))) rest)) ∙ w.lines;
+      total = w.total;
+      used = w.used;
+    }
 
-more-whole : (k : ℕ) (book : List ℕ) (at : ℕ) → 0 < k → is_whole book at ≡ true → all_whole (k - 1) book (job_end book at) ≡ true → all_whole k book at ≡ true
-unfolding all_whole
-more-whole zero book at l h g = absurd (omega (arith, l))
-more-whole (suc k) book at l h g = rw h (rw (sub-one) at g)
+module _ {book : List ℕ} {report : Report} {count done : ℕ} {start out : Writer} {run : Run} {lent : Tally} {work : List ℕ} (f : Fine book report count done start run lent work out) (l : done < count) where
+  here-whole : is_whole book run.at ≡ true
+  here-whole = first-whole (count - done) book run.at (omega (arith, l)) f.whole
 
-ended : (more : ℕ) (book : List ℕ) (at n count : ℕ) → Jobs n ≡ Jobs count → Counted more book at n count
-ended more book at n count e =
-    let c : n ≡ count = ap count_of e in
-    record { behind = omega (arith, c); allowed = omega (arith, c); whole = none-whole (count - n) book at (omega (arith, c)) }
-
-last : (end whole : Bool) (book : List ℕ) (at n count : ℕ) → cond end (Jobs n) (cond whole (Fault 19 at) (Fault 18 at)) ≡ Jobs count → Counted 0 book at n count
-last true whole book at n count e = ended 0 book at n count e
-last false true book at n count e = absurd (subst IsJobs (sym e) tt)
-last false false book at n count e = absurd (subst IsJobs (sym e) tt)
-
-one_more : (more : ℕ) (end whole : Bool) (rest : Opened) (book : List ℕ) (at n count : ℕ) → is_whole book at ≡ whole → (rest ≡ Jobs count → Counted more book (job_end book at) (n + 1) count)
-    → cond end (Jobs n) (cond whole rest (Fault 18 at)) ≡ Jobs count → Counted (suc more) book at n count
-one_more more true whole rest book at n count w f e = ended (suc more) book at n count e
-one_more more false false rest book at n count w f e = absurd (subst IsJobs (sym e) tt)
-one_more more false true rest book at n count w f e =
-    let r = f e in
-    let s : count - n - 1 ≡ count - (n + 1) = omega arith in
-    record { behind = omega (arith, r.behind); allowed = omega (arith, r.allowed); whole = more-whole (count - n) book at (omega (arith, r.behind)) w (rw s r.whole) }
-
-counted : (more : ℕ) (book : List ℕ) (at n count : ℕ) → walk more book at n ≡ Jobs count → Counted more book at n count
-unfolding walk
-counted zero book at n count e = last (leb (length book) at) (is_whole book at) book at n count e
-counted (suc more) book at n count e =
-    one_more more (leb (length book) at) (is_whole book at) (walk more book (job_end book at) (n + 1)) book at n count refl (counted more book (job_end book at) (n + 1) count) e
-
--- a book that is not refused is not too long
-pub record Walked (book : List ℕ) (count : ℕ) : Type 0 where
-  pub short : length book ≤ 65536
-  pub few : count ≤ 256
-  pub whole : all_whole count book 0 ≡ true
-
-opened-at : (m b : Bool) (book : List ℕ) (count : ℕ) → ltb 65536 (length book) ≡ b → cond m (Fault 18 65536) (cond b (Fault 18 65536) (walk 256 book 0 0)) ≡ Jobs count → Walked book count
-opened-at true b book count l e = absurd (subst IsJobs (sym e) tt)
-opened-at false true book count l e = absurd (subst IsJobs (sym e) tt)
-opened-at false false book count l e =
-    let c = counted 256 book 0 0 count e in
-    let z : count - 0 ≡ count = omega arith in
-    record { short = ltb-false 65536 (length book) l; few = omega (arith, c.allowed); whole = rw z at c.whole }
-
-pub walked : (more : Bool) (book : List ℕ) (count : ℕ) → opened more book ≡ Jobs count → Walked book count
-unfolding opened
-walked more book count e = opened-at more (ltb 65536 (length book)) book count refl e
-
--- ── each time the loop is reached
-
--- what the call has put and counted so far is on the way to what it promises of the book and of what it was lent
-pub record Fine (more : Bool) (book : List ℕ) (lent : Tally) (bench start : List ℕ) (step : Step) (t : Tally) : Type 0 where
-  pub ready : 0 < step.run.left → Ready book step.run t step.space
-  pub within : step.run.put ≤ length step.space
-  pub long : length step.space ≡ length start
-  pub told : turns step.run.left book step.run t step.work step.space ≡ reported more book lent bench start
-
-module _ (more : Bool) (book : List ℕ) (lent : Tally) (bench start : List ℕ) where
-  begun-ready : (o : Opened) → opened more book ≡ o → 0 < (begun o lent start).run.left → Ready book (begun o lent start).run (begun o lent start).run.tally (begun o lent start).space
-  unfolding begun
-  begun-ready (Fault n p) e l = absurd (omega (arith, l))
-  begun-ready (Jobs count) e l =
+  pub ready : (more : Bool) → opened more book ≡ Ok count → Ready book run
+  ready more e =
       let w = walked more book count e in
-      record { some = l; short = w.short; whole = w.whole; within = omega arith; jobs = omega (arith, w.few); refused = omega arith; bytes = omega arith; lines = omega arith }
+      let n : done ≤ 255 = omega (arith, l, w.few) in
+      let c = f.counted in
+      record {
+        short = w.short;
+        whole = here-whole;
+        counted = record { jobs = omega (arith, c.jobs, n); refused = c.refused; bytes = c.bytes; lines = c.lines };
+      }
 
-  begun-within : (o : Opened) → (begun o lent start).run.put ≤ length (begun o lent start).space
-  unfolding begun
-  begun-within (Fault n p) = within 0 (refused_line n p) start refl
-  begun-within (Jobs count) = omega arith
+  pub fine_next : {next : Run} {used : List ℕ} {after : Writer} → Stepped book run work out next used after → Fine book report count (done + 1) start next next.tally used after
+  fine_next {next} {used} {after} s =
+      let e : count - done ≡ suc (count - (done + 1)) = omega (arith, l) in
+      let m : count - done - 1 ≡ count - (done + 1) = omega arith in
+      record {
+        raised = refl;
+        counted = rw s.tally (counted-next done run.tally f.counted (job_at book run.at));
+        whole = rw (s.at, ← m) (rest_whole (count - done) book run.at (omega (arith, l)) f.whole);
+        put = f.put ++ job_line (run.tally.jobs + 1) (told_job (job_at book run.at));
+        puts = puts_then f.puts s.line;
+        way = rw (s.at, s.tally, s.laid_out) (way_next report book (count - (done + 1)) run work f.put (rw e at f.way));
+      }
 
-  begun-long : (o : Opened) → length (begun o lent start).space ≡ length start
-  unfolding begun
-  begun-long (Fault n p) = same_length-of 0 (refused_line n p) start refl
-  begun-long (Jobs count) = refl
+-- at the end the total is put
+way_end : (report : Report) (book : List ℕ) (k at : ℕ) (t : Tally) (work put : List ℕ) → k ≡ 0 → OnTheWay report (jobs_from k book at) t work put
+    → (put ++ total_line t ≡ report.lines) × (t ≡ report.tally) × (work ≡ report.work)
+unfolding jobs_from tallied work_after job_lines
+way_end report book zero at t work put z w = (w.lines, w.total, w.used)
+way_end report book (suc k) at t work put z w = absurd (omega (arith, z))
 
-  -- the first time, with the working space as it was lent
-  abbrev pub first : Begun → Step
-  first b = record { run = b.run; work = bench; space = b.space }
+module _ (more : Bool) (book : List ℕ) (t : Tally) (work space : List ℕ) where
+  -- what the call leaves, by how the book opens
+  pub called : (o : Result ℕ BookFault) → opened more book ≡ o → (n : ℕ) (out used : List ℕ) (lent : Tally) → Wrote n out 0 (report_of o book t work).lines space
+      → used ≡ (report_of o book t work).work → lent ≡ (report_of o book t work).tally
+      → ◌≡◌ {A = Called} (record { end = n; space = out; work = used; tally = lent }) (reported more book t work space)
+  unfolding reported
+  called o e n out used lent w u l =
+      rw (e, u, l) (ap (λ (x : Written). record { end = x.end; space = x.space; work = (report_of o book t work).work; tally = (report_of o book t work).tally }) w)
 
-  pub fine_begun : (b : Begun) → b ≡ begun (opened more book) lent start → Fine more book lent bench start (first b) b.run.tally
-  fine_begun b e = subst (λ (z : Begun). Fine more book lent bench start (first z) z.run.tally) (sym e) (record {
-    ready = begun-ready (opened more book) refl;
-    within = begun-within (opened more book);
-    long = begun-long (opened more book);
-    told = all-turns more book lent bench start;
-  })
+pub fine_end : {book : List ℕ} {report : Report} {count done : ℕ} {start out after : Writer} {run : Run} {lent : Tally} {work : List ℕ} → Fine book report count done start run lent work out
+    → count ≤ done → Puts out (total_line run.tally) after → Puts start report.lines after × (work ≡ report.work) × (lent ≡ report.tally)
+fine_end {book} {report} {count} {done} {start} {out} {after} {run} {lent} {work} f l p =
+    let w = way_end report book (count - done) run.at run.tally work f.put (omega (arith, l)) f.way in
+    (rw w.0 at (puts_then f.puts p), w.2, f.raised ∙ w.1)
 
-  turns_next : (k : ℕ) (run : Run) (t : Tally) (work space : List ℕ) → 0 < k
-      → turns k book run t work space ≡ turns (k - 1) book (stepped book run t work space).run (stepped book run t work space).run.tally (stepped book run t work space).work (stepped book run t work space).space
-  unfolding turns
-  turns_next zero run t work space l = absurd (omega (arith, l))
-  turns_next (suc k) run t work space l = rw (sub-one)
-
-  left-next : (run : Run) (t : Tally) (work space : List ℕ) → (stepped book run t work space).run.left ≡ run.left - 1
-  unfolding stepped
-  left-next run t work space = refl
-
-  module _ (step : Step) (t : Tally) (f : Fine more book lent bench start step t) (some : 0 < step.run.left) (s : Step) (e : s ≡ stepped book step.run t step.work step.space) where
-    pub fine_next : Fine more book lent bench start s s.run.tally
-    fine_next = subst (λ (z : Step). Fine more book lent bench start z z.run.tally) (sym e) (record {
-      ready = ready_next book step.run t step.space (f.ready some) step.work;
-      within = within-next book step.run t step.space (f.ready some) step.work;
-      long = length-next book step.run t step.space (f.ready some) step.work ∙ f.long;
-      told = rw (left-next step.run t step.work step.space) (sym (turns_next step.run.left step.run t step.work step.space some) ∙ f.told);
-    })
-
-    pub fewer : s.run.left < step.run.left
-    fewer = let l : s.run.left ≡ step.run.left - 1 = ap (λ (z : Step). z.run.left) e ∙ left-next step.run t step.work step.space in omega (arith, l, some)
-
-  at-end : (k : ℕ) (run : Run) (t : Tally) (work space : List ℕ) → k ≡ 0 → turns k book run t work space ≡ record { end = (finished run t space).end; space = (finished run t space).space; work = work; tally = t }
-  unfolding turns
-  at-end zero run t work space z = refl
-  at-end (suc k) run t work space z = absurd (omega (arith, z))
-
-  pub fine_end : (step : Step) (t : Tally) → Fine more book lent bench start step t → step.run.left ≡ 0 → (end : ℕ) (out : List ℕ)
-      → ◌≡◌ {A = Written} (record { end = end; space = out }) (finished step.run t step.space)
-      → ◌≡◌ {A = Called} (record { end = end; space = out; work = step.work; tally = t }) (reported more book lent bench start)
-  fine_end step t f z end out w =
-      ap (λ (p : Written). record { end = p.end; space = p.space; work = step.work; tally = t }) w
-      ∙ sym (at-end step.run.left step.run t step.work step.space z) ∙ f.told
+-- the bytes put lie within the space
+pub put-within : (more : Bool) (book : List ℕ) (t : Tally) (work space : List ℕ) (c : Called) → c ≡ reported more book t work space → c.end ≤ length c.space
+unfolding reported
+put-within more book t work space c e =
+    within 0 (report_of (opened more book) book t work).lines space (ap (λ (x : Called). record { end = x.end; space = x.space }) e)

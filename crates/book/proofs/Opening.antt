@@ -7,7 +7,8 @@ use native.Mathlib.Omega.{arith}
 use lib.ListN.{length, get_or}
 use lib.Dec.{leb, eqb}
 use borrow.Author.Tests.{leb-true, le-leb, lt-leb, le-ltb}
-use Rattle.book.specs.declared.open.Opened.TheVariants.{Fault, Jobs}
+use Rattle.std.specs.Prelude.{Ok, Err}
+use Rattle.book.specs.declared.open.BookFault.TheVariants.{NotWhole, TooMany}
 use Rattle.book.specs.Book.{job_end, is_whole, walk, opened}
 
 pub first-true : (a b : Bool) → (a && b) ≡ true → a ≡ true
@@ -35,18 +36,18 @@ job_after book at = omega arith
 
 -- one step of the walk
 module _ (book : List ℕ) (at n : ℕ) where
-  pub walk_end : (more : ℕ) → length book ≤ at → walk more book at n ≡ Jobs n
+  pub walk_end : (more : ℕ) → length book ≤ at → walk more book at n ≡ Ok n
   unfolding walk
   walk_end zero l = simp (le-leb (length book) at l)
   walk_end (suc more) l = simp (le-leb (length book) at l)
 
   module _ (l : at < length book) where
-    pub walk-18 : (more : ℕ) → is_whole book at ≡ false → walk more book at n ≡ Fault 18 at
+    pub walk-18 : (more : ℕ) → is_whole book at ≡ false → walk more book at n ≡ Err (NotWhole at)
     unfolding walk
     walk-18 zero w = simp (lt-leb (length book) at l, w)
     walk-18 (suc more) w = simp (lt-leb (length book) at l, w)
 
-    pub walk-19 : is_whole book at ≡ true → walk 0 book at n ≡ Fault 19 at
+    pub walk-19 : is_whole book at ≡ true → walk 0 book at n ≡ Err (TooMany at)
     unfolding walk
     walk-19 w = simp (lt-leb (length book) at l, w)
 
@@ -56,7 +57,7 @@ module _ (book : List ℕ) (at n : ℕ) where
 
 -- the loop: it is full with 256 jobs, and else one job less is allowed
 module _ (book : List ℕ) (at n : ℕ) (l : at < length book) (w : is_whole book at ≡ true) where
-  pub loop_full : n ≡ 256 → walk (256 - n) book at n ≡ Fault 19 at
+  pub loop_full : n ≡ 256 → walk (256 - n) book at n ≡ Err (TooMany at)
   loop_full e = let z : 256 - n ≡ 0 = omega (arith, e) in rw z (walk-19 book at n l w)
 
   pub loop_next : n < 256 → walk (256 - n) book at n ≡ walk (256 - (n + 1)) book (job_end book at) (n + 1)

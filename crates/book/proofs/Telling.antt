@@ -11,7 +11,7 @@ use Rattle.layout.specs.declared.Answer.{Answer}
 use Rattle.layout.specs.Outcome.{Result}
 use Rattle.desk_job.specs.Job.{Answered, refused, text, answered, leaves, read_header}
 use Rattle.desk_job.proofs.Printing.{Fits, answer-fits}
-use Rattle.book.specs.declared.told.Told.TheVariants.{Refused, LaidOut}
+use Rattle.std.specs.Prelude.{Ok, Err}
 use Rattle.book.specs.Told.{Telling, telling, told_of, told_job, answered_job}
 use Rattle.book.specs.Tally.{bytes_told, lines_told}
 
@@ -53,18 +53,18 @@ front (b ∷ bs) rest = ap (λ (r : List ℕ). b ∷ r) (front bs rest)
 
 module _ (r : Answer) (work out : List ℕ) where
   pub told-refusal : (a : Answered) → ◌≡◌ {A = Result} (record { answer = r; space = out }) (leaves a work) → (r.number ≡ 0 → ⊥)
-      → ◌≡◌ {A = Telling} (record { told = Refused r.number r.value; work = out }) (telling a work)
+      → ◌≡◌ {A = Telling} (record { told = Err (record { number = r.number; place = r.value }); work = out }) (telling a work)
   unfolding leaves told_of telling
-  told-refusal (refused n p) h z = ap (λ (x : Result). record { told = Refused x.answer.number x.answer.value; work = x.space }) h
+  told-refusal (refused n p) h z = ap (λ (x : Result). record { told = Err (record { number = x.answer.number; place = x.answer.value }); work = x.space }) h
   told-refusal (text bs) h z = absurd (z (ap (λ (x : Result). x.answer.number) h))
 
   pub told_text : (room : ℕ) (a : Answered) → Fits a room → ◌≡◌ {A = Result} (record { answer = r; space = out }) (leaves a work) → r.number ≡ 0 → (n : ℕ) → n ≡ count 10 (take r.value out)
-      → ◌≡◌ {A = Telling} (record { told = LaidOut r.value n; work = out }) (telling a work)
+      → ◌≡◌ {A = Telling} (record { told = Ok (record { bytes = r.value; lines = n }); work = out }) (telling a work)
   unfolding leaves told_of telling
   told_text room (refused n p) f h z m e = let k : r.number ≡ n = ap (λ (x : Result). x.answer.number) h in absurd (omega (arith, k, z, f))
   told_text room (text bs) f h z m e =
       let c = e ∙ ap (λ (x : Result). count 10 (take x.answer.value x.space)) h ∙ ap (count 10) (front bs (drop (length bs) work)) in
-      λ i. record { told = LaidOut (h i).answer.value (c i); work = (h i).space }
+      λ i. record { told = Ok (record { bytes = (h i).answer.value; lines = c i }); work = (h i).space }
 
   -- what is laid out ends within the space
   pub text-within : (room : ℕ) (a : Answered) → Fits a room → ◌≡◌ {A = Result} (record { answer = r; space = out }) (leaves a work) → r.number ≡ 0 → r.value ≤ length out

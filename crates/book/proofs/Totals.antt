@@ -5,16 +5,16 @@ use Prim.Native.Nat.{◌+◌}
 use native.Mathlib.Omega.{arith}
 use lib.ListN.{length}
 use Rattle.book.specs.declared.Tally.{Tally}
-use Rattle.book.specs.declared.told.Told.{Told}
-use Rattle.book.specs.declared.told.Told.TheVariants.{Refused, LaidOut}
+use Rattle.std.specs.Prelude.{Ok, Err}
+use Rattle.book.specs.Told.{Told}
 use Rattle.book.specs.Tally.{zeros, with_job, tallied, bytes_told, lines_told}
 use Rattle.book.specs.Totals.{sum, refused_told, Totals}
 use Rattle.book.proofs.Stepping.{jobs-with, bytes-with, lines-with}
 
 refused-with : (t : Tally) (o : Told) → (with_job t o).refused ≡ t.refused + refused_told o
 unfolding with_job
-refused-with t (Refused n p) = refl
-refused-with t (LaidOut b l) = omega arith
+refused-with t (Err r) = refl
+refused-with t (Ok o) = omega arith
 
 -- raised by these jobs, number by number
 record Raised (t : Tally) (told : List Told) (u : Tally) : Type 0 where

@@ -12,16 +12,14 @@ use Rattle.desk_job.specs.Job.{decimal, field, pair, refused_line}
 use Rattle.desk_job.specs.Written.{written}
 use Rattle.desk_job.proofs.Printing.{splice_front}
 use Rattle.book.specs.declared.Tally.{Tally}
-use Rattle.book.specs.declared.told.Told.{Told}
-use Rattle.book.specs.declared.told.Told.TheVariants.{Refused, LaidOut}
-use Rattle.book.specs.declared.open.Opened.{Opened}
-use Rattle.book.specs.declared.open.Opened.TheVariants.{Fault, Jobs}
-use Rattle.book.specs.Book.{job_end, opened, jobs_from}
-use Rattle.book.specs.Told.{told_job}
+use Rattle.std.specs.Prelude.{Result, Ok, Err}
+use Rattle.book.specs.declared.open.BookFault.{BookFault}
+use Rattle.book.specs.Book.{fault_number, fault_place, job_end, opened, jobs_from}
+use Rattle.book.specs.Told.{Told, told_job}
 use Rattle.book.specs.Tally.{zeros, tallied}
 use Rattle.book.specs.Report.{job_line, total_line, job_lines, report_of, reported}
 use Rattle.book.specs.WholeReport.{longest, lines, Holds, HoldsEveryReport}
-use Rattle.book.proofs.Looping.{walked}
+use Rattle.book.proofs.Walking.{walked}
 
 -- ── numbers and labels
 
@@ -53,10 +51,10 @@ pair-length first second x y =
 
 job_line_lem : (n : ℕ) (told : Told) → length (job_line n told) ≤ 75
 unfolding job_line
-job_line_lem n (Refused r p) =
-    omega (arith, length-append (decimal 20 n) (pair (bytes " refused ") r (bytes " at ") p), digits 20 n, pair-length (bytes " refused ") (bytes " at ") r p)
-job_line_lem n (LaidOut b l) =
-    omega (arith, length-append (decimal 20 n) (pair (bytes " bytes ") b (bytes " lines ") l), digits 20 n, pair-length (bytes " bytes ") (bytes " lines ") b l)
+job_line_lem n (Err r) =
+    omega (arith, length-append (decimal 20 n) (pair (bytes " refused ") r.number (bytes " at ") r.place), digits 20 n, pair-length (bytes " refused ") (bytes " at ") r.number r.place)
+job_line_lem n (Ok o) =
+    omega (arith, length-append (decimal 20 n) (pair (bytes " bytes ") o.bytes (bytes " lines ") o.lines), digits 20 n, pair-length (bytes " bytes ") (bytes " lines ") o.bytes o.lines)
 
 total_line_lem : (t : Tally) → length (total_line t) ≤ 115
 unfolding total_line
@@ -85,10 +83,10 @@ jobs-length (suc count) book at = let h = jobs-length count book (job_end book a
 -- ── the report
 
 module _ (more : Bool) (book : List ℕ) (t : Tally) (work : List ℕ) where
-  few_lines : (o : Opened) → opened more book ≡ o → length (report_of o book t work).lines ≤ longest
+  few_lines : (o : Result ℕ BookFault) → opened more book ≡ o → length (report_of o book t work).lines ≤ longest
   unfolding report_of refused_line
-  few_lines (Fault n p) e = let h = pair-length (bytes "refused ") (bytes " at ") n p in omega (arith, h)
-  few_lines (Jobs count) e =
+  few_lines (Err f) e = let h = pair-length (bytes "refused ") (bytes " at ") (fault_number f) (fault_place f) in omega (arith, h)
+  few_lines (Ok count) e =
       let jobs = jobs_from count book 0 in
       let told = map told_job jobs in
       omega (

@@ -1,21 +1,18 @@
 -- The report over a book: its lines, and the tally afterwards.
-use Rattle.std.specs.Prelude.{ℕ, ◌+◌, Bool, List, [], ◌∷◌, ◌++◌, map}
+use Rattle.std.specs.Prelude.{ℕ, ◌+◌, Bool, List, [], ◌∷◌, ◌++◌, map, Result, Ok, Err}
 use Rattle.keywords.specs.Words.{bytes}
 use Rattle.desk_job.specs.Job.{decimal, field, pair, refused_line}
 use Rattle.desk_job.specs.Written.{written}
 use Rattle.book.specs.declared.Tally.{Tally}
-use Rattle.book.specs.declared.told.Told.{Told}
-use Rattle.book.specs.declared.told.Told.TheVariants.{Refused, LaidOut}
-use Rattle.book.specs.declared.open.Opened.{Opened}
-use Rattle.book.specs.declared.open.Opened.TheVariants.{Fault, Jobs}
-use Rattle.book.specs.Book.{jobs_from, opened}
-use Rattle.book.specs.Told.{answered_job, told_job, telling}
+use Rattle.book.specs.declared.open.BookFault.{BookFault}
+use Rattle.book.specs.Book.{fault_number, fault_place, jobs_from, opened}
+use Rattle.book.specs.Told.{Told, answered_job, told_job, telling}
 use Rattle.book.specs.Tally.{zeros, tallied}
 
 -- N bytes B lines L, or N refused R at P
 unfoldable pub job_line : ℕ → Told → List ℕ
-job_line n (Refused r p) = decimal 20 n ++ pair (bytes " refused ") r (bytes " at ") p
-job_line n (LaidOut b l) = decimal 20 n ++ pair (bytes " bytes ") b (bytes " lines ") l
+job_line n (Err r) = decimal 20 n ++ pair (bytes " refused ") r.number (bytes " at ") r.place
+job_line n (Ok o) = decimal 20 n ++ pair (bytes " bytes ") o.bytes (bytes " lines ") o.lines
 
 -- total jobs J refused K bytes S lines T
 unfoldable pub total_line : Tally → List ℕ
@@ -40,9 +37,9 @@ pub record Report : Type 0 where
   pub work : List ℕ
 
 -- a refused book leaves the tally as it was; else it is raised from zeros, whatever it held
-unfoldable pub report_of : Opened → List ℕ → Tally → List ℕ → Report
-report_of (Fault n p) book t work = record { lines = refused_line n p; tally = t; work = work }
-report_of (Jobs count) book t work =
+unfoldable pub report_of : Result ℕ BookFault → List ℕ → Tally → List ℕ → Report
+report_of (Err f) book t work = record { lines = refused_line (fault_number f) (fault_place f); tally = t; work = work }
+report_of (Ok count) book t work =
     let jobs = jobs_from count book 0 in
     let told = map told_job jobs in
     let total = tallied zeros told in

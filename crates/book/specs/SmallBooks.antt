@@ -1,9 +1,8 @@
 -- Small books and what is printed for each: one table.
-use Rattle.std.specs.Prelude.{ℕ, zero, suc, Bool, true, false, ◌&&◌, List, [], ◌∷◌, ◌++◌, eqb}
+use Rattle.std.specs.Prelude.{ℕ, zero, suc, Bool, true, false, ◌&&◌, List, [], ◌∷◌, ◌++◌, eqb, Result, Ok, Err}
 use Rattle.keywords.specs.Words.{bytes, same}
-use Rattle.book.specs.declared.open.Opened.{Opened}
-use Rattle.book.specs.declared.open.Opened.TheVariants.{Fault, Jobs}
-use Rattle.book.specs.Book.{opened}
+use Rattle.book.specs.declared.open.BookFault.{BookFault}
+use Rattle.book.specs.Book.{fault_number, fault_place, opened}
 use Rattle.book.specs.Tally.{zeros}
 use Rattle.book.specs.Report.{report_of}
 
@@ -49,13 +48,13 @@ empties zero = []
 empties (suc n) = saved 0 (empties n)
 
 -- the book is refused so, or it has so many jobs
-abbrev pub is_fault : Opened → ℕ → ℕ → Bool
-is_fault (Fault n p) number place = eqb n number && eqb p place
-is_fault (Jobs count) number place = false
+abbrev pub is_fault : Result ℕ BookFault → ℕ → ℕ → Bool
+is_fault (Err f) number place = eqb (fault_number f) number && eqb (fault_place f) place
+is_fault (Ok count) number place = false
 
-abbrev pub has_jobs : Opened → ℕ → Bool
-has_jobs (Fault n p) many = false
-has_jobs (Jobs count) many = eqb count many
+abbrev pub has_jobs : Result ℕ BookFault → ℕ → Bool
+has_jobs (Err f) many = false
+has_jobs (Ok count) many = eqb count many
 
 -- the 256th job is taken and a 257th is 19 at its offset; there 18 comes before 19
 abbrev pub limits : Bool

@@ -1,14 +1,18 @@
 -- What a report tells of a job: the answer of the desk's program, whose output buffer has 65,536 bytes.
-use Rattle.std.specs.Prelude.{false, List, ℕ, length}
+use Rattle.std.specs.Prelude.{false, List, ℕ, length, Result, Ok, Err}
 use Rattle.context.specs.Cells.{count}
 use Rattle.desk_job.specs.Job.{Answered, refused, text, answered, leaves}
-use Rattle.book.specs.declared.told.Told.{Told}
-use Rattle.book.specs.declared.told.Told.TheVariants.{Refused, LaidOut}
+use Rattle.book.specs.declared.told.LaidOut.{LaidOut}
+use Rattle.book.specs.declared.told.Refusal.{Refusal}
 
--- a refusal, or the bytes and the lines of the output; lines are bytes 10 in it
+-- the bytes and the lines of the output, or a refusal
+abbrev pub Told : Type 0
+Told = Result LaidOut Refusal
+
+-- lines are bytes 10 in the output
 unfoldable pub told_of : Answered → Told
-told_of (refused n p) = Refused n p
-told_of (text bs) = LaidOut (length bs) (count 10 bs)
+told_of (refused n p) = Err (record { number = n; place = p })
+told_of (text bs) = Ok (record { bytes = length bs; lines = count 10 bs })
 
 -- a job of a book has an end, so that nothing follows it
 unfoldable pub answered_job : List ℕ → Answered

@@ -1,8 +1,7 @@
 -- What the last line says of the lines above it: S and T equal the sums of the B and L printed, K counts the refused lines and J all jobs.
-use Rattle.std.specs.Prelude.{ℕ, ◌+◌, ◌≡◌, List, [], ◌∷◌, map, length}
+use Rattle.std.specs.Prelude.{ℕ, ◌+◌, ◌≡◌, List, [], ◌∷◌, map, length, Ok, Err}
 use Rattle.book.specs.declared.Tally.{Tally}
-use Rattle.book.specs.declared.told.Told.{Told}
-use Rattle.book.specs.declared.told.Told.TheVariants.{Refused, LaidOut}
+use Rattle.book.specs.Told.{Told}
 use Rattle.book.specs.Tally.{bytes_told, lines_told}
 
 abbrev pub sum : List ℕ → ℕ
@@ -11,8 +10,8 @@ sum (n ∷ ns) = n + sum ns
 
 -- one refused line, or none
 abbrev pub refused_told : Told → ℕ
-refused_told (Refused n p) = 1
-refused_told (LaidOut b l) = 0
+refused_told (Err r) = 1
+refused_told (Ok o) = 0
 
 pub record Totals (told : List Told) (t : Tally) : Type 0 where
   pub jobs : t.jobs ≡ length told

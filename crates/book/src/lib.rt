@@ -5,20 +5,23 @@ mod open;
 mod print;
 mod told;
 
-ghost use Rattle.std.specs.Prelude.{◌≡◌, ◌≤◌, length};
-ghost use Rattle.desk_job.specs.Written.{Written};
-ghost use Rattle.book.specs.Book.{opened};
-ghost use Rattle.book.specs.Tally.{zeros, with_job, Room};
-ghost use Rattle.book.specs.Report.{Called, reported};
-ghost use Rattle.book.specs.Steps.{Begun, begun, Step, stepped, finished, Ready};
+ghost use Rattle.std.specs.Prelude.{◌≡◌, List, ℕ, length};
+ghost use Rattle.desk_job.specs.Puts.{Puts};
+ghost use Rattle.book.specs.Book.{job_end, job_at};
+ghost use Rattle.book.specs.Told.{telling, answered_job};
+ghost use Rattle.book.specs.Tally.{tally_of, numbers_of, with_job, Room};
+ghost use Rattle.book.specs.Report.{Called, job_line, reported};
+ghost use Rattle.book.specs.Steps.{Stepped, Ready};
 
 use desk_job::print_refusal;
-use open::{Opened, job_end, open_book};
+use desk_job::write::Writer;
+pub use open::BookFault;
+use open::{job_end, open_book};
 use print::{put_job, put_total};
-use told::{Told, tell};
+use told::{LaidOut, Refusal, tell};
 
 // What a report counts: a record that is lent to the call and raised in place for each job. By value one job is one step.
-#[derive(Clone, Copy)]
+#[derive(Clone, Copy, Default)]
 pub struct Tally {
     pub jobs: u64,
     pub refused: u64,
@@ -26,47 +29,56 @@ pub struct Tally {
     pub lines: u64,
 }
 
-impl Tally {
-    pub fn zeros() -> Tally
-        ensures { result ≡ zeros }
-    {
+// As four numbers, in the record's order.
+impl From<[u64; 4]> for Tally {
+    ghost from_gives = { λ numbers tally. tally ≡ tally_of numbers };
+
+    fn from(numbers: [u64; 4]) -> Tally {
+        let [jobs, refused, bytes, lines] = numbers;
         Tally {
-            jobs: 0,
-            refused: 0,
-            bytes: 0,
-            lines: 0,
+            jobs,
+            refused,
+            bytes,
+            lines,
         }
     }
+}
 
+impl From<Tally> for [u64; 4] {
+    ghost from_gives = { λ tally numbers. numbers ≡ numbers_of tally };
+
+    fn from(tally: Tally) -> [u64; 4] {
+        [tally.jobs, tally.refused, tally.bytes, tally.lines]
+    }
+}
+
+impl Tally {
     // One job more.
-    fn with_job(self, told: Told) -> Tally
+    fn with_job(self, told: Result<LaidOut, Refusal>) -> Tally
         requires { Room self told }
         ensures { result ≡ with_job self told }
     {
+        let jobs = self.jobs + 1;
         match told {
-            Told::Refused(_, _) => Tally {
-                jobs: self.jobs + 1,
-                refused: self.refused + 1,
-                bytes: self.bytes,
-                lines: self.lines,
+            Ok(out) => Tally {
+                jobs,
+                bytes: self.bytes + out.bytes,
+                lines: self.lines + out.lines,
+                ..self
             },
-            Told::LaidOut(bytes, lines) => Tally {
-                jobs: self.jobs + 1,
-                refused: self.refused,
-                bytes: self.bytes + bytes,
-                lines: self.lines + lines,
+            Err(_) => Tally {
+                jobs,
+                refused: self.refused + 1,
+                ..self
             },
         }
     }
 }
 
-// How far a report is: jobs left, where the next one's command stands, and how much is put. A refused book has no job left and no total.
+// How far a report is: where the next job's command stands, and what is counted so far.
 #[derive(Clone, Copy)]
 struct Run {
-    pub left: usize,
     pub at: usize,
-    pub put: usize,
-    pub refused: bool,
     pub tally: Tally,
 }
 
@@ -77,66 +89,22 @@ pub struct Reported {
     pub tally: Tally,
 }
 
-// The book is walked, and if it is refused its line is put and the tally is as it was.
-fn begin(book: &[u8], more: bool, tally: Tally, out: &mut [u8]) -> Run
-    ensures { ◌≡◌ {A = Begun} (record { run = result; space = out.new }) (begun (opened more book.now) tally out.old) }
-{
-    match open_book(book, more) {
-        Opened::Fault(number, place) => {
-            let put = print_refusal(number, place, out);
-            Run {
-                left: 0,
-                at: 0,
-                put: put,
-                refused: true,
-                tally: tally,
-            }
-        }
-        Opened::Jobs(count) => {
-            let zeros = Tally::zeros();
-            Run {
-                left: count,
-                at: 0,
-                put: 0,
-                refused: false,
-                tally: zeros,
-            }
-        }
-    }
-}
-
 // One job: it is answered in the working space, its line is put, and the tally is raised.
-fn next(book: &[u8], run: Run, tally: Tally, work: &mut [u8; 65536], out: &mut [u8]) -> Run
-    requires { Ready book.now run tally out.old }
-    ensures { ◌≡◌ {A = Step} (record { run = result; work = work.new; space = out.new }) (stepped book.now run tally work.old out.old) }
+fn next(book: &[u8], run: Run, work: &mut [u8; 65536], out: &mut Writer<'_>) -> Run
+    requires { Ready book.now run }
+    ensures { Stepped book.now run work.old out.old result work.new out.new }
 {
-    let at = run.at;
-    let end = job_end(book, at);
-    let start = at + 5;
-    let told = tell(&book[start..end], work);
-    let put = put_job(out, run.put, tally.jobs + 1, told);
-    let raised = tally.with_job(told);
+    let end = job_end(book, run.at);
+    let told = tell(&book[run.at + 5..end], work);
+    put_job(out, run.tally.jobs + 1, told);
     Run {
-        left: run.left - 1,
         at: end,
-        put: put,
-        refused: run.refused,
-        tally: raised,
+        tally: run.tally.with_job(told),
     }
-}
-
-fn finish(run: Run, tally: Tally, out: &mut [u8]) -> usize
-    requires { run.put ≤ length out.old }
-    ensures { ◌≡◌ {A = Written} (record { end = result; space = out.new }) (finished run tally out.old) }
-{
-    if run.refused {
-        return run.put;
-    }
-    put_total(out, run.put, tally)
 }
 
 // The call: puts the report into `out`, as far as that goes, answers how many bytes it has put, and raises the lent tally in place for each job.
-// Jobs are laid out in `work`, as the desk's program does it in its output buffer.
+// Jobs are laid out in `work`, as the desk's program does it in its output buffer. A refused book leaves the tally as it was.
 pub fn report(
     book: &[u8],
     more: bool,
@@ -146,13 +114,22 @@ pub fn report(
 ) -> usize
     ensures { ◌≡◌ {A = Called} (record { end = result; space = out.new; work = work.new; tally = tally.new }) (reported more book.now tally.old work.old out.old) }
 {
-    let mut run = begin(book, more, *tally, out);
+    let count = match open_book(book, more) {
+        Ok(count) => count,
+        Err(fault) => return print_refusal(fault.number(), fault.place(), out),
+    };
+    let mut writer = Writer::new(out);
+    let mut run = Run {
+        at: 0,
+        tally: Tally::default(),
+    };
     *tally = run.tally;
-    while 0 < run.left {
-        run = next(book, run, *tally, work, out);
+    for _ in 0..count {
+        run = next(book, run, work, &mut writer);
         *tally = run.tally;
     }
-    finish(run, *tally, out)
+    put_total(&mut writer, run.tally);
+    writer.end()
 }
 
 // The same for callers with plain values: a record of its own is lent to the call and handed back.
@@ -167,8 +144,5 @@ pub fn report_from(
 {
     let mut own = tally;
     let put = report(book, more, &mut own, work, out);
-    Reported {
-        put: put,
-        tally: own,
-    }
+    Reported { put, tally: own }
 }

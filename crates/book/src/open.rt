@@ -1,14 +1,37 @@
 // The walk over the book that comes first: 18, 19 or the number of jobs.
 ghost use Rattle.std.specs.Prelude.{◌≡◌, ◌+◌, ◌≤◌, length};
-ghost use Rattle.book.specs.Book.{job_end, is_whole, opened};
+ghost use Rattle.book.specs.Book.{job_end, is_whole, opened, fault_number, fault_place};
 
 use tape::commands::u32_at;
 
-// A refusal's number and place; or the number of jobs.
+// Why a book is refused: it is longer than 65,536 bytes; no book command stands whole at a place; or a 257th job stands there.
 #[derive(Clone, Copy)]
-pub enum Opened {
-    Fault(u64, u64),
-    Jobs(usize),
+pub enum BookFault {
+    TooLong,
+    NotWhole(usize),
+    TooMany(usize),
+}
+
+impl BookFault {
+    // The refusal's number.
+    pub fn number(self) -> u64
+        ensures { result ≡ fault_number self }
+    {
+        match self {
+            BookFault::TooLong | BookFault::NotWhole(_) => 18,
+            BookFault::TooMany(_) => 19,
+        }
+    }
+
+    // Where in the book it is.
+    pub fn place(self) -> u64
+        ensures { result ≡ fault_place self }
+    {
+        match self {
+            BookFault::TooLong => 65536,
+            BookFault::NotWhole(at) | BookFault::TooMany(at) => at as u64,
+        }
+    }
 }
 
 // Where the job of the command at `at` ends.
@@ -24,36 +47,28 @@ fn is_whole(book: &[u8], at: usize) -> bool
     requires { (at ≤ length book.now) × (length book.now ≤ 65536) }
     ensures { result ≡ is_whole book.now at }
 {
-    if book.len() < at + 5 {
-        return false;
-    }
-    if book[at] != 0x20 {
-        return false;
-    }
-    job_end(book, at) <= book.len()
+    at + 5 <= book.len() && book[at] == 0x20 && job_end(book, at) <= book.len()
 }
 
-// `more`: whether the input goes on after the book's bytes.
-pub fn open_book(book: &[u8], more: bool) -> Opened
+// The number of jobs. `more`: whether the input goes on after the book's bytes.
+pub fn open_book(book: &[u8], more: bool) -> Result<usize, BookFault>
     ensures { result ≡ opened more book.now }
 {
-    if more {
-        return Opened::Fault(18, 65536);
+    if more || 65536 < book.len() {
+        return Err(BookFault::TooLong);
     }
-    if 65536 < book.len() {
-        return Opened::Fault(18, 65536);
-    }
-    let mut at: usize = 0;
-    let mut n: usize = 0;
+    // A place that moves on, since each job's length says where the next command stands.
+    let mut at = 0;
+    let mut jobs = 0;
     while at < book.len() {
         if !is_whole(book, at) {
-            return Opened::Fault(18, at as u64);
+            return Err(BookFault::NotWhole(at));
         }
-        if n == 256 {
-            return Opened::Fault(19, at as u64);
+        if jobs == 256 {
+            return Err(BookFault::TooMany(at));
         }
         at = job_end(book, at);
-        n += 1;
+        jobs += 1;
     }
-    Opened::Jobs(n)
+    Ok(jobs)
 }

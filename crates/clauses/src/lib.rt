@@ -5,47 +5,43 @@
 
 ghost use Rattle.std.specs.Prelude.{◌≡◌, cond, not, ◌&&◌, [], ◌∷◌, ◌*◌, ◌<◌, eqb, length};
 ghost use Rattle.context.specs.Store.{Room};
-ghost use Rattle.keywords.specs.Table.{table};
 ghost use Rattle.basics.specs.Match.{among};
 ghost use Rattle.tape.specs.Kinds.{SelectStatement, UnionClause};
-ghost use Rattle.layout.specs.Arms.{dedent, indent, newline, seen};
-ghost use Rattle.layout.specs.Tokens.{no_space_before};
+ghost use Rattle.layout.specs.declared.Local.{Local};
+ghost use Rattle.layout.specs.Arms.{dedent, indent, newline};
 ghost use Rattle.layout.specs.Routines.{file_token, format_file, format_query_list, format_select_clause, format_select_statement, format_settings_clause, format_union_clause, join_clause_token, list_clause_node, list_clause_token, query_list_token, select_clause_token, select_statement_token, simple_clause_token, union_token};
 ghost use Rattle.tape.specs.NodeFacts.{facts_at, notes_list, notes_several};
-ghost use Rattle.tokens.specs.TokenPromises.{Acted, Spaced, SpacedUnwritten, TokenDone, TokenReady};
+ghost use Rattle.tokens.specs.TokenPromises.{ArmActed, ArmDone, Spaced, SpacedUnwritten};
 
-use context::{FormatConfig, FormatterContext};
-use keywords::table::TABLE_LENGTH;
-use layout::{Local, PrevKind};
+use context::FormatterContext;
+use layout::Local;
 use tape::facts::{has_list, several_list_items};
-use tape::{Head, syntax_kind};
+use tape::syntax_kind;
 use tokens::{
-    Arm, blank_line, blank_line_before_comment, emit_comment, emit_other, emit_token,
-    emit_uncommented, is_trivia, no_space_after, no_space_before, space_if, trivia_token,
-    write_word,
+    Arm, Settings, Token, blank_line, blank_line_before_comment, emit_comment, emit_other,
+    emit_spaced, emit_trivia, emit_uncommented, is_trivia, newline_if, no_space_after,
+    no_space_before, space_if, write_word,
 };
 
 // ---- format_file
 
 pub fn file_token(
-    source: &[u8],
-    keywords: &[u8; TABLE_LENGTH],
-    config: FormatConfig,
+    settings: &Settings,
     out: &mut [u8],
     ctx: FormatterContext,
-    token: Head,
+    token: Token,
 ) -> FormatterContext
-    requires { TokenReady 4 source.now config token ctx × (keywords.now ≡ table) }
-    ensures { Acted 4 config source.now token (file_token (seen source.now token)) ctx out.old result out.new }
+    requires { Room 4 ctx }
+    ensures { ArmActed 4 settings.now token.entry file_token ctx out.old result out.new }
 {
     if token.kind == syntax_kind::COMMENT {
         let a = blank_line_before_comment(out, ctx);
-        return emit_comment(source, config, out, a, token);
+        return emit_comment(settings, out, a, token);
     }
     if token.kind == syntax_kind::SEMICOLON {
-        return ctx.write_sign(config, out, b';');
+        return ctx.write_sign(settings.config, out, b';');
     }
-    emit_other(source, keywords, config, out, ctx, token)
+    emit_other(settings, out, ctx, token)
 }
 
 pub fn file_before(out: &mut [u8], ctx: FormatterContext, local: Local) -> FormatterContext
@@ -53,29 +49,27 @@ pub fn file_before(out: &mut [u8], ctx: FormatterContext, local: Local) -> Forma
     ensures { Spaced 2 (format_file.at_node local 0 0).1 ctx out.old result out.new }
 {
     if local.flag {
-        let a = ctx.write_newline(out);
-        return a.write_newline(out);
+        ctx.write_newline(out).write_newline(out)
+    } else {
+        blank_line(out, ctx)
     }
-    blank_line(out, ctx)
 }
 
 // ---- format_query_list
 
 pub fn query_list_token(
-    source: &[u8],
-    keywords: &[u8; TABLE_LENGTH],
-    config: FormatConfig,
+    settings: &Settings,
     out: &mut [u8],
     ctx: FormatterContext,
-    token: Head,
+    token: Token,
 ) -> FormatterContext
-    requires { TokenReady 4 source.now config token ctx × (keywords.now ≡ table) }
-    ensures { Acted 4 config source.now token (query_list_token (seen source.now token)) ctx out.old result out.new }
+    requires { Room 4 ctx }
+    ensures { ArmActed 4 settings.now token.entry query_list_token ctx out.old result out.new }
 {
     if token.kind == syntax_kind::SEMICOLON {
-        return ctx.write_sign(config, out, b';');
+        return ctx.write_sign(settings.config, out, b';');
     }
-    emit_other(source, keywords, config, out, ctx, token)
+    emit_other(settings, out, ctx, token)
 }
 
 pub fn query_list_before(out: &mut [u8], ctx: FormatterContext, local: Local) -> FormatterContext
@@ -83,29 +77,27 @@ pub fn query_list_before(out: &mut [u8], ctx: FormatterContext, local: Local) ->
     ensures { Spaced 2 (format_query_list.at_node local 0 0).1 ctx out.old result out.new }
 {
     if local.flag {
-        return ctx;
+        ctx
+    } else {
+        ctx.write_newline(out).write_newline(out)
     }
-    let a = ctx.write_newline(out);
-    a.write_newline(out)
 }
 
 // ---- format_select_statement
 
 pub fn select_statement_token(
-    source: &[u8],
-    keywords: &[u8; TABLE_LENGTH],
-    config: FormatConfig,
+    settings: &Settings,
     out: &mut [u8],
     ctx: FormatterContext,
-    token: Head,
+    token: Token,
 ) -> FormatterContext
-    requires { TokenReady 4 source.now config token ctx × (keywords.now ≡ table) }
-    ensures { Acted 4 config source.now token (select_statement_token (seen source.now token)) ctx out.old result out.new }
+    requires { Room 4 ctx }
+    ensures { ArmActed 4 settings.now token.entry select_statement_token ctx out.old result out.new }
 {
     if token.kind == syntax_kind::SEMICOLON {
         return ctx;
     }
-    emit_other(source, keywords, config, out, ctx, token)
+    emit_other(settings, out, ctx, token)
 }
 
 pub fn select_statement_before(
@@ -116,92 +108,86 @@ pub fn select_statement_before(
     requires { Room 1 ctx }
     ensures { Spaced 1 (format_select_statement.at_node local 0 0).1 ctx out.old result out.new }
 {
-    if local.flag {
-        return ctx;
-    }
-    ctx.write_newline(out)
+    newline_if(out, ctx, !local.flag)
 }
 
 // ---- format_select_clause; format_settings_clause and format_with_clause have the same token arms
 
+#[inline(always)]
 pub fn select_clause_token(
-    source: &[u8],
-    keywords: &[u8; TABLE_LENGTH],
-    config: FormatConfig,
+    settings: &Settings,
     out: &mut [u8],
     ctx: FormatterContext,
-    token: Head,
+    token: Token,
 ) -> FormatterContext
-    requires { TokenReady 4 source.now config token ctx × (keywords.now ≡ table) }
-    ensures { Acted 4 config source.now token (select_clause_token (seen source.now token)) ctx out.old result out.new }
+    requires { Room 4 ctx }
+    ensures { ArmActed 4 settings.now token.entry select_clause_token ctx out.old result out.new }
 {
     if token.kind == syntax_kind::BARE_WORD {
-        let a = write_word(source, keywords, config, out, ctx, token);
-        return a.write_space();
+        return write_word(settings, out, ctx, token).write_space();
     }
-    emit_other(source, keywords, config, out, ctx, token)
+    emit_other(settings, out, ctx, token)
 }
 
-pub fn select_clause_before(
-    out: &mut [u8],
-    ctx: FormatterContext,
-    local: Local,
-    kind: u16,
-) -> FormatterContext
+// A newline and a level more.
+fn begin_block(out: &mut [u8], ctx: FormatterContext) -> FormatterContext
     requires { Room 2 ctx }
-    ensures { Spaced 2 (format_select_clause.at_node local kind 0).1 ctx out.old result out.new }
+    ensures { Spaced 2 (newline ∷ indent ∷ []) ctx out.old result out.new }
 {
-    if kind == syntax_kind::COLUMN_LIST {
-        let a = ctx.write_newline(out);
-        return a.indent();
-    }
-    ctx
+    ctx.write_newline(out).indent()
 }
 
-pub fn select_clause_after(ctx: FormatterContext, local: Local, kind: u16) -> FormatterContext
-    ensures { SpacedUnwritten 0 (format_select_clause.at_node local kind 0).2 ctx result }
+// The same where it is wanted.
+fn indent_if(out: &mut [u8], ctx: FormatterContext, wanted: bool) -> FormatterContext
+    requires { Room 2 ctx }
+    ensures { Spaced 2 (cond wanted (newline ∷ indent ∷ []) []) ctx out.old result out.new }
 {
-    if kind == syntax_kind::COLUMN_LIST {
-        return ctx.dedent();
-    }
-    ctx
+    if wanted { begin_block(out, ctx) } else { ctx }
+}
+
+// A level less where it is wanted.
+fn dedent_if(ctx: FormatterContext, wanted: bool) -> FormatterContext
+    ensures { SpacedUnwritten 0 (cond wanted (dedent ∷ []) []) ctx result }
+{
+    if wanted { ctx.dedent() } else { ctx }
+}
+
+pub fn select_clause_before(out: &mut [u8], ctx: FormatterContext, kind: u16) -> FormatterContext
+    requires { Room 2 ctx }
+    ensures { (local : Local) → Spaced 2 (format_select_clause.at_node local kind 0).1 ctx out.old result out.new }
+{
+    indent_if(out, ctx, kind == syntax_kind::COLUMN_LIST)
+}
+
+pub fn select_clause_after(ctx: FormatterContext, kind: u16) -> FormatterContext
+    ensures { (local : Local) → SpacedUnwritten 0 (format_select_clause.at_node local kind 0).2 ctx result }
+{
+    dedent_if(ctx, kind == syntax_kind::COLUMN_LIST)
 }
 
 // ---- format_simple_clause
 
-fn space_wanted(wanted: bool, kind: u16) -> bool
-    ensures { result ≡ (wanted && not (no_space_before kind)) }
-{
-    if no_space_before(kind) {
-        return false;
-    }
-    wanted
-}
-
+#[inline(always)]
 pub fn simple_clause_token(
-    source: &[u8],
-    keywords: &[u8; TABLE_LENGTH],
-    config: FormatConfig,
+    settings: &Settings,
     out: &mut [u8],
     ctx: FormatterContext,
     local: Local,
-    token: Head,
+    token: Token,
 ) -> Arm
-    requires { TokenReady 4 source.now config token ctx × (keywords.now ≡ table) }
-    ensures { TokenDone config source.now simple_clause_token local token ctx out.old result out.new }
+    requires { Room 4 ctx }
+    ensures { ArmDone settings.now token.entry simple_clause_token local ctx out.old result out.new }
 {
     if is_trivia(token.kind) {
-        return trivia_token(source, config, out, ctx, local, token);
+        return Arm {
+            context: emit_trivia(settings, out, ctx, token),
+            local,
+        };
     }
-    let a = space_if(ctx, space_wanted(local.flag, token.kind));
-    let b = emit_token(source, keywords, config, out, a, token);
-    let tight = no_space_after(token.kind);
+    let wanted = local.flag && !no_space_before(token.kind);
     Arm {
-        context: b,
-        local: Local {
-            flag: !tight,
-            prev: PrevKind::Nothing,
-        },
+        context: emit_spaced(settings, out, ctx, token, wanted),
+        local: Local::flagged(!no_space_after(token.kind)),
     }
 }
 
@@ -212,10 +198,7 @@ pub fn multi_item(facts: &[u8], at: usize, list: u16) -> bool
     requires { at < 11 * length facts.now }
     ensures { result ≡ (notes_several (facts_at facts.now at) && not (notes_list list (facts_at facts.now at))) }
 {
-    if several_list_items(facts, at) {
-        return !has_list(facts, at, list);
-    }
-    false
+    several_list_items(facts, at) && !has_list(facts, at, list)
 }
 
 // Whether the child that opens at `at` is the clause's list and holds more than one item.
@@ -223,48 +206,31 @@ pub fn several_items(facts: &[u8], at: usize, list: u16, kind: u16) -> bool
     requires { at < 11 * length facts.now }
     ensures { result ≡ (eqb kind list && notes_several (facts_at facts.now at)) }
 {
-    if kind == list {
-        return several_list_items(facts, at);
-    }
-    false
+    kind == list && several_list_items(facts, at)
 }
 
 pub fn list_clause_token(
-    source: &[u8],
-    keywords: &[u8; TABLE_LENGTH],
-    config: FormatConfig,
+    settings: &Settings,
     out: &mut [u8],
     ctx: FormatterContext,
     multi: bool,
-    token: Head,
+    token: Token,
 ) -> FormatterContext
-    requires { TokenReady 4 source.now config token ctx × (keywords.now ≡ table) }
-    ensures { Acted 4 config source.now token (list_clause_token multi (seen source.now token)) ctx out.old result out.new }
+    requires { Room 4 ctx }
+    ensures { ArmActed 4 settings.now token.entry (list_clause_token multi) ctx out.old result out.new }
 {
     if token.kind == syntax_kind::BARE_WORD {
-        let a = write_word(source, keywords, config, out, ctx, token);
-        return a.write_space();
+        return write_word(settings, out, ctx, token).write_space();
     }
     if token.kind == syntax_kind::COMMA {
-        let a = ctx.write_sign(config, out, b',');
-        if multi {
-            return a.write_newline(out);
-        }
-        return a.write_space();
+        let a = ctx.write_sign(settings.config, out, b',');
+        return if multi {
+            a.write_newline(out)
+        } else {
+            a.write_space()
+        };
     }
-    emit_other(source, keywords, config, out, ctx, token)
-}
-
-fn list_clause_opens(list: u16, multi: bool, local: Local, kind: u16, several: bool) -> bool
-    ensures { result ≡ cond (eqb kind list) several (not local.flag && multi) }
-{
-    if kind == list {
-        return several;
-    }
-    if local.flag {
-        return false;
-    }
-    multi
+    emit_other(settings, out, ctx, token)
 }
 
 pub fn list_clause_before(
@@ -279,11 +245,12 @@ pub fn list_clause_before(
     requires { Room 2 ctx }
     ensures { Spaced 2 (cond (cond (eqb kind list) several (not local.flag && multi)) (newline ∷ indent ∷ []) []) ctx out.old result out.new }
 {
-    if list_clause_opens(list, multi, local, kind, several) {
-        let a = ctx.write_newline(out);
-        return a.indent();
-    }
-    ctx
+    let wanted = if kind == list {
+        several
+    } else {
+        !local.flag && multi
+    };
+    indent_if(out, ctx, wanted)
 }
 
 pub fn list_clause_after(
@@ -294,108 +261,64 @@ pub fn list_clause_after(
 ) -> FormatterContext
     ensures { SpacedUnwritten 0 (cond (eqb kind list && several) (dedent ∷ []) []) ctx result }
 {
-    if kind == list {
-        if several {
-            return ctx.dedent();
-        }
-    }
-    ctx
+    dedent_if(ctx, kind == list && several)
 }
 
 pub fn list_clause_local(list: u16, multi: bool, local: Local, kind: u16) -> Local
     ensures { result ≡ (list_clause_node list multi local kind 0).0 }
 {
-    if kind == list {
-        return local;
+    if kind != list && !local.flag && multi {
+        Local::flagged(true)
+    } else {
+        local
     }
-    if local.flag {
-        return local;
-    }
-    if multi {
-        return Local {
-            flag: true,
-            prev: PrevKind::Nothing,
-        };
-    }
-    local
 }
 
 pub fn list_clause_end(ctx: FormatterContext, multi: bool, local: Local) -> FormatterContext
     ensures { SpacedUnwritten 0 (cond (local.flag && multi) (dedent ∷ []) []) ctx result }
 {
-    if local.flag {
-        if multi {
-            return ctx.dedent();
-        }
-    }
-    ctx
+    dedent_if(ctx, local.flag && multi)
 }
 
-// ---- format_limit_by_clause, format_join_clause
+// ---- format_limit_by_clause, format_join_clause: but for words they are format_simple_clause
 
 pub fn join_clause_token(
-    source: &[u8],
-    keywords: &[u8; TABLE_LENGTH],
-    config: FormatConfig,
+    settings: &Settings,
     out: &mut [u8],
     ctx: FormatterContext,
     local: Local,
-    token: Head,
+    token: Token,
 ) -> Arm
-    requires { TokenReady 4 source.now config token ctx × (keywords.now ≡ table) }
-    ensures { TokenDone config source.now join_clause_token local token ctx out.old result out.new }
+    requires { Room 4 ctx }
+    ensures { ArmDone settings.now token.entry join_clause_token local ctx out.old result out.new }
 {
-    if is_trivia(token.kind) {
-        return trivia_token(source, config, out, ctx, local, token);
-    }
     if token.kind == syntax_kind::BARE_WORD {
         let a = space_if(ctx, local.flag);
-        let b = write_word(source, keywords, config, out, a, token);
         return Arm {
-            context: b,
-            local: Local {
-                flag: true,
-                prev: PrevKind::Nothing,
-            },
+            context: write_word(settings, out, a, token),
+            local: Local::flagged(true),
         };
     }
-    let a = space_if(ctx, space_wanted(local.flag, token.kind));
-    let b = emit_token(source, keywords, config, out, a, token);
-    let tight = no_space_after(token.kind);
-    Arm {
-        context: b,
-        local: Local {
-            flag: !tight,
-            prev: PrevKind::Nothing,
-        },
-    }
+    simple_clause_token(settings, out, ctx, local, token)
 }
 
 // ---- format_settings_clause
 
-pub fn settings_clause_before(
-    out: &mut [u8],
-    ctx: FormatterContext,
-    local: Local,
-    kind: u16,
-) -> FormatterContext
+pub fn settings_clause_before(out: &mut [u8], ctx: FormatterContext, kind: u16) -> FormatterContext
     requires { Room 2 ctx }
-    ensures { Spaced 2 (format_settings_clause.at_node local kind 0).1 ctx out.old result out.new }
+    ensures { (local : Local) → Spaced 2 (format_settings_clause.at_node local kind 0).1 ctx out.old result out.new }
 {
     if kind == syntax_kind::SETTING_LIST {
-        let a = ctx.write_newline(out);
-        return a.indent();
+        begin_block(out, ctx)
+    } else {
+        ctx.write_space()
     }
-    ctx.write_space()
 }
 
-pub fn settings_clause_after(ctx: FormatterContext, local: Local, kind: u16) -> FormatterContext
-    ensures { SpacedUnwritten 0 (format_settings_clause.at_node local kind 0).2 ctx result }
+pub fn settings_clause_after(ctx: FormatterContext, kind: u16) -> FormatterContext
+    ensures { (local : Local) → SpacedUnwritten 0 (format_settings_clause.at_node local kind 0).2 ctx result }
 {
-    if kind == syntax_kind::SETTING_LIST {
-        return ctx.dedent();
-    }
-    ctx
+    dedent_if(ctx, kind == syntax_kind::SETTING_LIST)
 }
 
 // ---- format_with_clause
@@ -404,8 +327,7 @@ pub fn with_clause_before(out: &mut [u8], ctx: FormatterContext) -> FormatterCon
     requires { Room 2 ctx }
     ensures { Spaced 2 (newline ∷ indent ∷ []) ctx out.old result out.new }
 {
-    let a = ctx.write_newline(out);
-    a.indent()
+    begin_block(out, ctx)
 }
 
 pub fn with_clause_after(ctx: FormatterContext) -> FormatterContext
@@ -417,35 +339,32 @@ pub fn with_clause_after(ctx: FormatterContext) -> FormatterContext
 // ---- format_union_clause: no comment arm
 
 pub fn union_clause_token(
-    source: &[u8],
-    keywords: &[u8; TABLE_LENGTH],
-    config: FormatConfig,
+    settings: &Settings,
     out: &mut [u8],
     ctx: FormatterContext,
     local: Local,
-    token: Head,
+    token: Token,
 ) -> FormatterContext
-    requires { TokenReady 4 source.now config token ctx × (keywords.now ≡ table) }
-    ensures { Acted 4 config source.now token (union_token local (seen source.now token)).1 ctx out.old result out.new }
+    requires { Room 4 ctx }
+    ensures { ArmActed 4 settings.now token.entry (λ t. (union_token local t).1) ctx out.old result out.new }
 {
     if token.kind == syntax_kind::BARE_WORD {
-        if local.flag {
-            let a = ctx.write_space();
-            return write_word(source, keywords, config, out, a, token);
-        }
-        let a = write_word(source, keywords, config, out, ctx, token);
-        return a.write_space();
+        return if local.flag {
+            write_word(settings, out, ctx.write_space(), token)
+        } else {
+            write_word(settings, out, ctx, token).write_space()
+        };
     }
-    emit_uncommented(source, keywords, config, out, ctx, token)
+    emit_uncommented(settings, out, ctx, token)
 }
 
 fn is_select(kind: u16) -> bool
     ensures { result ≡ among kind (SelectStatement ∷ UnionClause ∷ []) }
 {
-    if kind == syntax_kind::SELECT_STATEMENT {
-        return true;
-    }
-    kind == syntax_kind::UNION_CLAUSE
+    matches!(
+        kind,
+        syntax_kind::SELECT_STATEMENT | syntax_kind::UNION_CLAUSE
+    )
 }
 
 pub fn union_clause_before(
@@ -457,22 +376,15 @@ pub fn union_clause_before(
     requires { Room 1 ctx }
     ensures { Spaced 1 (format_union_clause.at_node local kind 0).1 ctx out.old result out.new }
 {
-    if is_select(kind) {
-        if local.flag {
-            return ctx.write_newline(out);
-        }
-    }
-    ctx
+    newline_if(out, ctx, is_select(kind) && local.flag)
 }
 
 pub fn union_clause_local(local: Local, kind: u16) -> Local
     ensures { result ≡ (format_union_clause.at_node local kind 0).0 }
 {
     if is_select(kind) {
-        return Local {
-            flag: true,
-            prev: PrevKind::Nothing,
-        };
+        Local::flagged(true)
+    } else {
+        local
     }
-    local
 }

@@ -1,14 +1,15 @@
 -- The bytes of cells, what a change of case keeps, and the text of a span.
 use mathlib.Core.Path.{◌≡◌, refl, sym, ap, ◌∙◌}
-use mathlib.Core.Bool.{Bool, true, false, cond, ◌&&◌, and-false}
+use mathlib.Core.Bool.{Bool, true, false}
 use mathlib.Core.List.{List, [], ◌∷◌, ◌++◌, map}
 use Prim.Native.Nat.{ℕ, zero, suc, min, ◌+◌, ◌-◌, ◌≤◌, ◌<◌}
 use native.Mathlib.Nat.{min-le_left}
 use native.Mathlib.Omega.{arith}
-use lib.Dec.{leb, ltb, eqb}
+use lib.Dec.{eqb}
 use lib.ListN.{length, get_or, drop, replicate, length-take, length-drop}
+use Rattle.std.proofs.lemmas.List.{map-append}
 use lib.Seq.{length-take-le, get_or-take, get_or-drop, ext_get_or}
-use borrow.Author.Tests.{ne_eqb, lt-leb, leb-true, ltb-true, ltb-false}
+use Rattle.std.proofs.lemmas.Bool.Decides.{nat_tests}
 use Rattle.basics.specs.Case.{to_uppercase, to_lowercase}
 use Rattle.utf8.specs.Table.{holds}
 use Rattle.utf8.specs.Pieces.{is_trailing}
@@ -18,8 +19,7 @@ use Rattle.context.specs.Cells.{Text, Cell, to_case, token_text, bytes_of, fresh
 use Rattle.context.specs.Context.{last_byte}
 
 pub bytes-append : (a b : List Cell) → bytes_of (a ++ b) ≡ bytes_of a ++ bytes_of b
-bytes-append [] b = refl
-bytes-append (c ∷ a) b = ap {B = List ℕ} (λ r. c.byte ∷ r) (bytes-append a b)
+bytes-append = map-append (λ (c : Cell). c.byte)
 
 pub bytes-fixed : (bs : List ℕ) → bytes_of (fixed bs) ≡ bs
 bytes-fixed [] = refl
@@ -42,62 +42,32 @@ bytes-in_case uppercase (c ∷ cs) = ap {B = List ℕ} (λ r. to_case uppercase 
 
 -- ── a change of case
 
--- a test that no byte from 65 on passes is not changed by it
-module _ (test : ℕ → Bool) (low : (b : ℕ) → 65 ≤ b → test b ≡ false) where
-  changed : (b b' : ℕ) (p q : Bool) → (p ≡ true → (65 ≤ b) × (65 ≤ b')) → test (cond (p && q) b' b) ≡ test b
-  changed b b' true true h = low b' (h refl).1 ∙ sym (low b (h refl).0)
-  changed b b' true false h = refl
-  changed b b' false q h = refl
-
-  in_case_lem : (uppercase : Bool) (b : ℕ) → test (to_case uppercase b) ≡ test b
-  unfolding to_uppercase to_lowercase
-  in_case_lem true b =
-      changed b (b - 32) (leb 97 b) (leb b 122) (λ p.
-      let h = leb-true 97 b p in
-      (omega arith, omega arith))
-  in_case_lem false b =
-      changed b (b + 32) (leb 65 b) (leb b 90) (λ p.
-      let h = leb-true 65 b p in
-      (h, omega arith))
-
 white_in_case : (uppercase : Bool) (b : ℕ) → is_white_byte (to_case uppercase b) ≡ is_white_byte b
-unfolding is_white_byte
-white_in_case = in_case_lem is_white_byte (λ b h. simp (ne_eqb b 32 (λ e. omega arith), lt-leb b 13 (omega arith), and-false))
+unfolding is_white_byte to_uppercase to_lowercase
+white_in_case true b = grind (arith, nat_tests)
+white_in_case false b = grind (arith, nat_tests)
 
 pub newline-in_case : (uppercase : Bool) (b : ℕ) → eqb (to_case uppercase b) 10 ≡ eqb b 10
-newline-in_case = in_case_lem (λ b. eqb b 10) (λ b h. ne_eqb b 10 (λ e. omega arith))
+unfolding to_uppercase to_lowercase
+newline-in_case true b = grind (arith, nat_tests)
+newline-in_case false b = grind (arith, nat_tests)
 
 -- bytes above 127 stay, and no other becomes one
 case-high : (uppercase : Bool) (b : ℕ) → 128 ≤ b → to_case uppercase b ≡ b
 unfolding to_uppercase to_lowercase
-case-high true b h = simp (lt-leb b 122 (omega arith), and-false)
-case-high false b h = simp (lt-leb b 90 (omega arith), and-false)
+case-high true b h = grind (arith, nat_tests)
+case-high false b h = grind (arith, nat_tests)
 
 case-low : (uppercase : Bool) (b : ℕ) → b < 128 → to_case uppercase b < 128
 unfolding to_uppercase to_lowercase
-case-low true b h = low (leb 97 b) (leb b 122) (λ e. omega arith)
-  where
-    low : (p q : Bool) → (q ≡ true → b - 32 < 128) → cond (p && q) (b - 32) b < 128
-    low true true k = k refl
-    low true false k = h
-    low false q k = h
-case-low false b h = low (leb 65 b) (leb b 90) (λ e. let l = leb-true b 90 e in omega arith)
-  where
-    low : (p q : Bool) → (q ≡ true → b + 32 < 128) → cond (p && q) (b + 32) b < 128
-    low true true k = k refl
-    low true false k = h
-    low false q k = h
+case-low true b h = grind (arith, nat_tests)
+case-low false b h = grind (arith, nat_tests)
 
 -- so the later bytes of characters are the same
 pub trailing_in_case : (uppercase : Bool) (b : ℕ) → is_trailing (to_case uppercase b) ≡ is_trailing b
-unfolding is_trailing holds
-trailing_in_case uppercase b = go (ltb b 128) refl
-  where
-    go : (t : Bool) → ltb b 128 ≡ t → is_trailing (to_case uppercase b) ≡ is_trailing b
-    go true e =
-        let l = ltb-true b 128 e in
-        simp (lt-leb 128 (to_case uppercase b) (case-low uppercase b l), lt-leb 128 b l)
-    go false e = ap is_trailing (case-high uppercase b (ltb-false b 128 e))
+unfolding is_trailing holds to_uppercase to_lowercase
+trailing_in_case true b = grind (arith, nat_tests)
+trailing_in_case false b = grind (arith, nat_tests)
 
 pub trimmed-in_case : (uppercase : Bool) (bs : List ℕ) → trimmed_length (map (to_case uppercase) bs) ≡ trimmed_length bs
 trimmed-in_case uppercase = trimmed_length-map (to_case uppercase) (case-high uppercase) (case-low uppercase) (white_in_case uppercase)

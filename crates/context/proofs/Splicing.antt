@@ -2,7 +2,7 @@
 use mathlib.Core.Path.{◌≡◌, refl, sym, ap, ◌∙◌}
 use mathlib.Core.List.{List, [], ◌∷◌, ◌++◌, append-nil}
 use Prim.Native.Nat.{ℕ, zero, suc, min, ◌+◌, ◌-◌, ◌≤◌, ◌<◌}
-use native.Mathlib.Nat.{add-suc, suc-add, zero-add, zero-min, suc-min-suc, le_of_suc-le-suc, not-suc-le-zero}
+use native.Mathlib.Nat.{add-suc, suc-add, zero-add, zero-min, min-zero, suc-min-suc, le_of_suc-le-suc, not-suc-le-zero}
 use native.Mathlib.Numerals.{add-one}
 use native.Mathlib.Omega.{arith}
 use lib.ListN.{length, get_or, take, drop, set, length-drop, drop_of_length-le}
@@ -95,6 +95,16 @@ module _ {A : Type 0} where
   -- the end
   pub loop_end : (ps xs out : List A) (i : ℕ) → out ≡ splice 0 (take i ps) xs → i ≡ min (length ps) (length xs) → out ≡ splice 0 ps xs
   loop_end ps xs out i e h = e ∙ ap (λ (k : ℕ). splice 0 (take k ps) xs) h ∙ splice-min ps xs
+
+  -- as many elements as there is room for took the place of the front
+  front-laid : (ps xs : List A) → take (min (length ps) (length xs)) ps ++ drop (min (length ps) (length xs)) xs ≡ splice 0 ps xs
+  unfolding splice
+  front-laid ps [] = rw (min-zero (length ps)) refl
+  front-laid [] (x ∷ xs) = rw zero-min refl
+  front-laid (p ∷ ps) (x ∷ xs) = rw suc-min-suc (ap {B = List A} (λ r. p ∷ r) (front-laid ps xs))
+
+  pub splice-front : (ps xs ys : List A) (n : ℕ) → n ≡ min (length ps) (length xs) → ys ≡ take n ps → ys ++ drop n xs ≡ splice 0 ps xs
+  splice-front ps xs ys n e f = rw (f, e) (front-laid ps xs)
 
   -- ── a part that starts mid-list
 

@@ -7,7 +7,6 @@ use Rattle.context.specs.Context.{Step, new_state, after_write}
 use Rattle.context.specs.declared.State.{State}
 use Rattle.context.specs.declared.Position.{Position}
 use Rattle.context.specs.declared.FormatterContext.{FormatterContext}
-use Rattle.context.specs.declared.Taken.{Taken}
 
 abbrev pub new : FormatterContext
 new = record { state = new_state; position = record { length = 0; trimmed = 0 } }
@@ -68,6 +67,6 @@ pub record Changed (n : ℕ) (s : State) (c r : FormatterContext) : Type 0 where
   pub spent : Spent n c r
 
 -- a mark was handed out, and the state changed
-pub record Took (x : Bool × State) (c : FormatterContext) (r : Taken) : Type 0 where
-  pub mark : r.mark ≡ x.0
-  pub context : Changed 0 x.1 c r.context
+pub record Took (x : Bool × State) (c : FormatterContext) (r : Bool × FormatterContext) : Type 0 where
+  pub mark : r.0 ≡ x.0
+  pub context : Changed 0 x.1 c r.1

@@ -7,34 +7,18 @@ ghost use Rattle.context.specs.Context.{ends_in_newline};
 
 use utf8::trimmed_length;
 
-pub(crate) fn least(a: usize, b: usize) -> usize
-    ensures { result ≡ min a b }
-{
-    if a < b { a } else { b }
-}
-
+#[tactic(auto, unfolding(basics::specs::Case::to_uppercase, basics::specs::Case::to_lowercase))]
 pub(crate) fn to_case(uppercase: bool, b: u8) -> u8
     ensures { result ≡ to_case uppercase b }
 {
     if uppercase {
-        if b < 97 {
-            return b;
-        }
-        if 122 < b {
-            return b;
-        }
-        return b - 32;
+        b.to_ascii_uppercase()
+    } else {
+        b.to_ascii_lowercase()
     }
-    if b < 65 {
-        return b;
-    }
-    if 90 < b {
-        return b;
-    }
-    b + 32
 }
 
-// n times the byte b, from the part's start. Most often it is one blank, for which the block fill that the loop becomes is slow.
+// n times the byte b, from the part's start. Most often it is one blank, for which the block fill is slow.
 pub(crate) fn fill(out: &mut [u8], n: usize, b: u8)
     ensures { out.new ≡ splice 0 (replicate n b) out.old }
 {
@@ -44,24 +28,16 @@ pub(crate) fn fill(out: &mut [u8], n: usize, b: u8)
         }
         return;
     }
-    let end = least(n, out.len());
-    let mut i: usize = 0;
-    while i < end {
-        out[i] = b;
-        i += 1;
-    }
+    let end = n.min(out.len());
+    out[..end].fill(b);
 }
 
 // The text, from the part's start.
 pub fn copy(out: &mut [u8], text: &[u8])
     ensures { out.new ≡ splice 0 text.now out.old }
 {
-    let end = least(text.len(), out.len());
-    let mut i: usize = 0;
-    while i < end {
-        out[i] = text[i];
-        i += 1;
-    }
+    let end = text.len().min(out.len());
+    out[..end].copy_from_slice(&text[..end]);
 }
 
 // The first four bytes of the text, all read before one is written: the compiler makes one move of them.
@@ -114,15 +90,13 @@ fn copy_short(out: &mut [u8], text: &[u8])
 pub(crate) fn copy_in_case(out: &mut [u8], uppercase: bool, text: &[u8])
     ensures { out.new ≡ splice 0 (map (to_case uppercase) text.now) out.old }
 {
-    let end = least(text.len(), out.len());
-    let mut i: usize = 0;
-    while i < end {
+    let end = text.len().min(out.len());
+    for i in 0..end {
         out[i] = to_case(uppercase, text[i]);
-        i += 1;
     }
 }
 
-// The same from offset `at` on: the part that begins there is lent.
+// The same from offset `at` on: the part that begins there is lent, by a test, since of `get_mut` it is not known what the part leaves in `out`.
 pub(crate) fn fill_at(out: &mut [u8], at: usize, n: usize, b: u8)
     ensures { out.new ≡ splice at (replicate n b) out.old }
 {
@@ -169,7 +143,7 @@ pub fn put_short(out: &mut [u8], at: usize, blanks: usize, text: &[u8]) -> usize
     trimmed_length(text)
 }
 
-// `put` in upper or lower case.
+// `put` in upper or lower case: only the copy differs, and as a closure it would need clauses longer than these lines.
 pub fn put_in_case(out: &mut [u8], at: usize, blanks: usize, uppercase: bool, text: &[u8]) -> usize
     requires { at + blanks < 2 ^ 64 }
     ensures { (result ≡ trimmed_length text.now) × (out.new ≡ splice (at + blanks) (map (to_case uppercase) text.now) (splice at (replicate blanks 32) out.old)) }
@@ -189,22 +163,11 @@ pub(crate) fn trimmed_after(n: usize, k: usize, j: usize) -> usize
 pub fn count_newlines(text: &[u8]) -> usize
     ensures { result ≡ count 10 text.now }
 {
-    let mut k: usize = 0;
-    let mut i: usize = 0;
-    while i < text.len() {
-        if text[i] == 10 {
-            k += 1;
-        }
-        i += 1;
-    }
-    k
+    text.iter().filter(|b| **b == b'\n').count()
 }
 
 pub(crate) fn ends_in_newline(text: &[u8]) -> bool
     ensures { result ≡ ends_in_newline text.now }
 {
-    if text.len() == 0 {
-        return false;
-    }
-    text[text.len() - 1] == 10
+    text.last() == Some(&b'\n')
 }

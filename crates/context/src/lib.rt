@@ -25,7 +25,7 @@ ghost use Rattle.context.specs.Store.{Changed, Room, Took, Wrote, advanced, afte
 pub use buffer::{copy, count_newlines, put, put_in_case, put_short};
 use utf8::{is_white_byte, trimmed_from_end};
 
-// What the caller sets.
+// What the caller sets. The width is bounded where it is asked for and not in the type, since the definition of the layout has every width.
 #[derive(Clone, Copy)]
 pub struct FormatConfig {
     pub indent_width: usize,
@@ -57,14 +57,8 @@ pub struct FormatterContext {
     pub position: Position,
 }
 
-// A pending mark, and the context without it.
-#[derive(Clone, Copy)]
-pub struct Taken {
-    pub mark: bool,
-    pub context: FormatterContext,
-}
-
 // Token::text, as a part of the lent text. The span comes from a checked tape, so it lies within the text.
+#[tactic(auto, unfolding(basics::specs::Bytes::token_text))]
 pub fn token_text(source: &[u8], start: usize, end: usize) -> &[u8]
     requires { (start ≤ end) × (end ≤ length source.now) }
     ensures { result.now ≡ token_text source.now start end }
@@ -79,7 +73,7 @@ impl State {
         ensures { (bytes_of (lead config self) ≡ replicate result 32) × (result ≤ 2 ^ 24) }
     {
         let indent = self.indent_level as usize * config.indent_width;
-        let blank = self.needs_space as usize;
+        let blank = usize::from(self.needs_space);
         if self.at_line_start { indent } else { blank }
     }
 
@@ -100,11 +94,7 @@ impl Position {
         requires { self.length + blanks + length text.now < 2 ^ 64 }
         ensures { result ≡ advanced (replicate blanks 32 ++ text.now) self }
     {
-        let from = self.length + blanks;
-        Position {
-            length: from + text.len(),
-            trimmed: buffer::trimmed_after(from, self.trimmed, trimmed_from_end(text)),
-        }
+        self.after_text(blanks, text.len(), trimmed_from_end(text))
     }
 
     // The same of a text of n bytes, j of which are left once its trailing white space is dropped.
@@ -124,17 +114,8 @@ impl Position {
         requires { self.length + blanks + 1 < 2 ^ 64 }
         ensures { result ≡ advanced (replicate blanks 32 ++ (b ∷ [])) self }
     {
-        let end = self.length + blanks + 1;
-        if is_white_byte(b) {
-            return Position {
-                length: end,
-                trimmed: self.trimmed,
-            };
-        }
-        Position {
-            length: end,
-            trimmed: end,
-        }
+        let left = if is_white_byte(b) { 0 } else { 1 };
+        self.after_text(blanks, 1, left)
     }
 }
 
@@ -163,8 +144,7 @@ impl FormatterContext {
         requires { (self.state.indent_level ≤ 2 ^ 20) × (config.indent_width ≤ 16) }
         ensures { (bytes_of (lead config self.state) ≡ replicate result 32) × (result ≤ 2 ^ 24) }
     {
-        let s = self.state;
-        s.lead_blanks(config)
+        self.state.lead_blanks(config)
     }
 
     // What write_token hands back once `put` has written so many blanks and a text of n bytes, and has answered j.
@@ -172,11 +152,9 @@ impl FormatterContext {
         requires { (self.position.length + blanks + n < 2 ^ 64) × (j ≤ n) }
         ensures { result ≡ after_text blanks n j self }
     {
-        let s = self.state;
-        let p = self.position;
         FormatterContext {
-            state: s.after_write(false),
-            position: p.after_text(blanks, n, j),
+            state: self.state.after_write(false),
+            position: self.position.after_text(blanks, n, j),
         }
     }
 
@@ -184,13 +162,10 @@ impl FormatterContext {
         requires { Room 1 self }
         ensures { Wrote 1 (stored (write_newline self.state) (self, out.old)) self result out.new }
     {
-        let s = self.state;
-        let p = self.position;
-        let at = p.length;
-        buffer::fill_at(out, at, 1, 10);
+        buffer::fill_at(out, self.position.length, 1, b'\n');
         FormatterContext {
-            state: s.after_write(true),
-            position: p.after_byte(0, 10),
+            state: self.state.after_write(true),
+            position: self.position.after_byte(0, b'\n'),
         }
     }
 
@@ -199,15 +174,13 @@ impl FormatterContext {
         requires indent_width_bound { (config.indent_width ≤ 16) × (length text.now ≤ 2 ^ 18) }
         ensures { Wrote 1 (stored (write_token config (fixed text.now) self.state) (self, out.old)) self result out.new }
     {
-        let s = self.state;
-        let p = self.position;
-        let at = p.length;
-        let blanks = s.lead_blanks(config);
+        let at = self.position.length;
+        let blanks = self.lead_blanks(config);
         buffer::fill_at(out, at, blanks, 32);
         buffer::copy_at(out, at + blanks, text);
         FormatterContext {
-            state: s.after_write(false),
-            position: p.after(blanks, text),
+            state: self.state.after_write(false),
+            position: self.position.after(blanks, text),
         }
     }
 
@@ -217,112 +190,74 @@ impl FormatterContext {
         requires indent_width_bound { config.indent_width ≤ 16 }
         ensures { Wrote 1 (stored (write_token config (fresh sign ∷ []) self.state) (self, out.old)) self result out.new }
     {
-        let s = self.state;
-        let p = self.position;
-        let at = p.length;
-        let blanks = s.lead_blanks(config);
+        let at = self.position.length;
+        let blanks = self.lead_blanks(config);
         buffer::fill_at(out, at, blanks, 32);
         buffer::fill_at(out, at + blanks, 1, sign);
         FormatterContext {
-            state: s.after_write(false),
-            position: p.after_byte(blanks, sign),
+            state: self.state.after_write(false),
+            position: self.position.after_byte(blanks, sign),
         }
     }
 
     pub fn is_at_line_start(self) -> bool
         ensures { result ≡ self.state.at_line_start }
     {
-        let s = self.state;
-        s.at_line_start
+        self.state.at_line_start
     }
 
-    pub fn write_space(self) -> FormatterContext
+    #[tactic(auto, unfolding(crate::specs::Context::write_space))]
+    pub fn write_space(mut self) -> FormatterContext
         ensures { Changed 0 (write_space self.state) self result }
     {
-        let s = self.state;
-        let mut next = s;
-        next.needs_space = s.needs_space | !s.at_line_start;
-        let p = self.position;
-        FormatterContext {
-            state: next,
-            position: p,
-        }
+        self.state.needs_space |= !self.state.at_line_start;
+        self
     }
 
-    pub fn note_skipped_whitespace(self, text: &[u8]) -> FormatterContext
+    #[tactic(auto, unfolding(crate::specs::Context::note_skipped_whitespace))]
+    pub fn note_skipped_whitespace(mut self, text: &[u8]) -> FormatterContext
         ensures { Changed 0 (note_skipped_whitespace text.now self.state) self result }
     {
         let n = buffer::count_newlines(text);
-        let p = self.position;
-        let s = self.state;
-        let mut next = s;
-        next.pending_newline = (1 <= n) | s.pending_newline;
-        next.pending_blank_line = (2 <= n) | s.pending_blank_line;
-        FormatterContext {
-            state: next,
-            position: p,
-        }
+        self.state.pending_newline |= 1 <= n;
+        self.state.pending_blank_line |= 2 <= n;
+        self
     }
 
-    pub fn take_pending_newline(self) -> Taken
+    // The mark, and the context without it.
+    #[tactic(auto, unfolding(crate::specs::Context::take_pending_newline))]
+    pub fn take_pending_newline(mut self) -> (bool, FormatterContext)
         ensures { Took (take_pending_newline self.state) self result }
     {
-        let s = self.state;
-        let p = self.position;
-        let mut next = s;
-        next.pending_newline = false;
-        Taken {
-            mark: s.pending_newline,
-            context: FormatterContext {
-                state: next,
-                position: p,
-            },
-        }
+        let mark = self.state.pending_newline;
+        self.state.pending_newline = false;
+        (mark, self)
     }
 
-    pub fn take_pending_blank_line(self) -> Taken
+    #[tactic(auto, unfolding(crate::specs::Context::take_pending_blank_line))]
+    pub fn take_pending_blank_line(mut self) -> (bool, FormatterContext)
         ensures { Took (take_pending_blank_line self.state) self result }
     {
-        let s = self.state;
-        let p = self.position;
-        let mut next = s;
-        next.pending_blank_line = false;
-        Taken {
-            mark: s.pending_blank_line,
-            context: FormatterContext {
-                state: next,
-                position: p,
-            },
-        }
+        let mark = self.state.pending_blank_line;
+        self.state.pending_blank_line = false;
+        (mark, self)
     }
 
-    pub fn indent(self) -> FormatterContext
+    #[tactic(auto, unfolding(crate::specs::Context::indent))]
+    pub fn indent(mut self) -> FormatterContext
         requires { Room 1 self }
         ensures { Changed 1 (indent self.state) self result }
     {
-        let mut next = self.state;
-        next.indent_level = next.indent_level + 1;
-        let p = self.position;
-        FormatterContext {
-            state: next,
-            position: p,
-        }
+        self.state.indent_level += 1;
+        self
     }
 
-    pub fn dedent(self) -> FormatterContext
+    #[tactic(auto, unfolding(crate::specs::Context::dedent))]
+    pub fn dedent(mut self) -> FormatterContext
         ensures { Changed 0 (dedent self.state) self result }
     {
-        let s = self.state;
-        if s.indent_level == 0 {
-            return self;
-        }
-        let mut next = s;
-        next.indent_level = s.indent_level - 1;
-        let p = self.position;
-        FormatterContext {
-            state: next,
-            position: p,
-        }
+        self.state.indent_level = self.state.indent_level.saturating_sub(1);
+        self
     }
 
     // The text as it stands, with no indent and no blank before it.
@@ -331,13 +266,10 @@ impl FormatterContext {
         requires text_len_bound { length text.now ≤ 2 ^ 18 }
         ensures { Wrote 1 (stored (write_raw (fixed text.now) self.state) (self, out.old)) self result out.new }
     {
-        let s = self.state;
-        let p = self.position;
-        let at = p.length;
-        buffer::copy_at(out, at, text);
+        buffer::copy_at(out, self.position.length, text);
         FormatterContext {
-            state: s.after_write(buffer::ends_in_newline(text)),
-            position: p.after(0, text),
+            state: self.state.after_write(buffer::ends_in_newline(text)),
+            position: self.position.after(0, text),
         }
     }
 }

@@ -17,9 +17,9 @@ use Rattle.tape.specs.Faults.{number}
 use Rattle.layout.specs.declared.Answer.{Answer}
 use Rattle.layout.specs.Layout.{original}
 use Rattle.layout.specs.Outcome.{Outcome, refusal, laid, Result, fitted, laid_out, outcome}
+use Rattle.std.specs.Prelude.{Ok, Err, Result as Checked}
 use Rattle.desk_job.specs.declared.Header.{Header}
-use Rattle.desk_job.specs.declared.Header.TheVariants.{Refused, Accepted}
-use Rattle.desk_job.specs.Job.{Answered, refused, text, answered_outcome, answered_job, leaves, read_header, refused_line, printed_answer}
+use Rattle.desk_job.specs.Job.{Answered, refused, text, answered_outcome, answered_job, leaves, read_header, accepted, refused_line, printed_answer}
 use Rattle.desk_job.proofs.Writing.{Wrote, wrote}
 
 -- no refusal has the number 0
@@ -63,7 +63,7 @@ laid-leaves (refusal f p) xs = refl
 laid-leaves (laid cs) xs = fitted-leaves (leb (length cs) (length xs)) cs xs
 
 -- an accepted job: its text and its tape are parts of the job
-pub job_leaves : {r : Result} (more : Bool) (job xs : List ℕ) (width case e : ℕ) → Accepted width case e ≡ read_header more job
+pub job_leaves : {r : Result} (more : Bool) (job xs : List ℕ) (width case e : ℕ) → accepted width case e ≡ read_header more job
     → r ≡ laid_out (outcome original width case (take (e - 9) (drop 9 job)) (take (length job - e) (drop e job))) xs
     → r ≡ leaves (answered_job (read_header more job) job (length xs)) xs
 unfolding answered_job
@@ -87,11 +87,11 @@ unfolding answered_outcome
 outcome_fits (refusal f p) room = positive f
 outcome_fits (laid cs) room = laid-fits (leb (length cs) room) cs room refl
 
-pub answer-fits : (h : Header) (job : List ℕ) (room : ℕ) → Fits (answered_job h job room) room
+pub answer-fits : (h : Checked Header ℕ) (job : List ℕ) (room : ℕ) → Fits (answered_job h job room) room
 unfolding answered_job
-answer-fits (Refused p) job room = omega arith
-answer-fits (Accepted width case e) job room =
-    outcome_fits (outcome original width case (take (e - 9) (drop 9 job)) (drop e job)) room
+answer-fits (Err p) job room = omega arith
+answer-fits (Ok h) job room =
+    outcome_fits (outcome original h.width h.case (take (h.end - 9) (drop 9 job)) (drop h.end job)) room
 
 -- ── what is printed
 

@@ -1,13 +1,12 @@
 -- The desk's program: how a job is read, and what is printed for it.
-use Rattle.std.specs.Prelude.{ℕ, zero, suc, ◌+◌, ◌-◌, ◌/◌, ◌%◌, Bool, cond, not, ◌&&◌, List, [], ◌∷◌, ◌++◌, length, get_or, take, drop, leb, ltb, eqb}
+use Rattle.std.specs.Prelude.{ℕ, zero, suc, ◌+◌, ◌-◌, ◌/◌, ◌%◌, Bool, cond, not, ◌&&◌, List, [], ◌∷◌, ◌++◌, length, get_or, take, drop, leb, ltb, eqb, Result, Ok, Err}
 use Rattle.context.specs.Cells.{bytes_of}
 use Rattle.keywords.specs.Words.{bytes}
 use Rattle.tape.specs.Faults.{number}
 use Rattle.tape.specs.Tape.{u32_at}
 use Rattle.layout.specs.Layout.{original}
-use Rattle.layout.specs.Outcome.{Outcome, refusal, laid, Result, answer, outcome}
+use Rattle.layout.specs.Outcome.{Outcome, refusal, laid, Result as CallResult, answer, outcome}
 use Rattle.desk_job.specs.declared.Header.{Header}
-use Rattle.desk_job.specs.declared.Header.TheVariants.{Refused, Accepted}
 
 -- the command stands at `at`, whole up to `end`
 unfoldable pub has_command : List ℕ → ℕ → ℕ → ℕ → Bool
@@ -17,16 +16,19 @@ has_command job at end command = leb end (length job) && eqb (get_or job at 0) c
 unfoldable pub text_end : List ℕ → ℕ
 text_end job = 9 + u32_at job 5
 
--- `more`: the input goes on after the job's bytes; a text cut short is its command cut short
-unfoldable pub read_header : Bool → List ℕ → Header
+abbrev pub accepted : ℕ → ℕ → ℕ → Result Header ℕ
+accepted width case end = Ok (record { width = width; case = case; end = end })
+
+-- or the place of a refusal; `more`: the input goes on after the job's bytes; a text cut short is its command cut short
+unfoldable pub read_header : Bool → List ℕ → Result Header ℕ
 read_header more job =
-    cond more (Refused 65536)
-    (cond (ltb 65536 (length job)) (Refused 65536)
-    (cond (not (has_command job 0 2 16)) (Refused 0)
-    (cond (not (has_command job 2 4 17)) (Refused 2)
-    (cond (not (has_command job 4 9 18)) (Refused 4)
-    (cond (ltb (length job) (text_end job)) (Refused 4)
-    (Accepted (get_or job 1 0) (get_or job 3 0) (text_end job)))))))
+    cond more (Err 65536)
+    (cond (ltb 65536 (length job)) (Err 65536)
+    (cond (not (has_command job 0 2 16)) (Err 0)
+    (cond (not (has_command job 2 4 17)) (Err 2)
+    (cond (not (has_command job 4 9 18)) (Err 4)
+    (cond (ltb (length job) (text_end job)) (Err 4)
+    (accepted (get_or job 1 0) (get_or job 3 0) (text_end job)))))))
 
 -- what the program answers for a job: a refusal's number and place, or the text of the layout
 pub data Answered : Type 0 where
@@ -39,17 +41,17 @@ answered_outcome (refusal f p) room = refused (number f) p
 answered_outcome (laid cs) room = cond (leb (length cs) room) (text (bytes_of cs)) (refused 13 (length cs))
 
 -- 14, else what the two calls' definition says of width, case, text and tape
-unfoldable pub answered_job : Header → List ℕ → ℕ → Answered
-answered_job (Refused p) job room = refused 14 p
-answered_job (Accepted width case end) job room =
-    answered_outcome (outcome original width case (take (end - 9) (drop 9 job)) (drop end job)) room
+unfoldable pub answered_job : Result Header ℕ → List ℕ → ℕ → Answered
+answered_job (Err p) job room = refused 14 p
+answered_job (Ok h) job room =
+    answered_outcome (outcome original h.width h.case (take (h.end - 9) (drop 9 job)) (drop h.end job)) room
 
 -- the answer to a job, with an output buffer of `room` bytes
 abbrev pub answered : Bool → List ℕ → ℕ → Answered
 answered more job room = answered_job (read_header more job) job room
 
 -- the same as two numbers, as `layout` has them, and the output buffer afterwards
-unfoldable pub leaves : Answered → List ℕ → Result
+unfoldable pub leaves : Answered → List ℕ → CallResult
 leaves (refused n p) space = record { answer = answer n p; space = space }
 leaves (text bs) space = record { answer = answer 0 (length bs); space = bs ++ drop (length bs) space }
 

@@ -3,38 +3,33 @@
 
 pub mod write;
 
-ghost use Rattle.std.specs.Prelude.{◌≡◌, ◌<◌, ◌≤◌, length};
-ghost use Rattle.layout.specs.Outcome.{Result};
+ghost use Rattle.std.specs.Prelude.{◌≡◌, ◌<◌, ◌≤◌, true, false, length, MatchResult};
+ghost use Rattle.layout.specs.Outcome.{Result as CallResult};
 ghost use Rattle.desk_job.specs.Job.{has_command, text_end, read_header, answered, leaves, refused_line, printed};
 ghost use Rattle.desk_job.specs.Written.{Written, written};
 
 use formatter::layout;
 use layout::Answer;
 use tape::commands::u32_at;
-use write::put_pair;
+use write::Writer;
 
-// The three header commands: refused at a place; or width, case and where the text ends.
+// What the three header commands say, and where the text ends.
 #[derive(Clone, Copy)]
-pub enum Header {
-    Refused(u64),
-    Accepted(u64, u64, usize),
+pub struct Header {
+    pub width: u64,
+    pub case: u64,
+    pub end: usize,
 }
 
-fn wide(b: u8) -> u64
-    ensures { result ≡ b }
-{
-    b as u64
-}
-
-// Whether the command stands at `at`, whole up to `end`. The place lies before the end, so the test of the end is one of the place.
-fn has_command(job: &[u8], at: usize, end: usize, command: u8) -> bool
+// The command has to stand at `at`, whole up to `end`, and is refused there. The place lies before the end, so the test of the end is one of the place.
+fn check_command(job: &[u8], at: usize, end: usize, command: u8) -> Result<(), u64>
     requires { at < end }
-    ensures { result ≡ has_command job.now at end command }
+    ensures { MatchResult result (λ _. (end ≤ length job.now) × (has_command job.now at end command ≡ true)) (λ place. (place ≡ at) × (has_command job.now at end command ≡ false)) }
 {
-    if job.len() < end {
-        return false;
+    if end <= job.len() && job[at] == command {
+        return Ok(());
     }
-    job[at] == command
+    Err(at as u64)
 }
 
 // Where the text ends: its length is the third command's operand, which must be whole.
@@ -45,43 +40,43 @@ fn text_end(job: &[u8]) -> usize
     9 + u32_at(job, 5) as usize
 }
 
-// `more`: whether the input goes on after the job's bytes.
-fn read_header(job: &[u8], more: bool) -> Header
+// The header, or where it is refused. `more`: whether the input goes on after the job's bytes; apart from them, since a book hands its jobs on with `false`.
+fn read_header(job: &[u8], more: bool) -> Result<Header, u64>
     ensures { result ≡ read_header more job.now }
 {
-    if more {
-        return Header::Refused(65536);
+    if more || 65536 < job.len() {
+        return Err(65536);
     }
-    if 65536 < job.len() {
-        return Header::Refused(65536);
-    }
-    if !has_command(job, 0, 2, 0x10) {
-        return Header::Refused(0);
-    }
-    if !has_command(job, 2, 4, 0x11) {
-        return Header::Refused(2);
-    }
-    if !has_command(job, 4, 9, 0x12) {
-        return Header::Refused(4);
-    }
+    check_command(job, 0, 2, 0x10)?;
+    check_command(job, 2, 4, 0x11)?;
+    check_command(job, 4, 9, 0x12)?;
     let end = text_end(job);
     if job.len() < end {
-        return Header::Refused(4);
+        return Err(4);
     }
-    Header::Accepted(wide(job[1]), wide(job[3]), end)
+    Ok(Header {
+        width: u64::from(job[1]),
+        case: u64::from(job[3]),
+        end,
+    })
 }
 
 // How the program answers a job: 0 and the length of its layout, which then stands in `out`; else 14, or what `layout` refuses, and the place.
 pub fn answer_job(job: &[u8], more: bool, out: &mut [u8]) -> Answer
-    ensures { ◌≡◌ {A = Result} (record { answer = result; space = out.new }) (leaves (answered more job.now (length out.old)) out.old) }
+    ensures { ◌≡◌ {A = CallResult} (record { answer = result; space = out.new }) (leaves (answered more job.now (length out.old)) out.old) }
 {
-    let header = read_header(job, more);
-    match header {
-        Header::Refused(place) => Answer {
+    match read_header(job, more) {
+        Err(place) => Answer {
             number: 14,
             value: place,
         },
-        Header::Accepted(width, case, end) => layout(&job[9..end], &job[end..], width, case, out),
+        Ok(header) => layout(
+            &job[9..header.end],
+            &job[header.end..],
+            header.width,
+            header.case,
+            out,
+        ),
     }
 }
 
@@ -89,7 +84,9 @@ pub fn answer_job(job: &[u8], more: bool, out: &mut [u8]) -> Answer
 pub fn print_refusal(number: u64, place: u64, out: &mut [u8]) -> usize
     ensures { ◌≡◌ {A = Written} (record { end = result; space = out.new }) (written 0 (refused_line number place) out.old) }
 {
-    put_pair(out, 0, b"refused ", number, b" at ", place)
+    let mut writer = Writer::new(out);
+    writer.put_pair(b"refused ", number, b" at ", place);
+    writer.end()
 }
 
 // Puts what the job prints into `out`, as far as that goes, and answers how many bytes it has put.

@@ -1,62 +1,71 @@
-// Bytes, decimal numbers and lines of them written into a lent space, as far as it goes. Each writer starts within the space and answers where it ended.
-ghost use Rattle.std.specs.Prelude.{◌≡◌, [], ◌∷◌, ◌≤◌, length};
-ghost use Rattle.desk_job.specs.Written.{Written, written};
-ghost use Rattle.desk_job.specs.Job.{decimal, field, pair};
+// Bytes, decimal numbers and lines of them written into a lent space, as far as it goes.
+ghost use Rattle.std.specs.Prelude.{◌≤◌, length};
 
-fn put(out: &mut [u8], at: usize, b: u8) -> usize
-    requires { at ≤ length out.old }
-    ensures { ◌≡◌ {A = Written} (record { end = result; space = out.new }) (written at (b ∷ []) out.old) }
-{
-    if out.len() <= at {
-        return at;
-    }
-    out[at] = b;
-    at + 1
+// A lent space, and how far it is written.
+#[derive(Drop)]
+pub struct Writer<'a> {
+    out: &'a mut [u8],
+    end: usize,
+    pub ghost within: { end ≤ length out.now },
 }
 
-pub fn put_all(out: &mut [u8], start: usize, text: &[u8]) -> usize
-    requires { start ≤ length out.old }
-    ensures { ◌≡◌ {A = Written} (record { end = result; space = out.new }) (written start text.now out.old) }
-{
-    let mut at = start;
-    let mut i: usize = 0;
-    while i < text.len() {
-        at = put(out, at, text[i]);
-        i += 1;
-    }
-    at
-}
+impl<'a> Writer<'a> {
+    ghost use Rattle.std.specs.Prelude.{◌≡◌, [], ◌∷◌};
+    ghost use Rattle.desk_job.specs.Job.{decimal, field, pair};
+    ghost use Rattle.desk_job.specs.Puts.{Puts};
 
-// The decimal digits of n, at most `places` of them.
-pub fn put_decimal(out: &mut [u8], at: usize, places: usize, n: u64) -> usize
-    requires { at ≤ length out.old }
-    ensures { ◌≡◌ {A = Written} (record { end = result; space = out.new }) (written at (decimal places n) out.old) }
-{
-    if places == 0 {
-        return at;
+    // Nothing is written yet.
+    pub fn new(out: &'a mut [u8]) -> Writer<'a>
+        ensures same { result.out.ghost_name ≡ out.entry.ghost_name }
+        ensures end { result.end ≡ 0 }
+        ensures space { result.out.now ≡ out.old }
+    {
+        Writer { out, end: 0 }
     }
-    if n < 10 {
-        return put(out, at, 48 + n as u8);
+
+    // How many bytes are written.
+    pub fn end(&self) -> usize
+        ensures { result ≡ self.now.end }
+    {
+        self.end
     }
-    let end = put_decimal(out, at, places - 1, n / 10);
-    put(out, end, 48 + (n % 10) as u8)
-}
 
-// A label and a number after it.
-pub fn put_field(out: &mut [u8], at: usize, label: &[u8], n: u64) -> usize
-    requires { at ≤ length out.old }
-    ensures { ◌≡◌ {A = Written} (record { end = result; space = out.new }) (written at (field label.now n) out.old) }
-{
-    let a = put_all(out, at, label);
-    put_decimal(out, a, 20, n)
-}
+    pub fn put_all(&mut self, text: &[u8])
+        ensures { Puts self.old text.now self.new }
+    {
+        let fits = text.len().min(self.out.len() - self.end);
+        let end = self.end + fits;
+        self.out[self.end..end].copy_from_slice(&text[..fits]);
+        self.end = end;
+    }
 
-// Two of them, and a newline.
-pub fn put_pair(out: &mut [u8], at: usize, first: &[u8], x: u64, second: &[u8], y: u64) -> usize
-    requires { at ≤ length out.old }
-    ensures { ◌≡◌ {A = Written} (record { end = result; space = out.new }) (written at (pair first.now x second.now y) out.old) }
-{
-    let a = put_field(out, at, first, x);
-    let b = put_field(out, a, second, y);
-    put_all(out, b, b"\n")
+    // The decimal digits of n, at most `places` of them. Not by std's `fmt`, which says what it has written only where it answers Ok, and not when it does.
+    pub fn put_decimal(&mut self, places: usize, n: u64)
+        ensures { Puts self.old (decimal places n) self.new }
+    {
+        if places == 0 {
+            return;
+        }
+        if 10 <= n {
+            self.put_decimal(places - 1, n / 10);
+        }
+        self.put_all(&[b'0' + (n % 10) as u8]);
+    }
+
+    // A label and a number after it.
+    pub fn put_field(&mut self, label: &[u8], n: u64)
+        ensures { Puts self.old (field label.now n) self.new }
+    {
+        self.put_all(label);
+        self.put_decimal(20, n);
+    }
+
+    // Two of them, and a newline.
+    pub fn put_pair(&mut self, first: &[u8], x: u64, second: &[u8], y: u64)
+        ensures { Puts self.old (pair first.now x second.now y) self.new }
+    {
+        self.put_field(first, x);
+        self.put_field(second, y);
+        self.put_all(b"\n");
+    }
 }

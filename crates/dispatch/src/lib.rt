@@ -7,7 +7,8 @@ ghost use Rattle.layout.specs.FormatNode.{routine_of};
 use layout::Routine;
 use tape::syntax_kind;
 
-// Keys of one arm that are neighbours would become ranges, so the kinds of a routine stand in two.
+// Neighbours in one arm would become ranges, each with a goal that the check does not find, so the kinds of a routine stand in two arms.
+#[tactic(auto, unfolding(layout::specs::FormatNode::routine_of, layout::specs::FormatNode::routines))]
 pub fn routine_of(kind: u16) -> Routine
     ensures { result ≡ routine_of kind }
 {

@@ -20,9 +20,9 @@ use Rattle.context.proofs.Splicing.{splice-covers}
 use Rattle.context.proofs.Trimming.{after_none}
 use Rattle.tape.specs.declared.Head.{Head}
 use Rattle.tape.specs.declared.Passed.{Passed}
+use Rattle.std.specs.Prelude.{Result as Answered, Ok, Err}
 use Rattle.tape.specs.declared.Fault.{Fault}
-use Rattle.tape.specs.declared.Checked.{Checked}
-use Rattle.tape.specs.declared.Checked.TheVariants.{Accepted, Refused}
+use Rattle.tape.specs.declared.Refusal.{Refusal}
 use Rattle.tape.specs.Tree.{Tree, tokens}
 use Rattle.tape.specs.NodeFacts.{Noted, NotedOf}
 use Rattle.tape.specs.Tape.{Read, refused, got, read_tree, head_at, verdict}
@@ -44,7 +44,6 @@ use Rattle.layout.proofs.TokenMaps.{tokens-size, places_count, map-count}
 use Rattle.layout.proofs.PieceStarts.{StartsAt, TokenStarts, spans_start}
 use Rattle.layout.proofs.Running.{after, run-appends, kept, finish-none, finish-length, finish-stored}
 use Rattle.formatter.specs.declared.Walk.{Walk}
-use Rattle.keywords.specs.Table.{table}
 use Rattle.token_map.specs.Notes.{note_all}
 use Rattle.token_map.specs.Spots.{spots}
 use Rattle.token_map.proofs.NotedSpots.{noted-spots}
@@ -62,13 +61,12 @@ take-splice (suc k) (b ∷ bs) (x ∷ xs) h l = ap {B = List ℕ} (λ r. b ∷ r
 
 -- ── the walk from the start
 
-pub root-ready : {text keywords tape facts : List ℕ} {config : FormatConfig} {h : Head} {c : FormatterContext} → Ready text keywords tape facts config → h ≡ head_at tape 0 → c ≡ new
-    → NodeReady text keywords tape facts config 63 0 c × (h.kind ≡ (head_at tape 0).kind)
-root-ready {text} {keywords} {tape} {facts} {config} p q e =
+pub root-ready : {text tape facts : List ℕ} {config : FormatConfig} {h : Head} {c : FormatterContext} → Ready text tape facts config → h ≡ head_at tape 0 → c ≡ new
+    → NodeReady text tape facts config 63 0 c × (h.kind ≡ (head_at tape 0).kind)
+root-ready {text} {tape} {facts} {config} p q e =
     let a = p.accepted in (
       rw e (record {
         sizes = p.sizes;
-        words = p.words;
         inside = a.root.inside;
         room = record { level = omega arith; length = omega arith };
         span = subst (λ (h : Head). h.start ≤ h.end → h.end ≤ length text) a.root.head a.root.span;
@@ -88,7 +86,7 @@ record Walked (bs xs : List ℕ) (w : Walk) (ys : List ℕ) : Type 0 where
   bytes : ys ≡ splice 0 bs xs
   short : w.context.position.trimmed ≤ 2 ^ 60
 
-walked : {text keywords tape facts : List ℕ} {config : FormatConfig} {c : FormatterContext} {xs ys ms ns : List ℕ} {w : Walk} → Ready text keywords tape facts config → c ≡ new
+walked : {text tape facts : List ℕ} {config : FormatConfig} {c : FormatterContext} {xs ys ms ns : List ℕ} {w : Walk} → Ready text tape facts config → c ≡ new
     → NodeDone text tape config 0 c xs ms w ys ns → (t : Tree) (p : ℕ) → read_tree (length text) tape ≡ got t p → Walked (bytes_of (all_cells config text t)) xs w ys
 unfolding pieces_of original appended advanced
 walked {text} {tape} {facts} {config} {c} {xs} {ys} {w = w} r e d t p q =
@@ -114,7 +112,7 @@ walked {text} {tape} {facts} {config} {c} {xs} {ys} {w = w} r e d t p q =
     }
 
 -- the places that a walk from the start has noted
-walked_notes : {text keywords tape facts : List ℕ} {config : FormatConfig} {c : FormatterContext} {xs ys ms ns : List ℕ} {w : Walk} → Ready text keywords tape facts config → c ≡ new
+walked_notes : {text tape facts : List ℕ} {config : FormatConfig} {c : FormatterContext} {xs ys ms ns : List ℕ} {w : Walk} → Ready text tape facts config → c ≡ new
     → NodeDone text tape config 0 c xs ms w ys ns → Notes text tape config ms ns
 walked_notes {text} {tape} {config} {c} {ms = ms} r e d =
     let a = r.accepted in
@@ -127,7 +125,7 @@ walked_notes {text} {tape} {config} {c} {ms = ms} r e d =
           ∙ ap (λ (z : FormatterContext). note_all (places_from config text format_node t (seat z)) ms) e;
     }
 
-module _ {text keywords tape facts : List ℕ} {config : FormatConfig} {c : FormatterContext} {w : Walk} (r : Ready text keywords tape facts config) (e : c ≡ new) where
+module _ {text tape facts : List ℕ} {config : FormatConfig} {c : FormatterContext} {w : Walk} (r : Ready text tape facts config) (e : c ≡ new) where
   pub walked_into : {xs ys ms ns : List ℕ} → NodeDone text tape config 0 c xs ms w ys ns → WalkedInto text tape config xs ms w.context.position.trimmed ys ns
   walked_into d =
       record {
@@ -202,16 +200,16 @@ module _ (X : List Cell) (k : ℕ) (n : k ≡ kept X) where
 
 -- ── the map where the tape is accepted
 
-pub root-at : {text keywords tape facts : List ℕ} {config : FormatConfig} → Ready text keywords tape facts config → NodeAt tape 0
+pub root-at : {text tape facts : List ℕ} {config : FormatConfig} → Ready text tape facts config → NodeAt tape 0
 root-at r = let a = r.accepted in record { len = _; kids = a.tree.kids; inside = a.root.inside; spelled = a.kids }
 
 -- the tokens of the tape, counted from its root
-pub map-fits : {text keywords tape facts : List ℕ} {config : FormatConfig} {j : Passed} → Ready text keywords tape facts config → Skipped tape 0 j → MapFits text tape (2 * j.tokens)
+pub map-fits : {text tape facts : List ℕ} {config : FormatConfig} {j : Passed} → Ready text tape facts config → Skipped tape 0 j → MapFits text tape (2 * j.tokens)
 map-fits r s =
     let a = r.accepted in
     record { all = λ t p q. ap (λ (n : ℕ). 2 * n) (s.counted _ a.tree.kids a.kids ∙ ap (λ (z : Tree). length (tokens z.kids)) (same-tree (sym a.read ∙ q))) }
 
-pub tokens-few : {text keywords tape facts : List ℕ} {config : FormatConfig} {j : Passed} → Ready text keywords tape facts config → Skipped tape 0 j → j.tokens ≤ length tape
+pub tokens-few : {text tape facts : List ℕ} {config : FormatConfig} {j : Passed} → Ready text tape facts config → Skipped tape 0 j → j.tokens ≤ length tape
 tokens-few r s = let a = r.accepted in omega (arith, s.counted _ a.tree.kids a.kids, tokens-size a.tree.kids, a.whole)
 
 pub notes-over : {text tape : List ℕ} {config : FormatConfig} {ms us ns : List ℕ} → ms ≡ us → Notes text tape config ms ns → Notes text tape config us ns
@@ -347,40 +345,40 @@ module _ {text tape : List ℕ} {config : FormatConfig} {k : ℕ} (n : Trims tex
 -- ── the whole calls
 
 module _ (width case : ℕ) (text tape : List ℕ) where
-  refused-is : (f : Fault) (p : ℕ) → Refused f p ≡ verdict (read_call width case text tape) → outcome original width case text tape ≡ refusal f p
+  refused-is : (r : Refusal) → Err r ≡ verdict (read_call width case text tape) → outcome original width case text tape ≡ refusal r.fault r.at
   unfolding outcome
-  refused-is f p e = go (read_call width case text tape) e
+  refused-is r e = go (read_call width case text tape) e
     where
-      go : (r : Read Tree) → Refused f p ≡ verdict r → of_read r (format original (config_of width case) text) ≡ refusal f p
-      go (refused g q) u = sym (same u)
-        where
-          same : {f g : Fault} {p q : ℕ} → ◌≡◌ {A = Checked} (Refused f p) (Refused g q) → refusal f p ≡ refusal g q
-          same x = cc
+      refusal_of : Answered (Unit {0}) Refusal → Outcome
+      refusal_of (Ok u) = laid []
+      refusal_of (Err r) = refusal r.fault r.at
+
+      go : (x : Read Tree) → Err r ≡ verdict x → of_read x (format original (config_of width case) text) ≡ refusal r.fault r.at
+      go (refused g q) u = ap refusal_of (sym u)
       go (got t q) u = absurd (let z : ◌≡◌ {A = ℕ} 0 1 = cc in omega arith)
 
-  pub refused-layout : {f : Fault} {n p : ℕ} (xs : List ℕ) → n ≡ number f → Refused f p ≡ verdict (read_call width case text tape)
-      → ◌≡◌ {A = Result} (record { answer = record { number = n; value = p }; space = xs }) (laid_out (outcome original width case text tape) xs)
+  pub refused-layout : {r : Refusal} {n : ℕ} (xs : List ℕ) → n ≡ number r.fault → Err r ≡ verdict (read_call width case text tape)
+      → ◌≡◌ {A = Result} (record { answer = record { number = n; value = r.at }; space = xs }) (laid_out (outcome original width case text tape) xs)
   unfolding laid_out
-  refused-layout {f} {n} {p} xs k e =
-      ap (λ (m : ℕ). record { answer = record { number = m; value = p }; space = xs }) k ∙ sym (ap (λ (o : Outcome). laid_out o xs) (refused-is f p e))
+  refused-layout {r} {n} xs k e =
+      ap (λ (m : ℕ). record { answer = record { number = m; value = r.at }; space = xs }) k ∙ sym (ap (λ (o : Outcome). laid_out o xs) (refused-is r e))
 
-  pub refused-map : {f : Fault} {n p : ℕ} (xs ms : List ℕ) → n ≡ number f → Refused f p ≡ verdict (read_call width case text tape)
-      → ◌≡◌ {A = Mapped} (record { answer = record { number = n; value = p }; space = xs; map = ms }) (mapped width case text tape xs ms)
+  pub refused-map : {r : Refusal} {n : ℕ} (xs ms : List ℕ) → n ≡ number r.fault → Err r ≡ verdict (read_call width case text tape)
+      → ◌≡◌ {A = Mapped} (record { answer = record { number = n; value = r.at }; space = xs; map = ms }) (mapped width case text tape xs ms)
   unfolding mapped
-  refused-map {f} {n} {p} xs ms k e =
-      ap (λ (m : ℕ). record { answer = record { number = m; value = p }; space = xs; map = ms }) k
-      ∙ sym (ap (λ (o : Outcome). mapped_as o (numbers width case text tape) xs ms) (refused-is f p e))
+  refused-map {r} {n} xs ms k e =
+      ap (λ (m : ℕ). record { answer = record { number = m; value = r.at }; space = xs; map = ms }) k
+      ∙ sym (ap (λ (o : Outcome). mapped_as o (numbers width case text tape) xs ms) (refused-is r e))
 
-  module _ (e : Accepted ≡ verdict (read_call width case text tape)) where
+  module _ (e : Ok tt ≡ verdict (read_call width case text tape)) where
     call : AcceptedCall width case text tape
     call = accepted-call width case text tape (sym e)
 
-    pub ready : {facts keywords : List ℕ} → NotedOf (read_call width case text tape) facts → (length tape ≤ 262144 → length tape ≤ 11 * length facts) → keywords ≡ table
-        → Ready text keywords tape facts (config_of width case)
-    ready {facts} n room t =
+    pub ready : {facts : List ℕ} → NotedOf (read_call width case text tape) facts → (length tape ≤ 262144 → length tape ≤ 11 * length facts)
+        → Ready text tape facts (config_of width case)
+    ready {facts} n room =
         record {
           sizes = record { text = call.text-fits; tape-fits = call.tape-fits; facts_fit = room call.tape-fits; width = call.width_fits };
-          words = t;
           accepted = call.accepted;
           starts = spans_start call;
           noted = subst (λ (r : Read Tree). NotedOf r facts) call.read n;

@@ -33,7 +33,7 @@ use Rattle.token_map.specs.declared.Signs.{Signs}
 use Rattle.token_map.proofs.Noting.{note_all-append}
 use Rattle.token_map.specs.Signed.{Signed}
 use Rattle.token_map.proofs.Placing.{seat-of_run, note-right}
-use Rattle.tokens.specs.TokenPromises.{Ran, Spaced, TokenReady, Acted}
+use Rattle.tokens.specs.TokenPromises.{Ran, Spaced, Acted}
 use Rattle.formatter.specs.declared.Walk.{Walk}
 use Rattle.formatter.specs.RoutinePromises.{Grew, NodeReady, RoutineDone, NodeDone, seat}
 use Rattle.formatter.proofs.Copied.{copied-noted, copied-list, copied-clean}
@@ -128,8 +128,8 @@ pub record Loop (source tape facts : List ℕ) (config : FormatConfig) (left at 
   pub noted : EachNode (NotedNode facts) kids
   pub rest : (all : Children) → SpelledAt (length source) tape (at + 11) all → Rest source config at R Q c xs ys ms ns i ctx l kids all
 
-pub loop_first : {source keywords tape facts : List ℕ} {config : FormatConfig} {left at : ℕ} {c : FormatterContext} (R : Children → Arms) (Q : Arms) (xs ms : List ℕ)
-    → NodeReady source keywords tape facts config left at c → ((all : Children) → SpelledAt (length source) tape (at + 11) all → R all ≡ Q)
+pub loop_first : {source tape facts : List ℕ} {config : FormatConfig} {left at : ℕ} {c : FormatterContext} (R : Children → Arms) (Q : Arms) (xs ms : List ℕ)
+    → NodeReady source tape facts config left at c → ((all : Children) → SpelledAt (length source) tape (at + 11) all → R all ≡ Q)
     → Loop source tape facts config left at R Q c xs xs ms ms (at + 11) c Q.begin
 loop_first {source} {tape} {facts} {config} {left} {at} {c} R Q xs ms p e =
     record {
@@ -156,21 +156,21 @@ loop_first {source} {tape} {facts} {config} {left} {at} {c} R Q xs ms p e =
     }
 
 -- the node's byte lies in the facts
-pub fact_fits : {source keywords tape facts : List ℕ} {config : FormatConfig} {left at : ℕ} {c : FormatterContext} → NodeReady source keywords tape facts config left at c → at < 11 * length facts
+pub fact_fits : {source tape facts : List ℕ} {config : FormatConfig} {left at : ℕ} {c : FormatterContext} → NodeReady source tape facts config left at c → at < 11 * length facts
 fact_fits p = omega (arith, p.inside, p.sizes.facts_fit)
 
 -- what the check has noted of the node
-pub node-noted : {source keywords tape facts : List ℕ} {config : FormatConfig} {left at : ℕ} {c : FormatterContext} → NodeReady source keywords tape facts config left at c → (kids : Children)
+pub node-noted : {source tape facts : List ℕ} {config : FormatConfig} {left at : ℕ} {c : FormatterContext} → NodeReady source tape facts config left at c → (kids : Children)
     → SpelledAt (length source) tape (at + 11) kids → NodeFacts (facts_at facts at) (head_at tape at).kind kids
 unfolding head_at
 node-noted {tape = tape} {facts = facts} {at = at} p kids z =
     subst (NodeFacts (facts_at facts at) (head_at tape at).kind) (spelled-one _ _ _ _ p.kids kids p.spelled z) p.noted.0
 
-pub opened-at : {source keywords tape facts : List ℕ} {config : FormatConfig} {left at : ℕ} {c : FormatterContext} → NodeReady source keywords tape facts config left at c → NodeAt tape at
+pub opened-at : {source tape facts : List ℕ} {config : FormatConfig} {left at : ℕ} {c : FormatterContext} → NodeReady source tape facts config left at c → NodeAt tape at
 opened-at p = record { len = _; kids = p.kids; inside = p.inside; spelled = p.spelled }
 
-module _ {source keywords tape facts : List ℕ} {config : FormatConfig} {left at : ℕ} {R : Children → Arms} {Q : Arms} {c : FormatterContext} {xs ys ms ns : List ℕ} {i : ℕ} {ctx : FormatterContext} {l : Local}
-    (p : NodeReady source keywords tape facts config left at c) (v : Loop source tape facts config left at R Q c xs ys ms ns i ctx l) where
+module _ {source tape facts : List ℕ} {config : FormatConfig} {left at : ℕ} {R : Children → Arms} {Q : Arms} {c : FormatterContext} {xs ys ms ns : List ℕ} {i : ℕ} {ctx : FormatterContext} {l : Local}
+    (p : NodeReady source tape facts config left at c) (v : Loop source tape facts config left at R Q c xs ys ms ns i ctx l) where
   -- a command that is no close opens a node if it is no token
   opens : ((get_or tape i 0 ≡ 3) → ⊥) → ((get_or tape i 0 ≡ 2) → ⊥) → get_or tape i 0 ≡ 1
   opens e f = let b = spelled-byte _ _ _ v.kids v.spelled in omega arith
@@ -184,10 +184,10 @@ module _ {source keywords tape facts : List ℕ} {config : FormatConfig} {left a
 
   -- a token
 
-  pub token-ready : (h : Head) → get_or tape i 0 ≡ 2 → h ≡ head_at tape i → TokenReady 4 source config h ctx
+  pub token-ready : (h : Head) → get_or tape i 0 ≡ 2 → h ≡ head_at tape i → (length source ≤ 262144) × (h.start ≤ h.end) × (h.end ≤ length source) × Room 4 ctx
   token-ready h e q =
       let z = spelled-token _ _ _ v.kids v.spelled e in
-      rw q (record { text-fits = p.sizes.text; width_fits = p.sizes.width; ordered = z.2.ordered; within = z.2.within; room = omega arith })
+      rw q (p.sizes.text, z.2.ordered, z.2.within, omega arith)
 
   pub token-next : {h : Head} {zs ls : List ℕ} {a : FormatterContext} {k : Local} {signs : Signs} → Signed signs Q → get_or tape i 0 ≡ 2 → h ≡ head_at tape i
       → Acted 4 config source h (Q.at_token l (seen source h)).1 ctx ys a zs → k ≡ (Q.at_token l (seen source h)).0 → ls ≡ noted (place_by signs source h a.position) ns → length zs ≡ length ys → length ls ≡ length ns
@@ -242,13 +242,12 @@ module _ {source keywords tape facts : List ℕ} {config : FormatConfig} {left a
       (subst (EachNode (NotedNode facts)) q.2 v.noted).0.several ∙ ap several_list_items (spelled-one _ _ _ _ q.0 kids q.4 z)
 
   pub node-ready : {h : Head} {n : ℕ} {a : FormatterContext} {x : List Spacing} {zs : List ℕ} → ((get_or tape i 0 ≡ 3) → ⊥) → ((get_or tape i 0 ≡ 2) → ⊥)
-      → h ≡ head_at tape i → Spaced n x ctx ys a zs → n ≤ 4 → NodeReady source keywords tape facts config (left - 1) i a × (h.kind ≡ (head_at tape i).kind)
+      → h ≡ head_at tape i → Spaced n x ctx ys a zs → n ≤ 4 → NodeReady source tape facts config (left - 1) i a × (h.kind ≡ (head_at tape i).kind)
   unfolding height
   node-ready e f r d h =
       let q = spelled-node _ _ _ v.kids v.spelled (opens e f) in (
         record {
           sizes = p.sizes;
-          words = p.words;
           inside = q.3.inside;
           room = omega (arith, d.spent.level, d.spent.length);
           span = q.3.span;
@@ -323,7 +322,7 @@ module _ {source keywords tape facts : List ℕ} {config : FormatConfig} {left a
 
 -- ── the dispatch
 
-module _ {source keywords tape facts : List ℕ} {config : FormatConfig} {left at : ℕ} {c : FormatterContext} (p : NodeReady source keywords tape facts config left at c) where
+module _ {source tape facts : List ℕ} {config : FormatConfig} {left at : ℕ} {c : FormatterContext} (p : NodeReady source tape facts config left at c) where
   pub copy_ready : {h : Head} → h ≡ head_at tape at → (length source ≤ 262144) × (h.start ≤ h.end → h.end ≤ length source) × Room 1 c
   copy_ready q = (p.sizes.text, rw q p.span, omega arith)
 
@@ -332,7 +331,7 @@ abbrev pub Decided : List ℕ → List ℕ → ℕ → ℕ → Bool → Type 0
 Decided source tape i kind b = (kids : Children) → SpelledAt (length source) tape (i + 11) kids → b ≡ copied kind kids
 
 -- by what the check has noted, and the kind that the caller read
-module _ {source keywords tape facts : List ℕ} {config : FormatConfig} {left at kind : ℕ} {c : FormatterContext} (p : NodeReady source keywords tape facts config left at c) (q : kind ≡ (head_at tape at).kind) where
+module _ {source tape facts : List ℕ} {config : FormatConfig} {left at kind : ℕ} {c : FormatterContext} (p : NodeReady source tape facts config left at c) (q : kind ≡ (head_at tape at).kind) where
   noted-error : {r : Bool} → r ≡ notes_error (facts_at facts at) → (kids : Children) → SpelledAt (length source) tape (at + 11) kids → r ≡ (eqb kind Error || has_error_child kids)
   noted-error e kids z = e ∙ (node-noted p kids z).error ∙ ap (λ (x : ℕ). eqb x Error || has_error_child kids) (sym q)
 
@@ -363,8 +362,8 @@ by_kind_places config source h kids w ms {kind} q e =
     ap (λ (x : Bool). note_all (cond x (no_places config source kids) (places config source format_node (format_node kind kids) (format_node kind kids).begin kids w)) ms) e
     ∙ ap (λ (x : ℕ). note_all (cond (copied x kids) (no_places config source kids) (places config source format_node (format_node x kids) (format_node x kids).begin kids w)) ms) q
 
-pub node-copied : {source keywords tape facts : List ℕ} {config : FormatConfig} {left at kind : ℕ} {j : Passed} {c a : FormatterContext} {h : Head} {xs ys ms ns : List ℕ}
-    → NodeReady source keywords tape facts config left at c → kind ≡ (head_at tape at).kind → h ≡ head_at tape at → Decided source tape at kind true
+pub node-copied : {source tape facts : List ℕ} {config : FormatConfig} {left at kind : ℕ} {j : Passed} {c a : FormatterContext} {h : Head} {xs ys ms ns : List ℕ}
+    → NodeReady source tape facts config left at c → kind ≡ (head_at tape at).kind → h ≡ head_at tape at → Decided source tape at kind true
     → Skipped tape at j → Ran 1 config source (format_error_verbatim h) c xs a ys → ns ≡ note_all (replicate j.tokens 0) ms
     → NodeDone source tape config at c xs ms (record { at = j.at; context = a }) ys ns
 node-copied {source} {tape} {config} {at = at} {c = c} {xs = xs} {ms = ms} p q e o s d n =

@@ -5,7 +5,6 @@ use Rattle.context.specs.Cells.{Text, Cell, bytes_of}
 use Rattle.context.specs.Splice.{splice}
 use Rattle.context.specs.Context.{new_state}
 use Rattle.context.specs.declared.FormatConfig.{FormatConfig}
-use Rattle.keywords.specs.Table.{table}
 use Rattle.tape.specs.Tree.{Tree, tokens}
 use Rattle.tape.specs.Tape.{got, read_tree}
 use Rattle.tape.specs.SpelledAt.{AcceptedTape}
@@ -23,9 +22,8 @@ use Rattle.formatter.specs.RoutinePromises.{Sizes}
 
 -- the tape is accepted, its spans begin at bounds of characters, the check has noted what is true of each node of its tree, and the lent
 -- table is the keyword list
-pub record Ready (text keywords tape facts : List ℕ) (config : FormatConfig) : Type 0 where
+pub record Ready (text tape facts : List ℕ) (config : FormatConfig) : Type 0 where
   pub sizes : Sizes text tape facts config
-  pub words : keywords ≡ table
   pub accepted : AcceptedTape (length text) tape
   pub starts : SpansStart text accepted.tree
   pub noted : Noted facts accepted.tree

@@ -4,7 +4,6 @@ use Rattle.context.specs.Cells.{Text}
 use Rattle.context.specs.Store.{Store}
 use Rattle.context.specs.declared.FormatConfig.{FormatConfig}
 use Rattle.context.specs.declared.FormatterContext.{FormatterContext}
-use Rattle.keywords.specs.Table.{table}
 use Rattle.tape.specs.Kinds.{GroupByList, OrderByList}
 use Rattle.tape.specs.Tree.{Children, size, height}
 use Rattle.tape.specs.Tape.{head_at}
@@ -37,9 +36,8 @@ pub record Grew (n i : ℕ) (c : FormatterContext) (j : ℕ) (r : FormatterConte
 
 -- a node opens at i, the tape spells its children after it, at most so many levels deep, the check has noted what is true of each, and the lent
 -- table is the keyword list
-pub record NodeReady (source keywords tape facts : List ℕ) (config : FormatConfig) (left i : ℕ) (c : FormatterContext) : Type 0 where
+pub record NodeReady (source tape facts : List ℕ) (config : FormatConfig) (left i : ℕ) (c : FormatterContext) : Type 0 where
   pub sizes : Sizes source tape facts config
-  pub words : keywords ≡ table
   pub inside : i + 11 ≤ length tape
   pub room : RoomAt 8 i c
   pub span : (head_at tape i).start ≤ (head_at tape i).end → (head_at tape i).end ≤ length source
@@ -61,10 +59,6 @@ pub record WalkDone (source : Text) (config : FormatConfig) (i : ℕ) (cs : List
 -- the lists of which the check notes whether a clause has one
 abbrev pub IsList : ℕ → Type 0
 IsList list = (list ≡ GroupByList) ⊎ (list ≡ OrderByList)
-
--- a routine that does not look ahead
-abbrev pub always : Arms → Children → Arms
-always r kids = r
 
 -- by a routine
 pub record RoutineDone (source tape : List ℕ) (config : FormatConfig) (i : ℕ) (R : Children → Arms) (c : FormatterContext) (xs ms : List ℕ) (w : Walk) (ys ns : List ℕ) : Type 0 where

@@ -1,11 +1,11 @@
 // Laying out: `format` of mod.rs, from bytes to an answer and a filled space.
 #![tactic(auto)]
 
+mod arms;
 mod format;
 
 ghost use Rattle.std.specs.Prelude.{◌≡◌, ◌++◌, ◌*◌, ◌≤◌, ◌<◌, drop, length, replicate, set, take};
 ghost use Rattle.context.specs.Splice.{splice};
-ghost use Rattle.keywords.specs.Table.{table};
 ghost use Rattle.layout.specs.Layout.{original};
 ghost use Rattle.layout.specs.MapCall.{Mapped, mapped};
 ghost use Rattle.layout.specs.Outcome.{Result, config_of, laid_out, outcome};
@@ -13,13 +13,13 @@ ghost use Rattle.formatter.specs.Entry.{Fills, Holds, LaysOut, MapFills, MapFits
 
 use context::{FormatConfig, FormatterContext, copy};
 use format::node;
-use keywords::table::{TABLE_LENGTH, table};
+use keywords::table::Keywords;
 use layout::Answer;
-use tape::Checked;
 use tape::check::{check_call, number};
 use tape::commands::head_at;
 use tape::scan::skip;
 use token_map::{clear, copy_front, place_tokens};
+use tokens::Settings;
 
 // Where a walk stands after a node: the place on the tape, and the context.
 #[derive(Clone, Copy)]
@@ -31,22 +31,22 @@ pub(crate) struct Walk {
 // The trimmed length of the layout. What is written for it goes into `space`, as far as that goes, and the places of tokens are noted in `map`.
 fn walk_tree(
     text: &[u8],
-    keywords: &[u8; TABLE_LENGTH],
+    keywords: &Keywords,
     tape: &[u8],
     config: FormatConfig,
     facts: &[u8],
     space: &mut [u8],
     map: &mut [u64],
 ) -> usize
-    requires { Ready text.now keywords.now tape.now facts.now config }
+    requires { Ready text.now tape.now facts.now config }
     ensures { WalkedInto text.now tape.now config space.old map.old result space.new map.new }
 {
     let root = head_at(tape, 0);
+    let settings = Settings { keywords, config };
     let w = node(
         text,
-        keywords,
+        &settings,
         tape,
-        config,
         facts,
         space,
         map,
@@ -63,7 +63,7 @@ fn walk_tree(
 // The k bytes that trimming leaves, and the newline after them, by one more walk.
 fn write_layout(
     text: &[u8],
-    keywords: &[u8; TABLE_LENGTH],
+    keywords: &Keywords,
     tape: &[u8],
     config: FormatConfig,
     facts: &[u8],
@@ -71,7 +71,7 @@ fn write_layout(
     map: &mut [u64],
     k: usize,
 )
-    requires ready { Ready text.now keywords.now tape.now facts.now config }
+    requires ready { Ready text.now tape.now facts.now config }
     requires trims { Trims text.now tape.now config k × (0 < k) × (k < length out.old) }
     ensures fills { Fills text.now tape.now config out.old out.new }
     ensures notes { Notes text.now tape.now config map.old map.new }
@@ -92,7 +92,7 @@ fn copy_layout(written: &[u8], out: &mut [u8], k: usize)
 // The layout once 13 is decided: from a space that a walk has written to, or by one more walk.
 fn put_layout(
     text: &[u8],
-    keywords: &[u8; TABLE_LENGTH],
+    keywords: &Keywords,
     tape: &[u8],
     config: FormatConfig,
     facts: &[u8],
@@ -100,7 +100,7 @@ fn put_layout(
     out: &mut [u8],
     k: usize,
 )
-    requires ready { Ready text.now keywords.now tape.now facts.now config }
+    requires ready { Ready text.now tape.now facts.now config }
     requires trims { Trims text.now tape.now config k × Holds text.now tape.now config k space.now × (0 < k) × (k < length out.old) }
     ensures { Fills text.now tape.now config out.old out.new }
 {
@@ -124,14 +124,14 @@ fn put_layout(
 // What fits into the lent space needs one walk, and a copy once 13 is decided.
 fn layout_accepted(
     text: &[u8],
-    keywords: &[u8; TABLE_LENGTH],
+    keywords: &Keywords,
     tape: &[u8],
     config: FormatConfig,
     facts: &[u8],
     space: &mut [u8],
     out: &mut [u8],
 ) -> Answer
-    requires { Ready text.now keywords.now tape.now facts.now config }
+    requires { Ready text.now tape.now facts.now config }
     ensures { LaysOut text.now tape.now config out.old result out.new }
 {
     let mut no_map = [0u64; 1];
@@ -158,7 +158,7 @@ fn layout_accepted(
 // The layout, and the places of its tokens in the map: from what a walk has written and noted, or by one more walk.
 fn put_noted(
     text: &[u8],
-    keywords: &[u8; TABLE_LENGTH],
+    keywords: &Keywords,
     tape: &[u8],
     config: FormatConfig,
     facts: &[u8],
@@ -168,7 +168,7 @@ fn put_noted(
     map: &mut [u64],
     k: usize,
 )
-    requires ready { Ready text.now keywords.now tape.now facts.now config }
+    requires ready { Ready text.now tape.now facts.now config }
     requires trims { Trims text.now tape.now config k × Holds text.now tape.now config k space.now × (0 < k) × (k < length out.old) }
     requires map_fits { MapFits text.now tape.now (length map.old) × Notes text.now tape.now config (replicate (length notes.now) 0) notes.now }
     ensures { Fills text.now tape.now config out.old out.new × Placed text.now tape.now config map.new }
@@ -185,7 +185,7 @@ fn put_noted(
 // The layout and the map, once 13 and 17 are decided: the places become lines and columns of the layout.
 fn put_map(
     text: &[u8],
-    keywords: &[u8; TABLE_LENGTH],
+    keywords: &Keywords,
     tape: &[u8],
     config: FormatConfig,
     facts: &[u8],
@@ -195,7 +195,7 @@ fn put_map(
     map: &mut [u64],
     k: usize,
 )
-    requires ready { Ready text.now keywords.now tape.now facts.now config }
+    requires ready { Ready text.now tape.now facts.now config }
     requires trims { Trims text.now tape.now config k × Holds text.now tape.now config k space.now × (0 < k) × (k < length out.old) }
     requires map_fits { MapFits text.now tape.now (length map.old) × Notes text.now tape.now config (replicate (length notes.now) 0) notes.now }
     ensures { Fills text.now tape.now config out.old out.new × MapFills text.now tape.now config map.new }
@@ -210,7 +210,7 @@ fn put_map(
 // Nothing is written before 13 and 17 are decided. What fits into the lent space and notes needs one walk.
 fn map_accepted(
     text: &[u8],
-    keywords: &[u8; TABLE_LENGTH],
+    keywords: &Keywords,
     tape: &[u8],
     config: FormatConfig,
     facts: &[u8],
@@ -219,7 +219,7 @@ fn map_accepted(
     out: &mut [u8],
     map: &mut [u64],
 ) -> Answer
-    requires { Ready text.now keywords.now tape.now facts.now config × (notes.old ≡ replicate (length notes.old) 0) }
+    requires { Ready text.now tape.now facts.now config × (notes.old ≡ replicate (length notes.old) 0) }
     ensures { MapsOut text.now tape.now config out.old map.old result out.new map.new }
 {
     let k = walk_tree(text, keywords, tape, config, facts, space, notes);
@@ -276,7 +276,7 @@ fn config_of(width: u64, case: u64) -> FormatConfig
 // `facts` has room for what the check notes of each node. What is walked first goes into `space`.
 fn layout_in(
     text: &[u8],
-    keywords: &[u8; TABLE_LENGTH],
+    keywords: &Keywords,
     tape: &[u8],
     width: u64,
     case: u64,
@@ -284,16 +284,16 @@ fn layout_in(
     space: &mut [u8],
     out: &mut [u8],
 ) -> Answer
-    requires { (length tape.now ≤ 262144 → length tape.now ≤ 11 * length facts.old) × (keywords.now ≡ table) }
+    requires { (length tape.now ≤ 262144 → length tape.now ≤ 11 * length facts.old) }
     ensures { ◌≡◌ {A = Result} (record { answer = result; space = out.new }) (laid_out (outcome original width case text.now tape.now) out.old) }
 {
     let checked = check_call(width, case, text, tape, facts);
     match checked {
-        Checked::Refused(fault, place) => Answer {
-            number: number(fault),
-            value: place as u64,
+        Err(refusal) => Answer {
+            number: number(refusal.fault),
+            value: refusal.at as u64,
         },
-        Checked::Accepted => layout_accepted(
+        Ok(()) => layout_accepted(
             text,
             keywords,
             tape,
@@ -308,14 +308,14 @@ fn layout_in(
 // The same with no space for the first walk: one walk finds the length, and a second writes the layout where it fits `out`.
 fn layout_unlent(
     text: &[u8],
-    keywords: &[u8; TABLE_LENGTH],
+    keywords: &Keywords,
     tape: &[u8],
     width: u64,
     case: u64,
     facts: &mut [u8],
     out: &mut [u8],
 ) -> Answer
-    requires { (length tape.now ≤ 262144 → length tape.now ≤ 11 * length facts.old) × (keywords.now ≡ table) }
+    requires { (length tape.now ≤ 262144 → length tape.now ≤ 11 * length facts.old) }
     ensures { ◌≡◌ {A = Result} (record { answer = result; space = out.new }) (laid_out (outcome original width case text.now tape.now) out.old) }
 {
     let mut none = [0u8; 1];
@@ -338,7 +338,7 @@ fn layout_short(text: &[u8], tape: &[u8], width: u64, case: u64, out: &mut [u8])
     requires { length tape.now ≤ 8206 }
     ensures { ◌≡◌ {A = Result} (record { answer = result; space = out.new }) (laid_out (outcome original width case text.now tape.now) out.old) }
 {
-    let keywords = table();
+    let keywords = Keywords::new();
     let mut facts = [0u8; 746];
     if out.len() == 0 {
         return layout_unlent(text, &keywords, tape, width, case, &mut facts, out);
@@ -352,7 +352,7 @@ fn layout_short(text: &[u8], tape: &[u8], width: u64, case: u64, out: &mut [u8])
 fn layout_long(text: &[u8], tape: &[u8], width: u64, case: u64, out: &mut [u8]) -> Answer
     ensures { ◌≡◌ {A = Result} (record { answer = result; space = out.new }) (laid_out (outcome original width case text.now tape.now) out.old) }
 {
-    let keywords = table();
+    let keywords = Keywords::new();
     let mut facts = [0u8; 23832];
     if out.len() == 0 {
         return layout_unlent(text, &keywords, tape, width, case, &mut facts, out);
@@ -379,7 +379,7 @@ pub fn layout(text: &[u8], tape: &[u8], width: u64, case: u64, out: &mut [u8]) -
 // `facts` has room for what the check notes of each node. What is walked first goes into `space` and `notes`.
 fn layout_map_in(
     text: &[u8],
-    keywords: &[u8; TABLE_LENGTH],
+    keywords: &Keywords,
     tape: &[u8],
     width: u64,
     case: u64,
@@ -389,16 +389,16 @@ fn layout_map_in(
     out: &mut [u8],
     map: &mut [u64],
 ) -> Answer
-    requires { (length tape.now ≤ 262144 → length tape.now ≤ 11 * length facts.old) × (keywords.now ≡ table) × (notes.old ≡ replicate (length notes.old) 0) }
+    requires { (length tape.now ≤ 262144 → length tape.now ≤ 11 * length facts.old) × (notes.old ≡ replicate (length notes.old) 0) }
     ensures { ◌≡◌ {A = Mapped} (record { answer = result; space = out.new; map = map.new }) (mapped width case text.now tape.now out.old map.old) }
 {
     let checked = check_call(width, case, text, tape, facts);
     match checked {
-        Checked::Refused(fault, place) => Answer {
-            number: number(fault),
-            value: place as u64,
+        Err(refusal) => Answer {
+            number: number(refusal.fault),
+            value: refusal.at as u64,
         },
-        Checked::Accepted => map_accepted(
+        Ok(()) => map_accepted(
             text,
             keywords,
             tape,
@@ -425,7 +425,7 @@ fn layout_map_short(
     requires { length tape.now ≤ 8206 }
     ensures { ◌≡◌ {A = Mapped} (record { answer = result; space = out.new; map = map.new }) (mapped width case text.now tape.now out.old map.old) }
 {
-    let keywords = table();
+    let keywords = Keywords::new();
     let mut facts = [0u8; 746];
     let mut space = [0u8; 4096];
     let mut notes = [0u64; 1492];
@@ -444,7 +444,7 @@ fn layout_map_long(
 ) -> Answer
     ensures { ◌≡◌ {A = Mapped} (record { answer = result; space = out.new; map = map.new }) (mapped width case text.now tape.now out.old map.old) }
 {
-    let keywords = table();
+    let keywords = Keywords::new();
     let mut facts = [0u8; 23832];
     let mut no_space = [0u8; 1];
     let mut no_notes = [0u64; 1];

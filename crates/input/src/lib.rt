@@ -1,39 +1,37 @@
 // What the programs read: an input into a buffer, and whether it goes on after a full one.
 #![tactic(auto)]
 
-ghost use Rattle.std.specs.Prelude.{◌≡◌, ◌≤◌, length, take};
+ghost use Rattle.std.specs.Prelude.{◌≤◌, length};
 
 use std::io::Read;
 
+// The bytes that were read, and whether the input goes on after them.
 #[derive(Clone, Copy)]
-pub struct Input {
-    pub length: usize,
+pub struct Input<'a> {
+    pub bytes: &'a [u8],
     pub more: bool,
 }
 
-// Reads until the buffer is full or the input ends, and tells how many bytes that are. A read that fails counts as the input's end.
-fn fill<R: Read>(reader: &mut R, buffer: &mut [u8]) -> usize
-    ensures { result ≤ length buffer.new }
+// Reads until the buffer is full or the input ends. A read that fails counts as the input's end. The library's read_to_end needs a heap, and its
+// read_exact doesn't tell how many bytes came before the end.
+fn fill<'a, R: Read>(reader: &mut R, buffer: &'a mut [u8]) -> &'a [u8]
+    ensures { length result.now ≤ length buffer.old }
 {
     let mut length = 0;
     while length < buffer.len() {
         match reader.read(&mut buffer[length..]) {
-            Ok(0) | Err(_) => return length,
+            Ok(0) | Err(_) => break,
             Ok(n) => length += n,
         }
     }
-    length
+    &buffer[..length]
 }
 
-pub fn read_input<R: Read>(reader: &mut R, buffer: &mut [u8]) -> Input
-    ensures within { result.length ≤ length buffer.new }
-    ensures prefix { result.length ≡ length (take result.length buffer.new) }
+pub fn read_input<'a, R: Read>(reader: &mut R, buffer: &'a mut [u8]) -> Input<'a>
+    ensures { length result.bytes.now ≤ length buffer.old }
 {
-    let length = fill(reader, buffer);
-    let mut next = [0u8; 1];
-    let more = fill(reader, &mut next);
     Input {
-        length: length,
-        more: 0 < more,
+        bytes: fill(reader, buffer),
+        more: matches!(reader.read(&mut [0]), Ok(1)),
     }
 }

@@ -16,8 +16,7 @@ use Rattle.keywords.specs.Words.{capitals, words, same, place_of}
 use Rattle.keywords.specs.Table.{capital, entry, entries, words-rule}
 use Rattle.keywords.specs.Index as spec
 use Rattle.keywords.specs.Index.{shifts, letter_at, key, index, no_entry, entry_of, candidate, unpacked, numbers, may_be_listed, offset, Stands}
-use Rattle.keywords.specs.declared.Place.{Place}
-use Rattle.keywords.specs.declared.Place.TheVariants.{At, Nowhere}
+use Rattle.std.specs.Prelude.{Option, Some, None}
 use Rattle.basics.proofs.Same.{both, same-equal}
 use Rattle.keywords.proofs.Capitals.{capitals-at}
 use Rattle.keywords.proofs.Places.{Entry, placed_entry, entry-placed, same_self}
@@ -152,7 +151,7 @@ entry_known w i x =
     let r = known_at 0 words t i words-rule words-lead x.inside in
     subst (λ (v : List ℕ). Known v i (match (key v) t no_entry)) x.is (subst (λ (n : ℕ). Known (get_or words i []) n (match (key (get_or words i [])) t no_entry)) z r)
 
-placed_known : (w : List ℕ) (i : ℕ) → place_of w words ≡ At i → Known w i (entry_of (key w))
+placed_known : (w : List ℕ) (i : ℕ) → place_of w words ≡ Some i → Known w i (entry_of (key w))
 placed_known w i h = entry_known w i (placed_entry w words i h)
 
 -- ── a word's candidate does not depend on the case of its letters
@@ -179,7 +178,7 @@ key-capitals w h =
     let h3 = letter_capitals w (length w - 1) (omega arith) in
     cc
 
-capitals-known : (w : List ℕ) (i : ℕ) → place_of (capitals w) words ≡ At i → Known w i (entry_of (key w))
+capitals-known : (w : List ℕ) (i : ℕ) → place_of (capitals w) words ≡ Some i → Known w i (entry_of (key w))
 capitals-known w i h =
     let k = placed_known (capitals w) i h in
     let l = length-map w to_uppercase in
@@ -212,20 +211,20 @@ known_led w i k =
     }
 
 -- what is left of a place once none can be
-none : (p : Place) → ((i : ℕ) → p ≡ At i → ⊥) → p ≡ Nowhere
-none (At i) h = absurd (h i refl)
-none Nowhere h = refl
+none : (p : Option ℕ) → ((i : ℕ) → p ≡ Some i → ⊥) → p ≡ None
+none (Some i) h = absurd (h i refl)
+none None h = refl
 
 module _ (w : List ℕ) where
   -- bytes that are an entry of the list have its place
-  pub this_entry : (e : spec.Entry) → Stands e → same w (get_or words e.place []) ≡ true → place_of w words ≡ At e.place
+  pub this_entry : (e : spec.Entry) → Stands e → same w (get_or words e.place []) ≡ true → place_of w words ≡ Some e.place
   this_entry e s h =
       let x : Entry w words e.place = record { inside = s.inside; is = sym (same-equal w (get_or words e.place []) h) } in
       let y = entry-placed w words e.place x in
-      y.is ∙ ap At (sym (placed_known w y.place y.is).place ∙ (entry_known w e.place x).place)
+      y.is ∙ ap Some (sym (placed_known w y.place y.is).place ∙ (entry_known w e.place x).place)
 
   -- bytes that are not their candidate have no place
-  pub other_entry : same w (get_or words (unpacked (candidate w)).place []) ≡ false → place_of w words ≡ Nowhere
+  pub other_entry : same w (get_or words (unpacked (candidate w)).place []) ≡ false → place_of w words ≡ None
   other_entry h =
       none (place_of w words) (λ i e.
       let x = (known_led w i (placed_known w i e)).place in
@@ -233,7 +232,7 @@ module _ (w : List ℕ) where
       false≢true (sym h ∙ ap (λ (v : List ℕ). same w v) y ∙ same_self w))
 
   -- a word without a candidate has no place
-  pub nothing_is : candidate w ≡ 0 → place_of (capitals w) words ≡ Nowhere
+  pub nothing_is : candidate w ≡ 0 → place_of (capitals w) words ≡ None
   nothing_is h = none (place_of (capitals w) words) (λ i e. (known_led w i (capitals-known w i e)).some h)
 
   -- one that has a candidate is no longer than an entry

@@ -9,8 +9,7 @@ use borrow.Author.Tests.{eq-eqb}
 use lib.ListN.{length, get_or}
 use Rattle.basics.proofs.Same.{same-equal}
 use Rattle.keywords.specs.Words.{same, next, place_of}
-use Rattle.keywords.specs.declared.Place.{Place}
-use Rattle.keywords.specs.declared.Place.TheVariants.{At, Nowhere}
+use Rattle.std.specs.Prelude.{Option, Some, None}
 
 pub same_self : (w : List ℕ) → same w w ≡ true
 unfolding same
@@ -25,35 +24,35 @@ pub record Entry (w : List ℕ) (es : List (List ℕ)) (i : ℕ) : Type 0 where
 later : {w e : List ℕ} {es : List (List ℕ)} {i : ℕ} → Entry w es i → Entry w (e ∷ es) (suc i)
 later x = record { inside = omega (arith, x.inside); is = x.is }
 
-at_first : {i j : ℕ} → At i ≡ At j → i ≡ j
-at_first e = ap (λ (p : Place). number p) e
+at_first : {i j : ℕ} → Some i ≡ Some j → i ≡ j
+at_first e = ap (λ (p : Option ℕ). number p) e
   where
-    number : Place → ℕ
-    number (At i) = i
-    number Nowhere = 0
+    number : Option ℕ → ℕ
+    number (Some i) = i
+    number None = 0
 
-nowhere≢at : {i : ℕ} → Nowhere ≡ At i → ⊥
+nowhere≢at : {i : ℕ} → None ≡ Some i → ⊥
 nowhere≢at e = false≢true (ap placed e)
   where
-    placed : Place → Bool
-    placed (At i) = true
-    placed Nowhere = false
+    placed : Option ℕ → Bool
+    placed (Some i) = true
+    placed None = false
 
 -- a word that has a place is the entry at that place
-pub placed_entry : (w : List ℕ) (es : List (List ℕ)) (i : ℕ) → place_of w es ≡ At i → Entry w es i
+pub placed_entry : (w : List ℕ) (es : List (List ℕ)) (i : ℕ) → place_of w es ≡ Some i → Entry w es i
 unfolding place_of
 placed_entry w [] i h = absurd (nowhere≢at h)
 placed_entry w (e ∷ es) i h = go (same e w) refl (place_of w es) refl h (placed_entry w es)
   where
-    go : (b : Bool) → same e w ≡ b → (p : Place) → place_of w es ≡ p → cond b (At 0) (next p) ≡ At i → ((j : ℕ) → place_of w es ≡ At j → Entry w es j) → Entry w (e ∷ es) i
+    go : (b : Bool) → same e w ≡ b → (p : Option ℕ) → place_of w es ≡ p → cond b (Some 0) (next p) ≡ Some i → ((j : ℕ) → place_of w es ≡ Some j → Entry w es j) → Entry w (e ∷ es) i
     go true s p q u more = let z = at_first u in rw (← z) (record { inside = omega arith; is = same-equal e w s })
-    go false s (At j) q u more = let z = at_first u in rw (← z) (later (more j q))
-    go false s Nowhere q u more = absurd (nowhere≢at u)
+    go false s (Some j) q u more = let z = at_first u in rw (← z) (later (more j q))
+    go false s None q u more = absurd (nowhere≢at u)
 
 -- an entry has a place
 pub record Placed (w : List ℕ) (es : List (List ℕ)) : Type 0 where
   pub place : ℕ
-  pub is : place_of w es ≡ At place
+  pub is : place_of w es ≡ Some place
 
 pub entry-placed : (w : List ℕ) (es : List (List ℕ)) (i : ℕ) → Entry w es i → Placed w es
 unfolding place_of

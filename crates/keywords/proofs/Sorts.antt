@@ -10,8 +10,7 @@ use lib.ListN.{length, get_or}
 use Rattle.basics.proofs.Same.{both}
 use Rattle.keywords.specs.Names.{names}
 use Rattle.keywords.specs.Words.{bytes, capitals, words, same, listed, is_keyword, is_value_keyword, next, place_of, sort_of, word_of}
-use Rattle.keywords.specs.declared.Place.{Place}
-use Rattle.keywords.specs.declared.Place.TheVariants.{At, Nowhere}
+use Rattle.std.specs.Prelude.{Option, Some, None}
 use Rattle.keywords.specs.declared.Word.{Word}
 use Rattle.keywords.specs.declared.Word.TheVariants.{Plain, Value, Keyword}
 use Rattle.keywords.proofs.Places.{placed_entry}
@@ -28,36 +27,36 @@ is_other Plain = false
 is_other (Value i) = false
 is_other (Keyword i) = true
 
-abbrev is_at : Place → Bool
-is_at (At i) = true
-is_at Nowhere = false
+abbrev is_at : Option ℕ → Bool
+is_at (Some i) = true
+is_at None = false
 
 listed_at : (w : List ℕ) (es : List (List ℕ)) → listed w es ≡ is_at (place_of w es)
 unfolding listed place_of
 listed_at w [] = refl
 listed_at w (e ∷ es) = go (same e w) (place_of w es) (listed_at w es)
   where
-    go : (b : Bool) (p : Place) → listed w es ≡ is_at p → (b || listed w es) ≡ is_at (cond b (At 0) (next p))
+    go : (b : Bool) (p : Option ℕ) → listed w es ≡ is_at p → (b || listed w es) ≡ is_at (cond b (Some 0) (next p))
     go true p h = refl
-    go false (At i) h = h
-    go false Nowhere h = h
+    go false (Some i) h = h
+    go false None h = h
 
 pub keyword-listed : (w : List ℕ) → is_keyword w ≡ is_listed (word_of w)
 keyword-listed w = listed_at (capitals w) words ∙ go (is_value_keyword w) (place_of (capitals w) words)
   where
-    go : (v : Bool) (p : Place) → is_at p ≡ is_listed (sort_of v p)
-    go true (At i) = refl
-    go false (At i) = refl
-    go v Nowhere = refl
+    go : (v : Bool) (p : Option ℕ) → is_at p ≡ is_listed (sort_of v p)
+    go true (Some i) = refl
+    go false (Some i) = refl
+    go v None = refl
 
 pub other_keyword : (w : List ℕ) → is_other (word_of w) ≡ (is_keyword w && not (is_value_keyword w))
 other_keyword w = go (is_value_keyword w) (place_of (capitals w) words) (listed_at (capitals w) words)
   where
-    go : (v : Bool) (p : Place) → is_keyword w ≡ is_at p → is_other (sort_of v p) ≡ (is_keyword w && not v)
-    go true (At i) h = rw h refl
-    go false (At i) h = rw h refl
-    go true Nowhere h = rw h refl
-    go false Nowhere h = rw h refl
+    go : (v : Bool) (p : Option ℕ) → is_keyword w ≡ is_at p → is_other (sort_of v p) ≡ (is_keyword w && not v)
+    go true (Some i) h = rw h refl
+    go false (Some i) h = rw h refl
+    go true None h = rw h refl
+    go false None h = rw h refl
 
 -- ── the places of NULL, TRUE and FALSE
 
@@ -97,15 +96,15 @@ value-at i (e ∷ es) (suc j) t h =
     value-at (suc i) es j (both (agree (is_value e) (at_value i)) (values_from (suc i) es) t).1 (le_of_suc-le-suc h) ∙ ap (λ (n : ℕ). at_value n) s
 
 -- a listed word is a value word by its place
-value-place : (w : List ℕ) (i : ℕ) → place_of (capitals w) words ≡ At i → is_value_keyword w ≡ at_value i
+value-place : (w : List ℕ) (i : ℕ) → place_of (capitals w) words ≡ Some i → is_value_keyword w ≡ at_value i
 value-place w i h =
     let x = placed_entry (capitals w) words i h in
     let z : 0 + i ≡ i = omega arith in
     ap (λ (v : List ℕ). is_value v) (sym x.is) ∙ value-at 0 words i values_from_lem x.inside ∙ ap (λ (n : ℕ). at_value n) z
 
 -- the sort of a listed word, and of one that is not
-pub placed_word : (w : List ℕ) (i : ℕ) → place_of (capitals w) words ≡ At i → (v : Bool) → at_value i ≡ v → sort_of v (At i) ≡ word_of w
+pub placed_word : (w : List ℕ) (i : ℕ) → place_of (capitals w) words ≡ Some i → (v : Bool) → at_value i ≡ v → sort_of v (Some i) ≡ word_of w
 placed_word w i h v e = rw (value-place w i h, e, h) refl
 
-pub plain_word : (w : List ℕ) → place_of (capitals w) words ≡ Nowhere → Plain ≡ word_of w
+pub plain_word : (w : List ℕ) → place_of (capitals w) words ≡ None → Plain ≡ word_of w
 plain_word w h = rw h refl

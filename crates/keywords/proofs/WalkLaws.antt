@@ -16,13 +16,12 @@ use Rattle.keywords.specs.Words.{capitals, place_of, same, words}
 use Rattle.keywords.specs.Walk.{capital_letters, first_equal, is_equal}
 use Rattle.keywords.specs.Index as spec
 use Rattle.keywords.specs.Index.{Stands, candidate, unpacked}
-use Rattle.keywords.specs.declared.Place.{Place}
-use Rattle.keywords.specs.declared.Place.TheVariants.{At, Nowhere}
+use Rattle.std.specs.Prelude.{Option, Some, None}
 use Rattle.keywords.proofs.Lookup.{this_entry, other_entry}
 
 module _ (n : ℕ) (b : List ℕ) where
   -- there are fewer bytes than the length says
-  pub too_few : length b < n → first_equal n b words ≡ Nowhere
+  pub too_few : length b < n → first_equal n b words ≡ None
   too_few h = rw (lt-leb n (length b) h) refl
 
   -- an entry of another length is not equal
@@ -34,13 +33,13 @@ module _ (n : ℕ) (b : List ℕ) where
       go false q = refl
 
   -- an entry that is equal has the place
-  pub this_equal : (e : spec.Entry) → Stands e → is_equal n b (get_or words e.place []) ≡ true → first_equal n b words ≡ At e.place
+  pub this_equal : (e : spec.Entry) → Stands e → is_equal n b (get_or words e.place []) ≡ true → first_equal n b words ≡ Some e.place
   this_equal e s h =
       let p = and_true (leb n (length b)) (same (take n b) (get_or words e.place [])) h in
       rw p.0 (this_entry (take n b) e s p.1)
 
   -- where the candidate is not equal no entry is
-  pub none_equal : n ≤ length b → is_equal n b (get_or words (unpacked (candidate (take n b))).place []) ≡ false → first_equal n b words ≡ Nowhere
+  pub none_equal : n ≤ length b → is_equal n b (get_or words (unpacked (candidate (take n b))).place []) ≡ false → first_equal n b words ≡ None
   none_equal l h = rw (le-leb n (length b) l) (other_entry (take n b) (sym (ap (λ (t : Bool). t && same (take n b) (get_or words (unpacked (candidate (take n b))).place [])) (le-leb n (length b) l)) ∙ h))
 
 -- a word's capitals, as the walk is handed them
@@ -52,7 +51,7 @@ letters_walked w =
     let t : take (length w) (capital_letters w) ≡ capitals w = ap (λ (n : ℕ). take n (capital_letters w)) (sym l) ∙ take-append_seam (capitals w) z in
     rw (le-leb (length w) (length (capital_letters w)) (omega (arith, l, m)), t) refl
 
-pub word-place : (w letters : List ℕ) (p : Place) → letters ≡ capital_letters w → p ≡ first_equal (length w) letters words → place_of (capitals w) words ≡ p
+pub word-place : (w letters : List ℕ) (p : Option ℕ) → letters ≡ capital_letters w → p ≡ first_equal (length w) letters words → place_of (capitals w) words ≡ p
 word-place w letters p e q = sym (q ∙ ap (λ (l : List ℕ). first_equal (length w) l words) e ∙ letters_walked w)
 
 -- a byte more in front of the rest

@@ -1,16 +1,14 @@
 -- The walk over the list (request E4): the first entry that is equal to a length and bytes, whatever they are.
-use Rattle.std.specs.Prelude.{Bool, cond, ◌&&◌, List, ◌++◌, ℕ, leb, length, take, drop, replicate}
+use Rattle.std.specs.Prelude.{Bool, cond, ◌&&◌, List, ◌++◌, ℕ, leb, length, take, drop, replicate, Option, None}
 use Rattle.keywords.specs.Words.{capitals, same, place_of}
-use Rattle.keywords.specs.declared.Place.{Place}
-use Rattle.keywords.specs.declared.Place.TheVariants.{Nowhere}
 
 -- an entry is equal to a length and bytes: there are so many bytes, and so many of them are the entry
 abbrev pub is_equal : ℕ → List ℕ → List ℕ → Bool
 is_equal n bytes e = leb n (length bytes) && same (take n bytes) e
 
 -- the place in a list of the first entry that is equal to a length and bytes
-abbrev pub first_equal : ℕ → List ℕ → List (List ℕ) → Place
-first_equal n bytes list = cond (leb n (length bytes)) (place_of (take n bytes) list) Nowhere
+abbrev pub first_equal : ℕ → List ℕ → List (List ℕ) → Option ℕ
+first_equal n bytes list = cond (leb n (length bytes)) (place_of (take n bytes) list) None
 
 -- what the walk is handed of a word of at most twelve letters: its letters in upper case, and zeros after them
 abbrev pub capital_letters : List ℕ → List ℕ

@@ -1,12 +1,10 @@
 -- Which words are keywords, and which of them are values: `is_keyword` and `is_value_keyword` of format_node.rs, and both in one answer.
-use Rattle.std.specs.Prelude.{Bool, true, false, cond, ◌||◌, List, [], ◌∷◌, map, ℕ, suc}
+use Rattle.std.specs.Prelude.{Bool, true, false, cond, ◌||◌, List, [], ◌∷◌, map, ℕ, suc, Option, Some, None}
 use Prim.Native.Char.{code}
 use Prim.Native.String.{String}
 unfoldable pub use Rattle.basics.specs.Bytes.{same, listed}
 use Rattle.basics.specs.Case.{to_uppercase}
 use Rattle.keywords.specs.Names.{names}
-use Rattle.keywords.specs.declared.Place.{Place}
-use Rattle.keywords.specs.declared.Place.TheVariants.{At, Nowhere}
 use Rattle.keywords.specs.declared.Word.{Word}
 use Rattle.keywords.specs.declared.Word.TheVariants.{Plain, Value, Keyword}
 
@@ -37,20 +35,20 @@ abbrev pub is_value_keyword : List ℕ → Bool
 is_value_keyword w = is_word "TRUE" w || (is_word "FALSE" w || is_word "NULL" w)
 
 -- one place further on
-abbrev pub next : Place → Place
-next (At i) = At (suc i)
-next Nowhere = Nowhere
+abbrev pub next : Option ℕ → Option ℕ
+next (Some i) = Some (suc i)
+next None = None
 
 -- the place of the first entry that is equal to w, counted from 0
-unfoldable pub place_of : List ℕ → List (List ℕ) → Place
-place_of w [] = Nowhere
-place_of w (e ∷ es) = cond (same e w) (At 0) (next (place_of w es))
+unfoldable pub place_of : List ℕ → List (List ℕ) → Option ℕ
+place_of w [] = None
+place_of w (e ∷ es) = cond (same e w) (Some 0) (next (place_of w es))
 
 -- a word of no place is plain, one with a place a value word or another keyword
-abbrev pub sort_of : Bool → Place → Word
-sort_of value Nowhere = Plain
-sort_of true (At i) = Value i
-sort_of false (At i) = Keyword i
+abbrev pub sort_of : Bool → Option ℕ → Word
+sort_of value None = Plain
+sort_of true (Some i) = Value i
+sort_of false (Some i) = Keyword i
 
 -- which of the three sorts of word it is, in any case, and its place
 abbrev pub word_of : List ℕ → Word

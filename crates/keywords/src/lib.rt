@@ -6,43 +6,22 @@ pub mod table;
 
 ghost use Rattle.std.specs.Prelude.{◌≡◌, [], ◌≤◌, get_or, length};
 ghost use Rattle.basics.specs.Case.{to_uppercase};
-ghost use Rattle.keywords.specs.Table as spec;
 ghost use Rattle.keywords.specs.Words.{capitals, same, word_of, words};
 ghost use Rattle.keywords.specs.Walk.{capital_letters, first_equal, is_equal};
 ghost use Rattle.keywords.specs.Index.{Stands, unpacked};
 
 use index::candidate;
-use table::{TABLE_LENGTH, table};
+use table::Keywords;
 
 // An entry has at most so many letters.
 pub(crate) const LONGEST: usize = 12;
 
-// Where a word stands in the list, counted from 0.
-#[derive(Clone, Copy)]
-pub enum Place {
-    At(usize),
-    Nowhere,
-}
-
 // The three sorts of word; a listed one with its place in the list.
-#[derive(Clone, Copy)]
+#[derive(Clone, Copy, PartialEq, Eq, Debug)]
 pub enum Word {
     Plain,
     Value(usize),
     Keyword(usize),
-}
-
-// A byte in upper case.
-fn upper_of(b: u8) -> u8
-    ensures { result ≡ to_uppercase b }
-{
-    if b < 97 {
-        return b;
-    }
-    if 122 < b {
-        return b;
-    }
-    b - 32
 }
 
 // Whether the word, in any case, is the given one, which is in capitals.
@@ -52,12 +31,10 @@ pub fn is_word(word: &[u8], caps: &[u8]) -> bool
     if word.len() != caps.len() {
         return false;
     }
-    let mut i: usize = 0;
-    while i < word.len() {
-        if upper_of(word[i]) != caps[i] {
+    for (i, b) in word.iter().enumerate() {
+        if b.to_ascii_uppercase() != caps[i] {
             return false;
         }
-        i += 1;
     }
     true
 }
@@ -68,115 +45,88 @@ fn capitals_of(word: &[u8]) -> [u8; LONGEST]
     ensures { result ≡ capital_letters word.now }
 {
     let mut letters = [0u8; LONGEST];
-    let mut i: usize = 0;
-    while i < word.len() {
-        letters[i] = upper_of(word[i]);
-        i += 1;
+    for (i, b) in word.iter().enumerate() {
+        letters[i] = b.to_ascii_uppercase();
     }
     letters
 }
 
-fn is_same(a: &[u8], b: &[u8]) -> bool
-    ensures { result ≡ same a.now b.now }
-{
-    if a.len() != b.len() {
-        return false;
-    }
-    let mut i: usize = 0;
-    while i < a.len() {
-        if a[i] != b[i] {
+impl Keywords {
+    // Whether the entry with the number is equal to the length and the bytes.
+    fn is_entry(&self, number: usize, length: usize, bytes: &[u8]) -> bool
+        requires { Stands (unpacked number) }
+        ensures { result ≡ is_equal length bytes.now (get_or words (unpacked number).place []) }
+    {
+        let at = number / 32 % 2048;
+        if self.letters[at] as usize != length {
             return false;
         }
-        i += 1;
+        if bytes.len() < length {
+            return false;
+        }
+        let start = at + 1;
+        bytes[..length] == self.letters[start..start + length]
     }
-    true
-}
 
-// Whether the entry with the number is equal to the length and the bytes.
-fn is_entry(keywords: &[u8; TABLE_LENGTH], number: usize, length: usize, bytes: &[u8]) -> bool
-    requires { (keywords.now ≡ spec.table) × Stands (unpacked number) }
-    ensures { result ≡ is_equal length bytes.now (get_or words (unpacked number).place []) }
-{
-    let at = number / 32 % 2048;
-    if keywords[at] as usize != length {
-        return false;
+    // The walk by a copy of the table. It looks first at the entry with the number, whichever that is, then at the one that the index leads to.
+    fn walk(&self, number: usize, length: usize, bytes: &[u8]) -> Option<usize>
+        requires { Stands (unpacked number) }
+        ensures { result ≡ first_equal length bytes.now words }
+    {
+        if self.is_entry(number, length, bytes) {
+            return Some(number / 65536);
+        }
+        if bytes.len() < length {
+            return None;
+        }
+        let other = candidate(&bytes[..length]);
+        if self.is_entry(other, length, bytes) {
+            return Some(other / 65536);
+        }
+        None
     }
-    if bytes.len() < length {
-        return false;
-    }
-    let start = at + 1;
-    let end = start + length;
-    let all = &keywords[..];
-    is_same(&bytes[..length], &all[start..end])
-}
 
-// The walk by a copy of the table. It looks first at the entry with the number, whichever that is, then at the one that the index leads to.
-fn walk_in(keywords: &[u8; TABLE_LENGTH], number: usize, length: usize, bytes: &[u8]) -> Place
-    requires { (keywords.now ≡ spec.table) × Stands (unpacked number) }
-    ensures { result ≡ first_equal length bytes.now words }
-{
-    if is_entry(keywords, number, length, &bytes[..]) {
-        return Place::At(number / 65536);
+    // The sort of a word for which there is a candidate. NULL, TRUE and FALSE stand beside each other in the list.
+    fn word_at(&self, number: usize, word: &[u8]) -> Word
+        requires { Stands (unpacked number) × (length word.now ≤ 12) }
+        ensures { result ≡ word_of word.now }
+    {
+        let letters = capitals_of(word);
+        match self.walk(number, word.len(), &letters) {
+            None => Word::Plain,
+            Some(i) => match i {
+                97..=99 => Word::Value(i),
+                _ => Word::Keyword(i),
+            },
+        }
     }
-    if bytes.len() < length {
-        return Place::Nowhere;
+
+    // The sort of a word.
+    pub fn word_of(&self, word: &[u8]) -> Word
+        ensures { result ≡ word_of word.now }
+    {
+        let number = candidate(word);
+        if number == 0 {
+            return Word::Plain;
+        }
+        self.word_at(number, word)
     }
-    let other = candidate(&bytes[..length]);
-    if is_entry(keywords, other, length, &bytes[..]) {
-        return Place::At(other / 65536);
-    }
-    Place::Nowhere
 }
 
 // The walk: where the first entry stands that is equal to any length and bytes, to the first bytes as many as the length says.
-pub fn walk(length: usize, bytes: &[u8]) -> Place
+pub fn walk(length: usize, bytes: &[u8]) -> Option<usize>
     ensures { result ≡ first_equal length bytes.now words }
 {
-    let keywords = table();
-    walk_in(&keywords, 0, length, bytes)
-}
-
-// The sort of a word for which there is a candidate. NULL, TRUE and FALSE stand beside each other in the list.
-fn word_at(keywords: &[u8; TABLE_LENGTH], number: usize, word: &[u8]) -> Word
-    requires { (keywords.now ≡ spec.table) × Stands (unpacked number) × (length word.now ≤ 12) }
-    ensures { result ≡ word_of word.now }
-{
-    let letters = capitals_of(&word[..]);
-    let place = walk_in(keywords, number, word.len(), &letters[..]);
-    match place {
-        Place::Nowhere => Word::Plain,
-        Place::At(i) => {
-            if i < 97 {
-                return Word::Keyword(i);
-            }
-            if 99 < i {
-                return Word::Keyword(i);
-            }
-            Word::Value(i)
-        }
-    }
-}
-
-// The sort of a word, by a copy of the table.
-pub fn word_in(keywords: &[u8; TABLE_LENGTH], word: &[u8]) -> Word
-    requires { keywords.now ≡ spec.table }
-    ensures { result ≡ word_of word.now }
-{
-    let number = candidate(&word[..]);
-    if number == 0 {
-        return Word::Plain;
-    }
-    word_at(keywords, number, &word[..])
+    Keywords::new().walk(0, length, bytes)
 }
 
 // The sort of a word. The table is copied only for a word that can be on the list.
 pub fn word_of(word: &[u8]) -> Word
     ensures { result ≡ word_of word.now }
 {
-    let number = candidate(&word[..]);
+    let number = candidate(word);
     if number == 0 {
         return Word::Plain;
     }
-    let keywords = table();
-    word_at(&keywords, number, &word[..])
+    Keywords::new().word_at(number, word)
 }

@@ -224,9 +224,15 @@ const KEYWORDS: [u8; TABLE_LENGTH] = *b"\
     \x04HOST\
     \x05KEYED";
 
-// To lend a constant is to copy it: a layout copies the table once and lends the copy to every test of a word.
-pub fn table() -> [u8; TABLE_LENGTH]
-    ensures { result ≡ spec.table }
-{
-    KEYWORDS
+// The table as it is lent. To lend a constant is to copy it: a layout copies the table once and lends the copy to every test of a word.
+#[derive(Drop)]
+pub struct Keywords {
+    pub(crate) letters: [u8; TABLE_LENGTH],
+    ghost is_table: { letters ≡ spec.table },
+}
+
+impl Keywords {
+    pub fn new() -> Self {
+        Keywords { letters: KEYWORDS }
+    }
 }

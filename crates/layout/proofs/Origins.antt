@@ -1,14 +1,14 @@
 -- Every byte of the layout with an origin is the text's byte there, save for the case of a letter.
-use Prim.Native.Nat.{ℕ, zero, suc, ◌+◌, ◌-◌, ◌*◌, ◌≤◌, ◌<◌}
+use Prim.Native.Nat.{ℕ, zero, suc, ◌+◌, ◌-◌, ◌*◌, ◌<◌}
 use native.Mathlib.Omega.{arith}
 use native.Mathlib.Nat.{add-zero}
-use mathlib.Core.Path.{◌≡◌, refl, sym, ap, subst, ◌∙◌}
-use mathlib.Core.Bool.{Bool, true, false, cond, not, ◌&&◌, and-false}
+use mathlib.Core.Path.{◌≡◌, ap, subst, ◌∙◌}
+use mathlib.Core.Bool.{Bool, true, false, cond, not, ◌&&◌}
 use mathlib.Core.List.{List, [], ◌∷◌, ◌++◌, map}
 use lib.ListN.{length, get_or, take, drop, replicate, length-take}
 use lib.Seq.{get_or-drop, get_or-take}
 use lib.Dec.{leb}
-use borrow.Author.Tests.{leb-true, le-leb, lt-leb}
+use Rattle.std.proofs.lemmas.Bool.Decides.{nat_tests}
 use Rattle.basics.specs.Case.{to_uppercase, to_lowercase}
 use Rattle.context.specs.Cells.{Text, Origin, made, from, Cell, fresh, fixed, bytes_of, to_case, token_text, copied_from, span_cells, cell_in_case}
 use Rattle.utf8.specs.Trimming.{trimmed_length}
@@ -28,41 +28,13 @@ use Rattle.layout.specs.Masking.{fitted_cells, cells_after}
 
 -- ── a change of case changes letters alone
 
-capital : (x : ℕ) → 65 ≤ x → x ≤ 90 → to_lowercase x ≡ x + 32
-unfolding to_lowercase
-capital x lo hi = rw (le-leb 65 x lo, le-leb x 90 hi)
-
-above : (x : ℕ) → 90 < x → to_lowercase x ≡ x
-unfolding to_lowercase
-above x h = rw (lt-leb x 90 h, and-false (leb 65 x))
-
-other : (x : ℕ) → leb 65 x && leb x 90 ≡ false → to_lowercase x ≡ x
-unfolding to_lowercase
-other x e = rw e
-
 lower_upper : (x : ℕ) → to_lowercase (to_uppercase x) ≡ to_lowercase x
-unfolding to_uppercase
-lower_upper x = go (leb 97 x) (leb x 122) refl refl
-  where
-    go : (p q : Bool) → leb 97 x ≡ p → leb x 122 ≡ q → to_lowercase (cond (p && q) (x - 32) x) ≡ to_lowercase x
-    go true true e f =
-        let lo = leb-true 97 x e in
-        let hi = leb-true x 122 f in
-        let r : x - 32 + 32 ≡ x = omega arith in
-        capital (x - 32) (omega arith) (omega arith) ∙ r ∙ sym (above x (omega arith))
-    go true false e f = refl
-    go false q e f = refl
+unfolding to_lowercase to_uppercase
+lower_upper x = grind (arith, nat_tests)
 
 lower_lower : (x : ℕ) → to_lowercase (to_lowercase x) ≡ to_lowercase x
-lower_lower x = go (leb 65 x) (leb x 90) refl refl
-  where
-    go : (p q : Bool) → leb 65 x ≡ p → leb x 90 ≡ q → to_lowercase (to_lowercase x) ≡ to_lowercase x
-    go true true e f =
-        let lo = leb-true 65 x e in
-        let hi = leb-true x 90 f in
-        ap to_lowercase (capital x lo hi) ∙ above (x + 32) (omega arith) ∙ sym (capital x lo hi)
-    go true false e f = ap to_lowercase (other x (rw (e, f)))
-    go false q e f = ap to_lowercase (other x (rw e))
+unfolding to_lowercase
+lower_lower x = grind (arith, nat_tests)
 
 lower_case : (u : Bool) (x : ℕ) → to_lowercase (to_case u x) ≡ to_lowercase x
 lower_case true x = lower_upper x

@@ -1,11 +1,12 @@
 -- What calls come to, one after the other: the state after them, and all that they write laid over the output space; and the trimmed
 -- layout with its newline.
-use Prim.Native.Nat.{ℕ, zero, suc, ◌+◌, ◌≤◌}
+use Prim.Native.Nat.{ℕ, suc, ◌+◌, ◌≤◌}
 use native.Mathlib.Omega.{arith}
 use mathlib.Core.Path.{◌≡◌, refl, sym, ap, ◌∙◌}
 use mathlib.Core.List.{List, [], ◌∷◌, ◌++◌, map, append_assoc}
 use lib.ListN.{length, take, drop, set, get_or, length-append, length-map}
 use lib.Seq.{drop-cons, length-take-le, set_at}
+use Rattle.std.proofs.lemmas.List.{take-map}
 use Rattle.utf8.specs.Trimming.{trimmed_length}
 use Rattle.utf8.proofs.Trimming.{trimmed-le}
 use Rattle.context.specs.Cells.{Text, Cell, fresh, bytes_of}
@@ -67,14 +68,9 @@ cut-length : (X : List Cell) → length (trim_end X) ≡ kept X
 unfolding trim_end
 cut-length X = length-take-le (kept X) X (kept_fits X)
 
-bytes_take : (n : ℕ) (cs : List Cell) → bytes_of (take n cs) ≡ take n (bytes_of cs)
-bytes_take zero cs = refl
-bytes_take (suc n) [] = refl
-bytes_take (suc n) (c ∷ cs) = ap {B = List ℕ} (λ r. c.byte ∷ r) (bytes_take n cs)
-
 cut-bytes : (X : List Cell) → bytes_of (trim_end X) ≡ take (kept X) (bytes_of X)
 unfolding trim_end
-cut-bytes X = bytes_take (kept X) X
+cut-bytes X = sym (take-map (λ (c : Cell). c.byte) (kept X) X)
 
 end-some : (Y : List Cell) → (length Y ≡ 0 → ⊥) → end_line Y ≡ Y ++ (fresh 10 ∷ [])
 end-some [] h = absurd (h refl)

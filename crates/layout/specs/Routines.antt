@@ -1,11 +1,9 @@
 -- The routines of format_node.rs, each under its name and with its arms in the order there.
-use Rattle.std.specs.Prelude.{ℕ, Bool, true, false, cond, not, ◌&&◌, List, [], ◌∷◌, ◌++◌, eqb, ltb}
+use Rattle.std.specs.Prelude.{ℕ, Bool, true, false, cond, not, ◌&&◌, Option, None, Some, List, [], ◌∷◌, ◌++◌, eqb, ltb}
 use Rattle.basics.specs.Match.{among, match}
 use Rattle.keywords.specs.Words.{is_word}
 use Rattle.tape.specs.Kinds
 use Rattle.tape.specs.Tree.{Children, has_child, count_list_items}
-use Rattle.layout.specs.declared.PrevKind.{PrevKind}
-use Rattle.layout.specs.declared.PrevKind.TheVariants.{Nothing, Kind}
 use Rattle.layout.specs.declared.Local.{Local}
 use Rattle.layout.specs.Arms.{Spacing, newline, space, indent, dedent, blank_line, blank_line_before_comment, Act, spacing, write_text, write_keyword, write_sign, comma, semicolon, colon, minus, opening_round_bracket, closing_round_bracket, opening_square_bracket, closing_square_bracket, opening_curly_brace, closing_curly_brace, Seen, Arms}
 use Rattle.layout.specs.Tokens.{no_space_before, no_space_after, note_skipped_whitespace, emit_comment, emit_token, emit_other, is_operator}
@@ -14,10 +12,10 @@ use Rattle.layout.specs.Tokens.{no_space_before, no_space_after, note_skipped_wh
 
 -- the local variables: a flag; the kind that went before
 abbrev pub flagged : Bool → Local
-flagged b = record { flag = b; prev = Nothing }
+flagged b = record { flag = b; prev = None }
 
 abbrev pub after : ℕ → Local
-after k = record { flag = false; prev = Kind k }
+after k = record { flag = false; prev = Some k }
 
 -- acts that leave the local variables as they are
 abbrev pub local_unchanged : (Seen → List Act) → Local → Seen → Local × List Act
@@ -368,17 +366,17 @@ format_data_type = tokens_only data_type_token
 -- ── format_inline_tight_parens, format_inline: prev is prev_kind
 
 -- something went before that may be followed by a space
-unfoldable pub space_after : PrevKind → Bool
-space_after Nothing = false
-space_after (Kind k) = not (no_space_after k)
+unfoldable pub space_after : Option ℕ → Bool
+space_after None = false
+space_after (Some k) = not (no_space_after k)
 
 unfoldable pub inline_node : Local → ℕ → ℕ → Local × List Spacing × List Spacing
 inline_node l k n = (after Kinds.BareWord, space_if (space_after l.prev), [])
 
 -- a name went before
-unfoldable pub name_before : PrevKind → Bool
-name_before Nothing = false
-name_before (Kind k) = among k (Kinds.BareWord ∷ Kinds.QuotedIdentifier ∷ [])
+unfoldable pub name_before : Option ℕ → Bool
+name_before None = false
+name_before (Some k) = among k (Kinds.BareWord ∷ Kinds.QuotedIdentifier ∷ [])
 
 unfoldable pub inline_tight_parens_token : Local → Seen → Local × List Act
 inline_tight_parens_token l t =

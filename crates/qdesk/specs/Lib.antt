@@ -1,3 +1,2 @@
--- How C sees answers that have no numbers of their own, and what it lends.
+-- How C sees answers that have no numbers of their own.
 pub mod WordAnswer
-pub mod TallyNumbers

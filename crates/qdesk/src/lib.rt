@@ -7,7 +7,7 @@ ghost use Rattle.keywords.specs.Words.{word_of};
 ghost use Rattle.layout.specs.Layout.{original};
 ghost use Rattle.layout.specs.MapCall.{Mapped, mapped};
 ghost use Rattle.layout.specs.Outcome.{Result, laid_out, outcome};
-ghost use Rattle.qdesk.specs.TallyNumbers.{tally_of};
+ghost use Rattle.book.specs.Tally.{tally_of};
 ghost use Rattle.qdesk.specs.WordAnswer.{word_answer};
 
 use book::{Tally, report_from};
@@ -37,8 +37,8 @@ pub fn qdesk_layout_map(
 pub fn qdesk_word(word: &[u8]) -> Answer
     ensures { result ≡ word_answer (word_of word.now) }
 {
-    let sort = word_of(word);
-    match sort {
+    // Not a `From`, since both types are of other crates.
+    match word_of(word) {
         Word::Plain => Answer {
             number: 0,
             value: 0,
@@ -64,15 +64,7 @@ pub fn qdesk_report(
 ) -> usize
     ensures { ◌≡◌ {A = Called} (record { end = result; space = out.new; work = work.new; tally = tally_of tally.new }) (reported (ltb 0 more) book.now (tally_of tally.old) work.old out.old) }
 {
-    let before = Tally {
-        jobs: tally[0],
-        refused: tally[1],
-        bytes: tally[2],
-        lines: tally[3],
-    };
-    let done = report_from(book, 0 < more, before, work, out);
-    let after = done.tally;
-    let numbers = [after.jobs, after.refused, after.bytes, after.lines];
-    *tally = numbers;
+    let done = report_from(book, 0 < more, Tally::from(*tally), work, out);
+    *tally = <[u64; 4]>::from(done.tally);
     done.put
 }

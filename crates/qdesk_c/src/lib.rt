@@ -7,7 +7,7 @@ ghost use Rattle.keywords.specs.Words.{word_of};
 ghost use Rattle.layout.specs.Layout.{original};
 ghost use Rattle.layout.specs.MapCall.{Mapped, mapped};
 ghost use Rattle.layout.specs.Outcome.{Result, laid_out, outcome};
-ghost use Rattle.qdesk.specs.TallyNumbers.{tally_of};
+ghost use Rattle.book.specs.Tally.{tally_of};
 ghost use Rattle.qdesk.specs.WordAnswer.{word_answer};
 
 use layout::Answer;

@@ -1,9 +1,9 @@
 -- What a head that fits says of its lengths.
 use mathlib.Core.Path.{◌≡◌}
 use mathlib.Core.Bool.{true, ◌&&◌}
-use Prim.Native.Nat.{ℕ, ◌+◌, ◌≤◌}
+use Prim.Native.Nat.{◌+◌, ◌≤◌}
 use lib.Dec.{leb}
-use borrow.Author.Tests.{leb-true, le-leb}
+use borrow.Author.Tests.{leb-true}
 use Rattle.basics.proofs.Same.{and_true}
 use Rattle.replay_list.specs.declared.Run.{Run}
 use Rattle.replay_list.specs.declared.RecordHead.{RecordHead}
@@ -43,8 +43,3 @@ within-limits head h =
       space = leb-true _ _ q.1;
       layout = leb-true _ _ p.1;
     }
-
--- where all but the layout's length keep to the limits, that decides
-pub layout-left : (head : RecordHead) (n : ℕ) → run_fits head.text ≡ true → run_fits head.tape ≡ true → head.space ≤ 4096 → n ≡ layout_length head → leb n head.space ≡ fitting head
-unfolding fitting
-layout-left head n a b s e = rw (a, b, le-leb head.space 4096 s, e)

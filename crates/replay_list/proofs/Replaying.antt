@@ -5,23 +5,20 @@ use mathlib.Core.List.{List, ◌∷◌, ◌++◌}
 use Prim.Native.Nat.{ℕ, zero, suc, ◌+◌, ◌-◌, ◌≤◌, ◌<◌}
 use native.Mathlib.Omega.{arith}
 use native.Mathlib.Nat.{le_of_suc-le-suc, not-suc-le-zero}
-use lib.ListN.{length, take, drop, replicate, length-drop, length-take, length-replicate}
-use lib.Dec.{leb, ltb}
-use lib.Seq.{take_all, take-append-add, drop-drop}
-use borrow.Author.Tests.{le-leb, lt-leb, lt-ltb, le-ltb, leb-true}
+use lib.ListN.{length, take, drop, replicate, length-drop, length-take}
+use lib.Dec.{leb, ltb, eqb}
+use lib.Seq.{take_all, take-append-add}
+use borrow.Author.Tests.{le-leb, lt-leb, lt-ltb, le-ltb, leb-true, eqb-true, eqb-false}
 use Rattle.basics.proofs.Same.{and_true}
 use Rattle.layout.specs.Layout.{original}
 use Rattle.layout.specs.Outcome.{outcome}
-use Rattle.desk_job.proofs.Writing.{Wrote, space-of}
-use Rattle.desk_job.proofs.Printing.{splice_front}
+use Rattle.std.specs.Prelude.{Option, Some, None, Ok}
 use Rattle.replay_list.specs.declared.RecordHead.{RecordHead}
-use Rattle.replay_list.specs.declared.Verdict.{Verdict}
-use Rattle.replay_list.specs.declared.Verdict.TheVariants.{Broken, Compared}
+use Rattle.replay_list.specs.declared.Compared.{Compared}
 use Rattle.replay_list.specs.declared.Tally.{Tally}
-use Rattle.replay_list.specs.declared.Replayed.TheVariants.{Bad, Whole}
 use Rattle.replay_list.specs.Record.{number_at, head_of, fitting, record_end, between, text_of, tape_of, layout_of}
 use Rattle.replay_list.specs.Agreement.{calls_agree}
-use Rattle.replay_list.specs.Replay.{record_agrees, verdict_on, verdict, counted, after_record, replayed_from, no_records, replayed}
+use Rattle.replay_list.specs.Replay.{record_agrees, verdict_on, verdict, counted, bad_at, after_record, replayed_from, no_records, replayed}
 
 -- ── a run that is copied into zeros
 
@@ -36,7 +33,7 @@ take-drop_zeros zero (suc s) zero h = refl
 take-drop_zeros (suc n) (suc s) zero h = absurd (omega (arith, h))
 take-drop_zeros n (suc s) (suc k) h = take-drop_zeros n s k (omega (arith, h))
 
-length-between : (start end : ℕ) (bytes : List ℕ) → end ≤ length bytes → length (between start end bytes) ≡ end - start
+pub length-between : (start end : ℕ) (bytes : List ℕ) → end ≤ length bytes → length (between start end bytes) ≡ end - start
 length-between start end bytes h =
     let t = length-take (end - start) (drop start bytes) in
     let d = length-drop start bytes in
@@ -46,22 +43,20 @@ length-between start end bytes h =
 pub between-same : (bytes : List ℕ) (a s b e : ℕ) → a ≡ s → b ≡ e → between a b bytes ≡ between s e bytes
 between-same bytes a s b e p q = rw (p, q) refl
 
-in_zeros : {r : ℕ} {out : List ℕ} (run : List ℕ) (zeros room : ℕ) → Wrote r out 0 run (replicate room 0) → length run + zeros ≤ room → take (length run + zeros) out ≡ run ++ replicate zeros 0
-in_zeros {r} {out} run zeros room w h =
-    let z = length-replicate {A = ℕ} room 0 in
-    let o : out ≡ run ++ drop (length run) (replicate room 0) = space-of 0 run (replicate room 0) w ∙ sym (splice_front run (replicate room 0) (omega (arith, h, z))) in
-    ap (take (length run + zeros)) o
+-- the front of an array of zeros after a run was copied to it
+in_zeros : (run : List ℕ) (zeros room n : ℕ) → n ≡ length run + zeros → n ≤ room → take n (run ++ drop (length run) (replicate room 0)) ≡ run ++ replicate zeros 0
+in_zeros run zeros room n e h =
+    ap (λ (k : ℕ). take k (run ++ drop (length run) (replicate room 0))) e
     ∙ take-append-add run (drop (length run) (replicate room 0)) zeros
-    ∙ ap (λ (l : List ℕ). run ++ l) (take-drop_zeros zeros (length run) room h)
+    ∙ ap (λ (l : List ℕ). run ++ l) (take-drop_zeros zeros (length run) room (omega (arith, e, h)))
 
--- the front of an array of zeros after the part from a to b was copied to it
-pub run-copied : {r : ℕ} {out : List ℕ} (bytes : List ℕ) (zeros room n a s b e : ℕ) → a ≡ s → b ≡ e → e ≤ length bytes → n ≡ e - s + zeros → n ≤ room
-    → Wrote r out 0 (between a b bytes) (replicate room 0) → take n out ≡ between s e bytes ++ replicate zeros 0
-run-copied {r} {out} bytes zeros room n a s b e p q l m h w =
+-- the same of the part from a to b
+pub run-copied : {out : List ℕ} (bytes : List ℕ) (zeros room n a s b e : ℕ) → a ≡ s → b ≡ e → e ≤ length bytes → n ≡ e - s + zeros → n ≤ room
+    → out ≡ between a b bytes ++ drop (length (between a b bytes)) (replicate room 0) → take n out ≡ between s e bytes ++ replicate zeros 0
+run-copied {out} bytes zeros room n a s b e p q l m h w =
     let k = length-between a b bytes (omega (arith, q, l)) in
-    let i : n ≡ length (between a b bytes) + zeros = omega (arith, k, p, q, m) in
-    ap (λ (x : ℕ). take x out) i
-    ∙ in_zeros (between a b bytes) zeros room w (omega (arith, i, h))
+    ap (λ (x : List ℕ). take n x) w
+    ∙ in_zeros (between a b bytes) zeros room n (omega (arith, k, p, q, m)) h
     ∙ ap (λ (x : List ℕ). x ++ replicate zeros 0) (between-same bytes a s b e p q)
 
 -- the two calls of a record, by the parts that they were given
@@ -78,39 +73,33 @@ record_agrees-of {r} {text} {tape} {layout} {room} bytes head e f g k h =
 -- ── what a record comes to
 
 module _ (bytes : List ℕ) where
-  pub cut-in_head : length bytes < 72 → Broken ≡ verdict bytes
+  pub cut-in_head : length bytes < 72 → verdict bytes ≡ None
   unfolding verdict
   cut-in_head h = rw (lt-leb 72 (length bytes) h)
 
   module _ (head : RecordHead) (e : head ≡ head_of bytes) (h : 72 ≤ length bytes) where
-    of_head : verdict_on bytes head ≡ verdict bytes
+    of_head : verdict bytes ≡ verdict_on bytes head
     unfolding verdict
-    of_head = rw (le-leb 72 (length bytes) h) (ap (verdict_on bytes) e)
+    of_head = rw (le-leb 72 (length bytes) h) (ap (verdict_on bytes) (sym e))
 
-    pub over_limit : fitting head ≡ false → Broken ≡ verdict bytes
+    pub over_limit : fitting head ≡ false → verdict bytes ≡ None
     unfolding verdict_on
-    over_limit f = over ∙ of_head where
-      over : Broken ≡ verdict_on bytes head
-      over = rw f
+    over_limit f = of_head ∙ rw f
 
     module _ (f : fitting head ≡ true) where
-      pub cut-in_run : (end : ℕ) → end ≡ record_end head → length bytes < end → Broken ≡ verdict bytes
+      pub cut-in_run : length bytes < record_end head → verdict bytes ≡ None
       unfolding verdict_on
-      cut-in_run end k l = cut ∙ of_head where
-        cut : Broken ≡ verdict_on bytes head
-        cut = rw (f, lt-leb (record_end head) (length bytes) (rw k at l))
+      cut-in_run l = of_head ∙ rw (f, lt-leb (record_end head) (length bytes) l)
 
-      pub record_compared : (end : ℕ) → end ≡ record_end head → end ≤ length bytes → (r : Bool) → r ≡ record_agrees bytes head → Compared r end ≡ verdict bytes
+      pub record_compared : (r : Bool) (end : ℕ) → r ≡ record_agrees bytes head → end ≡ record_end head → end ≤ length bytes → Some (record { agreed = r; end = end }) ≡ verdict bytes
       unfolding verdict_on
-      record_compared end k l r a = all ∙ of_head where
-        all : Compared r end ≡ verdict_on bytes head
-        all = rw (f, le-leb (record_end head) (length bytes) (rw k at l), a, k)
+      record_compared r end a k l = rw (a, k) (sym (of_head ∙ rw (f, le-leb (record_end head) (length bytes) (rw k at l))))
 
-abbrev end_of : Verdict → ℕ
-end_of Broken = 0
-end_of (Compared agrees end) = end
+abbrev end_of : Option Compared → ℕ
+end_of None = 0
+end_of (Some c) = c.end
 
-end-if : (b : Bool) (v : Verdict) (n : ℕ) → (b ≡ true → end_of v ≤ n) → end_of (cond b v Broken) ≤ n
+end-if : (b : Bool) (v : Option Compared) (n : ℕ) → (b ≡ true → end_of v ≤ n) → end_of (cond b v None) ≤ n
 end-if true v n h = h refl
 end-if false v n h = omega arith
 
@@ -118,88 +107,93 @@ verdict-end : (bytes : List ℕ) → end_of (verdict bytes) ≤ length bytes
 unfolding verdict verdict_on
 verdict-end bytes =
     let head = head_of bytes in
-    end-if (leb 72 (length bytes)) _ (length bytes) (λ _. end-if (fitting head && leb (record_end head) (length bytes)) (Compared (record_agrees bytes head) (record_end head)) (length bytes) (λ b. leb-true (record_end head) (length bytes) (and_true (fitting head) _ b).1))
+    end-if (leb 72 (length bytes)) _ (length bytes)
+    (λ _. end-if (fitting head && leb (record_end head) (length bytes)) (Some (record { agreed = record_agrees bytes head; end = record_end head })) (length bytes)
+    (λ b. leb-true (record_end head) (length bytes) (and_true (fitting head) _ b).1))
 
-compared_end : (bytes : List ℕ) (agrees : Bool) (end : ℕ) → Compared agrees end ≡ verdict bytes → end ≤ length bytes
-compared_end bytes agrees end h = subst (λ (v : Verdict). end_of v ≤ length bytes) (sym h) (verdict-end bytes)
+pub compared_end : (bytes : List ℕ) (c : Compared) → Some c ≡ verdict bytes → c.end ≤ length bytes
+compared_end bytes c h = subst (λ (v : Option Compared). end_of v ≤ length bytes) (sym h) (verdict-end bytes)
 
 -- ── the replay from a record on
 
-pub one_more : (t u : Tally) (agrees : Bool) → u ≡ counted t agrees → u.records ≡ t.records + 1
+pub one_more : (t : Tally) (agrees : Bool) → (counted t agrees).records ≡ t.records + 1
 unfolding counted
-one_more t u agrees h = ap (λ (x : Tally). x.records) h ∙ more agrees where
-  more : (b : Bool) → (counted t b).records ≡ t.records + 1
-  more true = refl
-  more false = refl
+one_more t true = refl
+one_more t false = refl
 
-at-most_all : (t u : Tally) (agrees : Bool) → u ≡ counted t agrees → t.differ ≤ t.records → u.differ ≤ u.records
+at-most_all : (t : Tally) (agrees : Bool) → t.differ ≤ t.records → (counted t agrees).differ ≤ (counted t agrees).records
 unfolding counted
-at-most_all t u agrees h l = subst (λ (x : Tally). x.differ ≤ x.records) (sym h) (more agrees) where
-  more : (b : Bool) → (counted t b).differ ≤ (counted t b).records
-  more true = omega (arith, l)
-  more false = omega (arith, l)
+at-most_all t true l = omega arith
+at-most_all t false l = omega arith
 
--- so far `t` is counted, and the next of so many records begins at `at`
-pub record Reached (more : Bool) (list : List ℕ) (records : ℕ) (t : Tally) (at : ℕ) : Type 0 where
-  pub inside : at ≤ length list
-  pub left : t.records ≤ records
+-- so many records are counted so far, and `rest` is what is left of the list
+pub record Reached (more : Bool) (list : List ℕ) (records at : ℕ) (t : Tally) (rest : List ℕ) : Type 0 where
+  pub all : t.records ≡ at
   pub few : t.differ ≤ t.records
-  pub rest : replayed more list ≡ replayed_from more (records - t.records) (drop at list) t
+  pub left : replayed more list ≡ replayed_from more (records - at) rest t
 
-pub too_short_lem : (more : Bool) (list : List ℕ) → length list < 8 → Bad 0 ≡ replayed more list
+pub too_short_lem : (more : Bool) (list : List ℕ) → length list < 8 → bad_at 0 ≡ replayed more list
 unfolding replayed
 too_short_lem more list h = rw (lt-leb 8 (length list) h)
 
-pub start : (more : Bool) (list : List ℕ) (records : ℕ) → 8 ≤ length list → records ≡ number_at list 0 → Reached more list records no_records 8
+-- what is left of a list after n numbers, as the code has it
+tail : (n : ℕ) (list : List ℕ) → drop n list ≡ take (length list - n) (drop n list)
+tail n list = sym (take_all (length list - n) (drop n list) (omega (arith, length-drop n list)))
+
+pub start : (more : Bool) (list : List ℕ) (records : ℕ) → 8 ≤ length list → records ≡ number_at list 0
+    → Reached more list records 0 no_records (take (length list - 8) (drop 8 list))
 unfolding replayed
 start more list records h e =
-    let left : number_at list 0 ≡ records - 0 = omega (arith, e) in
-    record {
-      inside = h;
-      left = omega arith;
+    let same : number_at list 0 ≡ records - 0 = omega (arith, e) in
+    subst (λ (l : List ℕ). Reached more list records 0 no_records l) (tail 8 list)
+    (record {
+      all = refl;
       few = omega arith;
-      rest = rw (le-leb 8 (length list) h) (ap (λ (n : ℕ). replayed_from more n (drop 8 list) no_records) left);
-    }
+      left = rw (le-leb 8 (length list) h) (ap (λ (n : ℕ). replayed_from more n (drop 8 list) no_records) same);
+    })
 
-module _ (more : Bool) (list : List ℕ) (records : ℕ) (t : Tally) (at : ℕ) (r : Reached more list records t at) where
-  tail : take (length list - at) (drop at list) ≡ drop at list
-  tail = take_all (length list - at) (drop at list) (omega (arith, length-drop at list))
-
-  module _ (l : t.records < records) where
-    unrolled : (left : ℕ) → records - t.records ≡ suc left → replayed more list ≡ after_record (verdict (drop at list)) (drop at list) t (replayed_from more left)
+module _ (more : Bool) (list : List ℕ) (records at : ℕ) (t : Tally) (rest : List ℕ) (r : Reached more list records at t rest) where
+  module _ (l : at < records) where
+    unrolled : replayed more list ≡ after_record (verdict rest) rest t (replayed_from more (records - (at + 1)))
     unfolding replayed_from
-    unrolled left e = r.rest ∙ ap (λ (n : ℕ). replayed_from more n (drop at list) t) e
+    unrolled =
+        let e : records - at ≡ suc (records - (at + 1)) = omega arith in
+        r.left ∙ ap (λ (n : ℕ). replayed_from more n rest t) e
 
-    pub broken-record : Broken ≡ verdict (take (length list - at) (drop at list)) → Bad t.records ≡ replayed more list
+    pub broken-record : None ≡ verdict rest → bad_at at ≡ replayed more list
     unfolding after_record
-    broken-record h = sym (unrolled (records - t.records - 1) (omega (arith, l)) ∙ rw (← tail, ← h) refl)
+    broken-record h = sym (unrolled ∙ rw (← h, r.all) refl)
 
-    pub next-record : (agrees : Bool) (end : ℕ) (u : Tally) → Compared agrees end ≡ verdict (take (length list - at) (drop at list)) → u ≡ counted t agrees → Reached more list records u (at + end)
+    behind : (c : Compared) → Some c ≡ verdict rest → Reached more list records (at + 1) (counted t c.agreed) (drop c.end rest)
     unfolding after_record
-    next-record agrees end u h e =
-        let k = rw tail at h in
-        let n = one_more t u agrees e in
+    behind c h =
         record {
-          inside = omega (arith, compared_end (drop at list) agrees end k, length-drop at list, r.inside);
-          left = omega (arith, n, l);
-          few = at-most_all t u agrees e r.few;
-          rest = unrolled (records - u.records) (omega (arith, l, n)) ∙ turn k;
-        } where
-          turn : Compared agrees end ≡ verdict (drop at list) → after_record (verdict (drop at list)) (drop at list) t (replayed_from more (records - u.records)) ≡ replayed_from more (records - u.records) (drop (at + end) list) u
-          turn k = rw (← k, drop-drop end at list, ← e) refl
+          all = one_more t c.agreed ∙ ap (λ (n : ℕ). n + 1) r.all;
+          few = at-most_all t c.agreed r.few;
+          left = unrolled ∙ rw (← h) refl;
+        }
 
-  module _ (l : records ≤ t.records) where
-    ended : replayed more list ≡ cond (more || ltb 0 (length (drop at list))) (Bad t.records) (Whole t)
+    pub next-record : (c : Compared) (u : Tally) → Some c ≡ verdict rest → u ≡ counted t c.agreed
+        → Reached more list records (at + 1) u (take (length rest - c.end) (drop c.end rest))
+    next-record c u h e =
+        subst (λ (x : Tally). Reached more list records (at + 1) x (take (length rest - c.end) (drop c.end rest))) (sym e)
+        (subst (λ (l : List ℕ). Reached more list records (at + 1) (counted t c.agreed) l) (tail c.end rest) (behind c h))
+
+  module _ (l : records ≤ at) (k : at ≤ records) where
+    ended : replayed more list ≡ cond (more || ltb 0 (length rest)) (bad_at records) (Ok t)
     unfolding replayed_from
     ended =
-        let z : records - t.records ≡ 0 = omega (arith, l) in
-        r.rest ∙ ap (λ (n : ℕ). replayed_from more n (drop at list) t) z
+        let z : records - at ≡ 0 = omega arith in
+        let e : t.records ≡ records = omega (arith, r.all) in
+        r.left ∙ ap (λ (n : ℕ). replayed_from more n rest t) z ∙ ap (λ (n : ℕ). cond (more || ltb 0 (length rest)) (bad_at n) (Ok t)) e
 
-    pub input_goes_on : more ≡ true → Bad t.records ≡ replayed more list
+    pub input_goes_on : more ≡ true → bad_at records ≡ replayed more list
     input_goes_on m = sym (ended ∙ rw m refl)
 
-    pub list-goes_on : more ≡ false → at < length list → Bad t.records ≡ replayed more list
-    list-goes_on m k = sym (ended ∙ rw (m, lt-ltb 0 (length (drop at list)) (omega (arith, k, length-drop at list))) refl)
+    pub list-goes_on : more ≡ false → eqb (length rest) 0 ≡ false → bad_at records ≡ replayed more list
+    list-goes_on m e =
+        let some = eqb-false (length rest) 0 e in
+        sym (ended ∙ rw (m, lt-ltb 0 (length rest) (omega arith)) refl)
 
-    pub list-ends : more ≡ false → length list ≤ at → Whole t ≡ replayed more list
-    list-ends m k = sym (ended ∙ rw (m, le-ltb 0 (length (drop at list)) (omega (arith, k, length-drop at list))) refl)
+    pub list-ends : more ≡ false → eqb (length rest) 0 ≡ true → Ok t ≡ replayed more list
+    list-ends m e = sym (ended ∙ rw (m, le-ltb 0 (length rest) (omega (arith, eqb-true (length rest) 0 e))) refl)

@@ -1,9 +1,9 @@
 -- What is printed for a list.
-use Rattle.std.specs.Prelude.{ℕ, cond, List, [], ◌∷◌, ◌++◌, eqb}
+use Rattle.std.specs.Prelude.{ℕ, cond, Result, Ok, Err, List, [], ◌∷◌, ◌++◌, eqb}
 use Rattle.keywords.specs.Words.{bytes}
 use Rattle.desk_job.specs.Job.{decimal}
-use Rattle.replay_list.specs.declared.Replayed.{Replayed}
-use Rattle.replay_list.specs.declared.Replayed.TheVariants.{Bad, Whole}
+use Rattle.replay_list.specs.declared.Tally.{Tally}
+use Rattle.replay_list.specs.declared.BadRecord.{BadRecord}
 
 abbrev newline : List ℕ
 newline = 10 ∷ []
@@ -18,6 +18,6 @@ end_line count differ first =
     decimal 20 count ++ bytes " vectors, " ++ decimal 20 differ ++ bytes " differ"
     ++ cond (eqb differ 0) newline (bytes ", the first is " ++ decimal 20 first ++ newline)
 
-unfoldable pub replayed_line : Replayed → List ℕ
-replayed_line (Bad n) = bad_line n
-replayed_line (Whole t) = end_line t.records t.differ t.first
+unfoldable pub replayed_line : Result Tally BadRecord → List ℕ
+replayed_line (Ok t) = end_line t.records t.differ t.first
+replayed_line (Err bad) = bad_line bad.at

@@ -34,11 +34,11 @@ pub struct RecordHead {
     pub value: u64,
 }
 
-// What a record comes to: it is cut or breaks a limit; or whether both calls agree with it, and where it ends.
+// What a whole record within the limits comes to: whether both calls agree with it, and where it ends.
 #[derive(Clone, Copy)]
-pub enum Verdict {
-    Broken,
-    Compared(bool, usize),
+pub struct Compared {
+    pub agreed: bool,
+    pub end: usize,
 }
 
 // So many records, so many of which differ, and the number of the first of these, or 0.
@@ -49,11 +49,10 @@ pub struct Tally {
     pub first: u64,
 }
 
-// What a list comes to: bad at a record, or all of its records compared.
+// The list is bad at a record.
 #[derive(Clone, Copy)]
-pub enum Replayed {
-    Bad(u64),
-    Whole(Tally),
+pub struct BadRecord {
+    pub at: u64,
 }
 
 // Puts the line that is printed for the list into `out`, as far as that goes, and answers how many bytes it has put.
@@ -61,9 +60,8 @@ pub enum Replayed {
 pub fn print_replayed(list: &[u8], more: bool, out: &mut [u8]) -> usize
     ensures { ◌≡◌ {A = Written} (record { end = result; space = out.new }) (written 0 (replayed_line (replayed more list.now)) out.old) }
 {
-    let result = replay_list(list, more);
-    match result {
-        Replayed::Bad(at) => print_bad(at, out),
-        Replayed::Whole(tally) => print_end(tally.records, tally.differ, tally.first, out),
+    match replay_list(list, more) {
+        Ok(tally) => print_end(tally.records, tally.differ, tally.first, out),
+        Err(bad) => print_bad(bad.at, out),
     }
 }

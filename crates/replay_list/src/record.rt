@@ -1,15 +1,31 @@
 // A record's nine numbers, and whether they keep to the limits that the list promises.
-ghost use Rattle.std.specs.Prelude.{◌≡◌, true, ◌+◌, ◌≤◌, length};
+ghost use Rattle.std.specs.Prelude.{◌≡◌, true, None, ◌+◌, ◌≤◌, length, MatchOption};
 ghost use Rattle.replay_list.specs.Record.{number_at, run_at, head_of, run_fits, fitting, layout_length, tape_start, layout_start, record_end};
+ghost use Rattle.replay_list.specs.Replay.{verdict};
 
 use crate::{RecordHead, Run};
-use tape::commands::u32_at;
+
+// The numbers of a record that keeps to the limits.
+#[derive(Clone, Copy)]
+pub(crate) struct FittingHead {
+    pub(crate) head: RecordHead,
+    ghost fits: { fitting head ≡ true },
+}
 
 pub(crate) fn u64_at(bytes: &[u8], at: usize) -> u64
     requires { at + 8 ≤ length bytes.now }
     ensures { result ≡ number_at bytes.now at }
 {
-    u32_at(bytes, at) as u64 + 4294967296 * (u32_at(bytes, at + 4) as u64)
+    u64::from_le_bytes([
+        bytes[at],
+        bytes[at + 1],
+        bytes[at + 2],
+        bytes[at + 3],
+        bytes[at + 4],
+        bytes[at + 5],
+        bytes[at + 6],
+        bytes[at + 7],
+    ])
 }
 
 fn run_at(bytes: &[u8], at: usize) -> Run
@@ -22,7 +38,7 @@ fn run_at(bytes: &[u8], at: usize) -> Run
     }
 }
 
-pub(crate) fn read_head(bytes: &[u8]) -> RecordHead
+fn read_head(bytes: &[u8]) -> RecordHead
     requires { 72 ≤ length bytes.now }
     ensures { result ≡ head_of bytes.now }
 {
@@ -37,72 +53,74 @@ pub(crate) fn read_head(bytes: &[u8]) -> RecordHead
     }
 }
 
-fn run_fits(run: Run) -> bool
-    ensures { result ≡ run_fits run }
-{
-    if 4096 < run.stored {
-        return false;
+impl Run {
+    #[tactic(auto, unfolding(crate::specs::Record::run_fits))]
+    fn fits(self) -> bool
+        ensures { result ≡ run_fits self }
+    {
+        self.stored <= 4096 && self.zeros <= 262145 - self.stored
     }
-    if 262145 - run.stored < run.zeros {
-        return false;
+
+    // The length of a run that fits, with its zeros.
+    pub(crate) fn length(self) -> usize
+        requires { run_fits self ≡ true }
+        ensures { result ≡ self.stored + self.zeros }
+    {
+        (self.stored + self.zeros) as usize
     }
-    true
 }
 
-// The length of a run that fits, with its zeros.
-pub(crate) fn run_length(run: Run) -> usize
-    requires { run_fits run ≡ true }
-    ensures { result ≡ run.stored + run.zeros }
-{
-    (run.stored + run.zeros) as usize
-}
-
-// How many bytes of layout are stored.
-fn layout_length(head: RecordHead) -> u64
-    ensures { result ≡ layout_length head }
-{
-    if head.number == 0 {
-        return head.value;
+impl RecordHead {
+    // How many bytes of layout are stored.
+    fn layout_length(self) -> u64
+        ensures { result ≡ layout_length self }
+    {
+        if self.number == 0 { self.value } else { 0 }
     }
-    0
-}
 
-// Whether the record keeps to the limits.
-pub(crate) fn fits(head: RecordHead) -> bool
-    ensures { result ≡ fitting head }
-{
-    if !run_fits(head.text) {
-        return false;
+    // Whether the record keeps to the limits.
+    #[tactic(auto, unfolding(crate::specs::Record::fitting))]
+    fn fits(self) -> bool
+        ensures { result ≡ fitting self }
+    {
+        self.text.fits()
+            && self.tape.fits()
+            && self.space <= 4096
+            && self.layout_length() <= self.space
     }
-    if !run_fits(head.tape) {
-        return false;
+}
+
+impl FittingHead {
+    // Those of the record at the front of the bytes; none where they are cut or break a limit.
+    pub(crate) fn read(bytes: &[u8]) -> Option<Self>
+        ensures { MatchOption result (verdict bytes.now ≡ None) (λ r. (72 ≤ length bytes.now) × (r.head ≡ head_of bytes.now)) }
+    {
+        if bytes.len() < 72 {
+            return None;
+        }
+        let head = read_head(bytes);
+        if !head.fits() {
+            return None;
+        }
+        Some(FittingHead { head })
     }
-    if 4096 < head.space {
-        return false;
+
+    // Where the runs of the record begin, and where it ends.
+    pub(crate) fn tape_start(self) -> usize
+        ensures { result ≡ tape_start self.head }
+    {
+        72 + self.head.text.stored as usize
     }
-    layout_length(head) <= head.space
-}
 
-// Where the runs of a record within the limits begin, and where it ends.
-pub(crate) fn tape_start(head: RecordHead) -> usize
-    requires { fitting head ≡ true }
-    ensures { result ≡ tape_start head }
-{
-    let text = head.text;
-    72 + text.stored as usize
-}
+    pub(crate) fn layout_start(self) -> usize
+        ensures { result ≡ layout_start self.head }
+    {
+        self.tape_start() + self.head.tape.stored as usize
+    }
 
-pub(crate) fn layout_start(head: RecordHead) -> usize
-    requires { fitting head ≡ true }
-    ensures { result ≡ layout_start head }
-{
-    let tape = head.tape;
-    tape_start(head) + tape.stored as usize
-}
-
-pub(crate) fn record_end(head: RecordHead) -> usize
-    requires { fitting head ≡ true }
-    ensures { result ≡ record_end head }
-{
-    layout_start(head) + layout_length(head) as usize
+    pub(crate) fn end(self) -> usize
+        ensures { result ≡ record_end self.head }
+    {
+        self.layout_start() + self.head.layout_length() as usize
+    }
 }

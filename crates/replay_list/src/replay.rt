@@ -1,116 +1,109 @@
 // The list, record by record.
-ghost use Rattle.std.specs.Prelude.{◌≡◌, true, ◌≤◌, ◌<◌, length};
-ghost use Rattle.replay_list.specs.Record.{fitting, record_end};
+ghost use Rattle.std.specs.Prelude.{◌≡◌, ◌≤◌, ◌<◌, ◌++◌, drop, length};
+ghost use Rattle.replay_list.specs.Record.{record_end};
 ghost use Rattle.replay_list.specs.Replay.{record_agrees, verdict, counted, replayed};
 
 use crate::agree::calls_agree;
-use crate::record::{fits, layout_start, read_head, record_end, run_length, tape_start, u64_at};
-use crate::{RecordHead, Replayed, Tally, Verdict};
-use desk_job::write::put_all;
+use crate::record::{FittingHead, u64_at};
+use crate::{BadRecord, Compared, Tally};
 
-// Makes both calls of a whole record that keeps to the limits. The arrays hold zeros behind what is copied into them.
-fn record_agrees(bytes: &[u8], head: RecordHead) -> bool
-    requires { (fitting head ≡ true) × (record_end head ≤ length bytes.now) }
-    ensures { result ≡ record_agrees bytes.now head }
+// A run's stored bytes, at the front of a space.
+fn copy_to_front(space: &mut [u8], stored: &[u8])
+    requires { length stored.now ≤ length space.old }
+    ensures { space.new ≡ stored.now ++ drop (length stored.now) space.old }
+{
+    space[..stored.len()].copy_from_slice(stored);
+}
+
+// Makes both calls of a whole record. The arrays hold zeros behind what is copied into them.
+fn record_agrees(bytes: &[u8], fitting: FittingHead) -> bool
+    requires { record_end fitting.head ≤ length bytes.now }
+    ensures { result ≡ record_agrees bytes.now fitting.head }
 {
     let mut text = [0u8; 262145];
     let mut tape = [0u8; 262145];
     let mut out = [0u8; 4096];
-    let tape_at = tape_start(head);
-    let layout_at = layout_start(head);
-    let end = record_end(head);
-    put_all(&mut text, 0, &bytes[72..tape_at]);
-    put_all(&mut tape, 0, &bytes[tape_at..layout_at]);
-    let text_end = run_length(head.text);
-    let tape_end = run_length(head.tape);
+    let head = fitting.head;
+    let tape_at = fitting.tape_start();
+    let layout_at = fitting.layout_start();
+    let end = fitting.end();
+    copy_to_front(&mut text, &bytes[72..tape_at]);
+    copy_to_front(&mut tape, &bytes[tape_at..layout_at]);
+    let text_end = head.text.length();
+    let tape_end = head.tape.length();
     let space = head.space as usize;
     calls_agree(
+        head,
         &text[..text_end],
         &tape[..tape_end],
-        head.width,
-        head.case,
-        head.number,
-        head.value,
         &bytes[layout_at..end],
         &mut out[..space],
     )
 }
 
-// The record at the front of the bytes.
-fn replay_record(bytes: &[u8]) -> Verdict
+// The record at the front of the bytes; none where it is cut or breaks a limit.
+fn replay_record(bytes: &[u8]) -> Option<Compared>
     ensures { result ≡ verdict bytes.now }
 {
-    if bytes.len() < 72 {
-        return Verdict::Broken;
-    }
-    let head = read_head(bytes);
-    if !fits(head) {
-        return Verdict::Broken;
-    }
-    let end = record_end(head);
+    let fitting = FittingHead::read(bytes)?;
+    let end = fitting.end();
     if bytes.len() < end {
-        return Verdict::Broken;
+        return None;
     }
-    let agreed = record_agrees(bytes, head);
-    Verdict::Compared(agreed, end)
+    let agreed = record_agrees(bytes, fitting);
+    Some(Compared { agreed, end })
 }
 
-// One record more.
-fn count(tally: Tally, agreed: bool) -> Tally
-    requires { (tally.differ ≤ tally.records) × (tally.records < 18446744073709551615) }
-    ensures { result ≡ counted tally agreed }
-{
-    let records = tally.records + 1;
-    if agreed {
-        return Tally {
-            records: records,
-            differ: tally.differ,
-            first: tally.first,
-        };
-    }
-    if tally.differ == 0 {
-        return Tally {
-            records: records,
-            differ: 1,
-            first: tally.records,
-        };
-    }
-    Tally {
-        records: records,
-        differ: tally.differ + 1,
-        first: tally.first,
+impl Tally {
+    // One record more.
+    #[tactic(auto, unfolding(crate::specs::Replay::counted))]
+    fn counted(self, agreed: bool) -> Self
+        requires few { self.differ ≤ self.records }
+        requires room { self.records < 18446744073709551615 }
+        ensures { result ≡ counted self agreed }
+    {
+        let records = self.records + 1;
+        if agreed {
+            return Tally { records, ..self };
+        }
+        Tally {
+            records,
+            differ: self.differ + 1,
+            first: if self.differ == 0 {
+                self.records
+            } else {
+                self.first
+            },
+        }
     }
 }
 
 // `more`: whether the input goes on after the list's bytes.
-pub(crate) fn replay_list(list: &[u8], more: bool) -> Replayed
+pub(crate) fn replay_list(list: &[u8], more: bool) -> Result<Tally, BadRecord>
     ensures { result ≡ replayed more list.now }
 {
     if list.len() < 8 {
-        return Replayed::Bad(0);
+        return Err(BadRecord { at: 0 });
     }
     let records = u64_at(list, 0);
+    let mut rest = &list[8..];
     let mut tally = Tally {
         records: 0,
         differ: 0,
         first: 0,
     };
-    let mut at: usize = 8;
-    while tally.records < records {
-        let found = replay_record(&list[at..]);
-        match found {
-            Verdict::Broken => return Replayed::Bad(tally.records),
-            Verdict::Compared(agreed, length) => {
-                tally = count(tally, agreed);
-                at += length;
-            }
-        }
+    for at in 0..records {
+        let Some(compared) = replay_record(rest) else {
+            return Err(BadRecord { at });
+        };
+        tally = tally.counted(compared.agreed);
+        rest = &rest[compared.end..];
     }
     if more {
-        return Replayed::Bad(tally.records);
+        return Err(BadRecord { at: records });
     }
-    if at < list.len() {
-        return Replayed::Bad(tally.records);
+    if !rest.is_empty() {
+        return Err(BadRecord { at: records });
     }
-    Replayed::Whole(tally)
+    Ok(tally)
 }

@@ -10,14 +10,6 @@ fn main(rt: HostRuntime) -> io::Result<()> {
     let mut work = [0u8; 65536];
     let mut out = [0u8; 65536];
     let read = input::read_input(&mut rt.stdin(), &mut book);
-    let length = read.length;
-    let done = book::report_from(
-        &book[..length],
-        read.more,
-        Tally::zeros(),
-        &mut work,
-        &mut out,
-    );
-    let n = done.put;
-    rt.stdout().write_all(&out[..n])
+    let done = book::report_from(read.bytes, read.more, Tally::default(), &mut work, &mut out);
+    rt.stdout().write_all(&out[..done.put])
 }

@@ -7,14 +7,13 @@ use mathlib.Core.List.{List}
 use lib.ListN.{length}
 use lib.Dec.{ltb}
 use borrow.Author.Tests.{ltb-false}
-use Rattle.utf8.specs.declared.Place.{Place}
-use Rattle.utf8.specs.declared.Place.TheVariants.{Nowhere, At}
+use Rattle.std.specs.Prelude.{Option, Some, None}
 use Rattle.utf8.specs.Pieces.{first_ill_formed}
 use Rattle.tape.specs.declared.Head.{Head}
 use Rattle.tape.specs.declared.Fault.{Fault}
 use Rattle.tape.specs.declared.Fault.TheVariants.{IndentWidth, CaseByte, TextTooLong, TapeTooLong}
-use Rattle.tape.specs.declared.Checked.{Checked}
-use Rattle.tape.specs.declared.Checked.TheVariants.{Accepted, Refused}
+use Rattle.std.specs.Prelude.{Result, Ok, Err}
+use Rattle.tape.specs.declared.Refusal.{Refusal}
 use Rattle.tape.specs.Tree.{Children, Tree, height, EachToken, EachNode}
 use Rattle.tape.specs.Tape.{head_at, Command, ends, faulty, opens, is_token, closes, SpanTests, tests_of, Read, refused, got, and_then, by_root, by_end, command_at, checked_at, read_children, read_tape, read_tree, verdict}
 use Rattle.tape.specs.Call.{by_place, read_input, read_call, let_pass}
@@ -25,7 +24,7 @@ use Rattle.tape.proofs.Reading.{held}
 use Rattle.tape.proofs.SpanBounds.{token-in_text, node-in_text}
 use Rattle.tape.proofs.LengthAlone.{length-alone}
 
-no_tree : {f : Fault} {p : ℕ} → ◌≡◌ {A = Checked} (Refused f p) Accepted → ⊥
+no_tree : {f : Fault} {p : ℕ} → ◌≡◌ {A = Result (Unit {0}) Refusal} (Err (record { fault = f; at = p })) (Ok tt) → ⊥
 no_tree u = let z : ◌≡◌ {A = ℕ} 0 1 = cc in omega arith
 
 -- what an accepted tape is, and what 15 and 16 let pass in it
@@ -36,7 +35,7 @@ pub record AcceptedBy (tests : SpanTests) (tape : List ℕ) : Type 0 where
   pub tokens : EachToken (TokenPasses tests) accepted.tree.kids
   pub nodes : EachNode (λ h kids. NodePasses tests h) accepted.tree.kids
 
-pub accepted-tape : (tests : SpanTests) (tape : List ℕ) → verdict (read_tape tests tape) ≡ Accepted → AcceptedBy tests tape
+pub accepted-tape : (tests : SpanTests) (tape : List ℕ) → verdict (read_tape tests tape) ≡ Ok tt → AcceptedBy tests tape
 unfolding read_tape
 accepted-tape tests tape v = top (checked_at tests tape 0 0) refl v
   where
@@ -44,7 +43,7 @@ accepted-tape tests tape v = top (checked_at tests tape 0 0) refl v
     after h kids p = by_end (command_at tape p) (record { head = h; kids = kids }) p
 
     end : (kids : Children) (p : ℕ) → checked_at tests tape 0 0 ≡ opens → read_children tests tape (length tape) 1 11 ≡ got kids p
-        → (x : Command) → command_at tape p ≡ x → verdict (by_end x (record { head = head_at tape 0; kids = kids }) p) ≡ Accepted → AcceptedBy tests tape
+        → (x : Command) → command_at tape p ≡ x → verdict (by_end x (record { head = head_at tape 0; kids = kids }) p) ≡ Ok tt → AcceptedBy tests tape
     end kids p e r ends w u =
         let s = held tests tape (length tape) 1 11 kids p r in
         let k = known_of tests tape 0 0 e in
@@ -72,11 +71,11 @@ accepted-tape tests tape v = top (checked_at tests tape 0 0) refl v
     end kids p e r closes w u = absurd (no_tree u)
 
     mid : (r : Read Children) → checked_at tests tape 0 0 ≡ opens → read_children tests tape (length tape) 1 11 ≡ r
-        → verdict (and_then r (after (head_at tape 0))) ≡ Accepted → AcceptedBy tests tape
+        → verdict (and_then r (after (head_at tape 0))) ≡ Ok tt → AcceptedBy tests tape
     mid (refused f p) e w u = absurd (no_tree u)
     mid (got kids p) e w u = end kids p e w (command_at tape p) refl u
 
-    top : (x : Command) → checked_at tests tape 0 0 ≡ x → verdict (by_root tape x (λ h. and_then (read_children tests tape (length tape) 1 11) (after h))) ≡ Accepted
+    top : (x : Command) → checked_at tests tape 0 0 ≡ x → verdict (by_root tape x (λ h. and_then (read_children tests tape (length tape) 1 11) (after h))) ≡ Ok tt
         → AcceptedBy tests tape
     top ends e u = absurd (no_tree u)
     top (faulty f) e u = absurd (no_tree u)
@@ -84,22 +83,22 @@ accepted-tape tests tape v = top (checked_at tests tape 0 0) refl v
     top is_token e u = absurd (no_tree u)
     top closes e u = absurd (no_tree u)
 
-pub accepted-call : (width case : ℕ) (text tape : List ℕ) → verdict (read_call width case text tape) ≡ Accepted
+pub accepted-call : (width case : ℕ) (text tape : List ℕ) → verdict (read_call width case text tape) ≡ Ok tt
     → AcceptedCall width case text tape
 unfolding read_call read_input
 accepted-call width case text tape v =
     go (ltb 16 width) (ltb 1 case) (ltb 262144 (length text)) (first_ill_formed 0 text) (ltb 262144 (length tape)) refl refl refl refl refl v
   where
-    go : (w c t : Bool) (h : Place) (n : Bool)
+    go : (w c t : Bool) (h : Option ℕ) (n : Bool)
         → ltb 16 width ≡ w → ltb 1 case ≡ c → ltb 262144 (length text) ≡ t → first_ill_formed 0 text ≡ h → ltb 262144 (length tape) ≡ n
-        → verdict (cond w (refused IndentWidth 0) (cond c (refused CaseByte 0) (cond t (refused TextTooLong 0) (by_place h (cond n (refused TapeTooLong 0) (read_tape (tests_of text) tape)))))) ≡ Accepted
+        → verdict (cond w (refused IndentWidth 0) (cond c (refused CaseByte 0) (cond t (refused TextTooLong 0) (by_place h (cond n (refused TapeTooLong 0) (read_tape (tests_of text) tape)))))) ≡ Ok tt
         → AcceptedCall width case text tape
     go true c t h n e1 e2 e3 e4 e5 u = absurd (no_tree u)
     go false true t h n e1 e2 e3 e4 e5 u = absurd (no_tree u)
     go false false true h n e1 e2 e3 e4 e5 u = absurd (no_tree u)
-    go false false false (At p) n e1 e2 e3 e4 e5 u = absurd (no_tree u)
-    go false false false Nowhere true e1 e2 e3 e4 e5 u = absurd (no_tree u)
-    go false false false Nowhere false e1 e2 e3 e4 e5 u =
+    go false false false (Some p) n e1 e2 e3 e4 e5 u = absurd (no_tree u)
+    go false false false None true e1 e2 e3 e4 e5 u = absurd (no_tree u)
+    go false false false None false e1 e2 e3 e4 e5 u =
         let a = accepted-tape (tests_of text) tape u in
         record {
           width_fits = ltb-false 16 width e1;
@@ -125,17 +124,17 @@ same-reading width case a b tape e u v =
     go (ltb 16 width) (ltb 1 case) (ltb 262144 (length a)) (ltb 262144 (length b)) (ltb 262144 (length tape)) (first_ill_formed 0 a) (first_ill_formed 0 b)
     (ap (ltb 262144) e) u v
   where
-    if_read : Bool → Bool → Bool → Bool → Place → List ℕ → Read Tree
+    if_read : Bool → Bool → Bool → Bool → Option ℕ → List ℕ → Read Tree
     if_read w c t n x text =
         cond w (refused IndentWidth 0) (cond c (refused CaseByte 0) (cond t (refused TextTooLong 0) (by_place x (cond n (refused TapeTooLong 0) (read_tape (tests_of text) tape)))))
 
-    go : (w c s t n : Bool) (x y : Place) → s ≡ t → let_pass (if_read w c s n x a) ≡ true → let_pass (if_read w c t n y b) ≡ true → if_read w c s n x a ≡ if_read w c t n y b
+    go : (w c s t n : Bool) (x y : Option ℕ) → s ≡ t → let_pass (if_read w c s n x a) ≡ true → let_pass (if_read w c t n y b) ≡ true → if_read w c s n x a ≡ if_read w c t n y b
     go true c s t n x y k u v = refl
     go false true s t n x y k u v = refl
     go false false true true n x y k u v = refl
     go false false true false n x y k u v = absurd (true≢false k)
     go false false false true n x y k u v = absurd (false≢true k)
-    go false false false false n (At p) y k u v = absurd (false≢true u)
-    go false false false false n Nowhere (At q) k u v = absurd (false≢true v)
-    go false false false false true Nowhere Nowhere k u v = refl
-    go false false false false false Nowhere Nowhere k u v = length-alone (tests_of a) tape u ∙ ap (λ n. read_tree n tape) e ∙ sym (length-alone (tests_of b) tape v)
+    go false false false false n (Some p) y k u v = absurd (false≢true u)
+    go false false false false n None (Some q) k u v = absurd (false≢true v)
+    go false false false false true None None k u v = refl
+    go false false false false false None None k u v = length-alone (tests_of a) tape u ∙ ap (λ n. read_tree n tape) e ∙ sym (length-alone (tests_of b) tape v)

@@ -9,9 +9,9 @@ use lib.Dec.{leb, ltb, eqb}
 use borrow.Author.Tests.{ltb-true, ltb-false, leb-true, leb-false, eqb-true, eqb-false, lt-ltb, le-ltb, le-leb, lt-leb, ne_eqb}
 use Rattle.tape.specs.declared.Head.{Head}
 use Rattle.tape.specs.declared.Fault.TheVariants.{UnknownCommand, CutCommand, UnknownKind, KindNotCarried, SpanOutside, TooDeep, NotOneRoot, InsideCharacter, WordNotAscii}
-use Rattle.tape.specs.declared.Finding.TheVariants.{Sound, Faulty}
+use Rattle.std.specs.Prelude.{Err, is_ok}
 use Rattle.tape.specs.Kinds.{not_carried, BareWord}
-use Rattle.tape.specs.Tape.{head_at, Command, ends, faulty, opens, is_token, closes, SpanTests, length_alone, command_at, check_open, check_token, by_finding, sound, checked, checked_at}
+use Rattle.tape.specs.Tape.{head_at, Command, ends, faulty, opens, is_token, closes, SpanTests, length_alone, command_at, check_open, check_token, by_finding, checked, checked_at, no_fault}
 use Rattle.tape.specs.SpelledAt.{OpenAt, TokenAt, CloseAt}
 
 -- the command by its byte and by what is left of the tape
@@ -91,14 +91,14 @@ ltb_not m n = go (leb n m) refl
 
 -- the tests of an open and of a token in one, where only the length counts
 pub sound-open : (len depth : ℕ) (h : Head)
-    → ((leb h.kind 257 && not (not_carried h.kind)) && (ltb h.end h.start || leb h.end len) && ltb depth 64) ≡ sound (check_open (length_alone len) depth h)
+    → ((leb h.kind 257 && not (not_carried h.kind)) && (ltb h.end h.start || leb h.end len) && ltb depth 64) ≡ is_ok (check_open (length_alone len) depth h)
 unfolding check_open
 sound-open len depth h =
     rw (leb_not h.kind 257, ltb_not h.end h.start, leb_not h.end len, ltb_not depth 64)
     (go (ltb 257 h.kind) (not_carried h.kind) (leb h.start h.end) (ltb len h.end) (leb 64 depth))
   where
     go : (k n o s d : Bool) → ((not k && not n) && (not o || not s) && not d)
-        ≡ sound (cond k (Faulty UnknownKind) (cond n (Faulty KindNotCarried) (cond (o && s) (Faulty SpanOutside) (cond (o && false) (Faulty InsideCharacter) (cond d (Faulty TooDeep) Sound)))))
+        ≡ is_ok (cond k (Err UnknownKind) (cond n (Err KindNotCarried) (cond (o && s) (Err SpanOutside) (cond (o && false) (Err InsideCharacter) (cond d (Err TooDeep) no_fault)))))
     go true n o s d = refl
     go false true o s d = refl
     go false false true true d = refl
@@ -107,13 +107,13 @@ sound-open len depth h =
     go false false false s true = refl
     go false false false s false = refl
 
-pub sound-token : (len : ℕ) (h : Head) → ((leb h.kind 257 && leb h.start h.end) && leb h.end len) ≡ sound (check_token (length_alone len) h)
+pub sound-token : (len : ℕ) (h : Head) → ((leb h.kind 257 && leb h.start h.end) && leb h.end len) ≡ is_ok (check_token (length_alone len) h)
 unfolding check_token
 sound-token len h =
     rw (leb_not h.kind 257, leb_not h.start h.end, leb_not h.end len)
     (go (ltb 257 h.kind) (ltb h.end h.start) (ltb len h.end) (eqb h.kind BareWord))
   where
-    go : (k o s w : Bool) → ((not k && not o) && not s) ≡ sound (cond k (Faulty UnknownKind) (cond (o || s) (Faulty SpanOutside) (cond (w && false) (Faulty WordNotAscii) Sound)))
+    go : (k o s w : Bool) → ((not k && not o) && not s) ≡ is_ok (cond k (Err UnknownKind) (cond (o || s) (Err SpanOutside) (cond (w && false) (Err WordNotAscii) no_fault)))
     go true o s w = refl
     go false true s w = refl
     go false false true w = refl
@@ -139,7 +139,7 @@ no_span_passes tests h l = record { within = λ le. absurd (omega arith); at_bou
 
 -- once kind and span of an open pass, the depth decides
 pub open_rest : (tests : SpanTests) (depth : ℕ) (h : Head) → h.kind ≤ 257 → not_carried h.kind ≡ false → NodePasses tests h
-    → check_open tests depth h ≡ cond (leb 64 depth) (Faulty TooDeep) Sound
+    → check_open tests depth h ≡ cond (leb 64 depth) (Err TooDeep) no_fault
 unfolding check_open
 open_rest tests depth h k n passes = rw (le-ltb 257 h.kind k, n, outside (leb h.start h.end) refl, passes.at_bounds)
   where
@@ -171,7 +171,7 @@ module _ (tests : SpanTests) (tape : List ℕ) where
       go : (k n s i d : Bool)
           → ltb 257 h.kind ≡ k → not_carried h.kind ≡ n → leb h.start h.end && ltb tests.length h.end ≡ s → leb h.start h.end && tests.inside_character h ≡ i
           → leb 64 depth ≡ d
-          → Known depth p (by_finding (cond k (Faulty UnknownKind) (cond n (Faulty KindNotCarried) (cond s (Faulty SpanOutside) (cond i (Faulty InsideCharacter) (cond d (Faulty TooDeep) Sound))))) opens)
+          → Known depth p (by_finding (cond k (Err UnknownKind) (cond n (Err KindNotCarried) (cond s (Err SpanOutside) (cond i (Err InsideCharacter) (cond d (Err TooDeep) no_fault))))) opens)
       go true n s i d u v w x y = tt
       go false true s i d u v w x y = tt
       go false false true i d u v w x y = tt
@@ -189,7 +189,7 @@ module _ (tests : SpanTests) (tape : List ℕ) where
       h = head_at tape p
 
       go : (z k o s i w : Bool) → ltb 257 h.kind ≡ k → ltb h.end h.start ≡ o → ltb tests.length h.end ≡ s → tests.inside_character h ≡ i → eqb h.kind BareWord && tests.not_ascii h ≡ w
-          → Known depth p (cond z (faulty NotOneRoot) (by_finding (cond k (Faulty UnknownKind) (cond (o || s) (Faulty SpanOutside) (cond i (Faulty InsideCharacter) (cond w (Faulty WordNotAscii) Sound)))) is_token))
+          → Known depth p (cond z (faulty NotOneRoot) (by_finding (cond k (Err UnknownKind) (cond (o || s) (Err SpanOutside) (cond i (Err InsideCharacter) (cond w (Err WordNotAscii) no_fault)))) is_token))
       go true k o s i w t u v x y = tt
       go false true o s i w t u v x y = tt
       go false false true s i w t u v x y = tt
@@ -228,13 +228,13 @@ module _ (tests : SpanTests) (tape : List ℕ) where
   checked-of depth p e = ap (checked tests tape depth p) e
 
 -- where the tests of an open find nothing, fewer than 64 nodes are open
-pub open_low : (tests : SpanTests) (depth : ℕ) (h : Head) → check_open tests depth h ≡ Sound → depth < 64
+pub open_low : (tests : SpanTests) (depth : ℕ) (h : Head) → check_open tests depth h ≡ no_fault → depth < 64
 unfolding check_open
 open_low tests depth h e =
-    go (ltb 257 h.kind) (not_carried h.kind) (leb h.start h.end && ltb tests.length h.end) (leb h.start h.end && tests.inside_character h) (leb 64 depth) refl (ap sound e)
+    go (ltb 257 h.kind) (not_carried h.kind) (leb h.start h.end && ltb tests.length h.end) (leb h.start h.end && tests.inside_character h) (leb 64 depth) refl (ap is_ok e)
   where
     go : (k n s i d : Bool) → leb 64 depth ≡ d
-        → sound (cond k (Faulty UnknownKind) (cond n (Faulty KindNotCarried) (cond s (Faulty SpanOutside) (cond i (Faulty InsideCharacter) (cond d (Faulty TooDeep) Sound))))) ≡ true → depth < 64
+        → is_ok (cond k (Err UnknownKind) (cond n (Err KindNotCarried) (cond s (Err SpanOutside) (cond i (Err InsideCharacter) (cond d (Err TooDeep) no_fault))))) ≡ true → depth < 64
     go true n s i d w u = absurd (false≢true u)
     go false true s i d w u = absurd (false≢true u)
     go false false true i d w u = absurd (false≢true u)

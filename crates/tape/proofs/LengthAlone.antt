@@ -6,19 +6,19 @@ use mathlib.Core.List.{List}
 use lib.ListN.{length, get_or}
 use lib.Dec.{leb, ltb, eqb}
 use Rattle.tape.specs.declared.Head.{Head}
+use Rattle.tape.specs.declared.Fault.{Fault}
 use Rattle.tape.specs.declared.Fault.TheVariants.{UnknownCommand, CutCommand, UnknownKind, KindNotCarried, SpanOutside, TooDeep, NotOneRoot, InsideCharacter, WordNotAscii}
-use Rattle.tape.specs.declared.Finding.{Finding}
-use Rattle.tape.specs.declared.Finding.TheVariants.{Sound, Faulty}
+use Rattle.std.specs.Prelude.{Result, Ok, Err}
 use Rattle.tape.specs.Kinds.{not_carried, BareWord}
 use Rattle.tape.specs.Tree.{Children, Tree}
-use Rattle.tape.specs.Tape.{head_at, Command, ends, faulty, opens, is_token, closes, SpanTests, length_alone, Read, refused, got, and_then, by_root, by_end, by_finding, command_at, check_open, check_token, checked, checked_at, read_children, read_tape, read_tree}
+use Rattle.tape.specs.Tape.{head_at, Command, ends, faulty, opens, is_token, closes, SpanTests, length_alone, Read, refused, got, and_then, by_root, by_end, by_finding, command_at, check_open, check_token, checked, checked_at, read_children, read_tape, read_tree, no_fault}
 use Rattle.tape.specs.Call.{of_bytes, let_pass}
 use Rattle.tape.proofs.Reading.{step}
 
 -- a finding and a command that are no fault of the text's bytes
-abbrev finding_passes : Finding → Bool
-finding_passes Sound = true
-finding_passes (Faulty f) = not (of_bytes f)
+abbrev finding_passes : Result (Unit {0}) Fault → Bool
+finding_passes (Ok u) = true
+finding_passes (Err f) = not (of_bytes f)
 
 abbrev command_passes : Command → Bool
 command_passes ends = true
@@ -76,9 +76,9 @@ module _ (tests : SpanTests) where
       go (ltb 257 h.kind) (not_carried h.kind) (leb h.start h.end) (leb h.start h.end && ltb tests.length h.end) (tests.inside_character h) (leb 64 depth)
     where
       go : (k n o s i d : Bool)
-          → finding_passes (cond k (Faulty UnknownKind) (cond n (Faulty KindNotCarried) (cond s (Faulty SpanOutside) (cond (o && i) (Faulty InsideCharacter) (cond d (Faulty TooDeep) Sound))))) ≡ true
-          → cond k (Faulty UnknownKind) (cond n (Faulty KindNotCarried) (cond s (Faulty SpanOutside) (cond (o && i) (Faulty InsideCharacter) (cond d (Faulty TooDeep) Sound))))
-          ≡ cond k (Faulty UnknownKind) (cond n (Faulty KindNotCarried) (cond s (Faulty SpanOutside) (cond (o && false) (Faulty InsideCharacter) (cond d (Faulty TooDeep) Sound))))
+          → finding_passes (cond k (Err UnknownKind) (cond n (Err KindNotCarried) (cond s (Err SpanOutside) (cond (o && i) (Err InsideCharacter) (cond d (Err TooDeep) no_fault))))) ≡ true
+          → cond k (Err UnknownKind) (cond n (Err KindNotCarried) (cond s (Err SpanOutside) (cond (o && i) (Err InsideCharacter) (cond d (Err TooDeep) no_fault))))
+          ≡ cond k (Err UnknownKind) (cond n (Err KindNotCarried) (cond s (Err SpanOutside) (cond (o && false) (Err InsideCharacter) (cond d (Err TooDeep) no_fault))))
       go true n o s i d e = refl
       go false true o s i d e = refl
       go false false o true i d e = refl
@@ -91,9 +91,9 @@ module _ (tests : SpanTests) where
   token-alone h = go (ltb 257 h.kind) (ltb h.end h.start || ltb tests.length h.end) (tests.inside_character h) (eqb h.kind BareWord) (tests.not_ascii h)
     where
       go : (k s i w a : Bool)
-          → finding_passes (cond k (Faulty UnknownKind) (cond s (Faulty SpanOutside) (cond i (Faulty InsideCharacter) (cond (w && a) (Faulty WordNotAscii) Sound)))) ≡ true
-          → cond k (Faulty UnknownKind) (cond s (Faulty SpanOutside) (cond i (Faulty InsideCharacter) (cond (w && a) (Faulty WordNotAscii) Sound)))
-          ≡ cond k (Faulty UnknownKind) (cond s (Faulty SpanOutside) (cond (w && false) (Faulty WordNotAscii) Sound))
+          → finding_passes (cond k (Err UnknownKind) (cond s (Err SpanOutside) (cond i (Err InsideCharacter) (cond (w && a) (Err WordNotAscii) no_fault)))) ≡ true
+          → cond k (Err UnknownKind) (cond s (Err SpanOutside) (cond i (Err InsideCharacter) (cond (w && a) (Err WordNotAscii) no_fault)))
+          ≡ cond k (Err UnknownKind) (cond s (Err SpanOutside) (cond (w && false) (Err WordNotAscii) no_fault))
       go true s i w a e = refl
       go false true i w a e = refl
       go false false true w a e = absurd (false≢true e)
@@ -106,7 +106,7 @@ module _ (tests : SpanTests) where
   open_passes depth h = go (ltb 257 h.kind) (not_carried h.kind) (leb h.start h.end) (ltb tests.length h.end) (leb 64 depth)
     where
       go : (k n o s d : Bool)
-          → finding_passes (cond k (Faulty UnknownKind) (cond n (Faulty KindNotCarried) (cond (o && s) (Faulty SpanOutside) (cond (o && false) (Faulty InsideCharacter) (cond d (Faulty TooDeep) Sound))))) ≡ true
+          → finding_passes (cond k (Err UnknownKind) (cond n (Err KindNotCarried) (cond (o && s) (Err SpanOutside) (cond (o && false) (Err InsideCharacter) (cond d (Err TooDeep) no_fault))))) ≡ true
       go true n o s d = refl
       go false true o s d = refl
       go false false true true d = refl
@@ -119,7 +119,7 @@ module _ (tests : SpanTests) where
   unfolding check_token
   token-passes h = go (ltb 257 h.kind) (ltb h.end h.start || ltb tests.length h.end) (eqb h.kind BareWord)
     where
-      go : (k s w : Bool) → finding_passes (cond k (Faulty UnknownKind) (cond s (Faulty SpanOutside) (cond (w && false) (Faulty WordNotAscii) Sound))) ≡ true
+      go : (k s w : Bool) → finding_passes (cond k (Err UnknownKind) (cond s (Err SpanOutside) (cond (w && false) (Err WordNotAscii) no_fault))) ≡ true
       go true s w = refl
       go false true w = refl
       go false false true = refl
@@ -127,13 +127,13 @@ module _ (tests : SpanTests) where
 
   -- ── a command
 
-  by_finding_lem : (x y : Finding) (c : Command) → command_passes (by_finding x c) ≡ true → (finding_passes x ≡ true → x ≡ y) → by_finding x c ≡ by_finding y c
-  by_finding_lem Sound y c e h = ap (λ z. by_finding z c) (h refl)
-  by_finding_lem (Faulty f) y c e h = ap (λ z. by_finding z c) (h e)
+  by_finding_lem : (x y : Result (Unit {0}) Fault) (c : Command) → command_passes (by_finding x c) ≡ true → (finding_passes x ≡ true → x ≡ y) → by_finding x c ≡ by_finding y c
+  by_finding_lem (Ok u) y c e h = ap (λ z. by_finding z c) (h refl)
+  by_finding_lem (Err f) y c e h = ap (λ z. by_finding z c) (h e)
 
-  finding_passes_lem : (x : Finding) (c : Command) → finding_passes x ≡ true → command_passes c ≡ true → command_passes (by_finding x c) ≡ true
-  finding_passes_lem Sound c e h = h
-  finding_passes_lem (Faulty f) c e h = e
+  finding_passes_lem : (x : Result (Unit {0}) Fault) (c : Command) → finding_passes x ≡ true → command_passes c ≡ true → command_passes (by_finding x c) ≡ true
+  finding_passes_lem (Ok u) c e h = h
+  finding_passes_lem (Err f) c e h = e
 
   module _ (tape : List ℕ) where
     checked-alone : (depth p : ℕ) → command_passes (checked_at tests tape depth p) ≡ true → checked_at tests tape depth p ≡ checked_at alone tape depth p

@@ -14,7 +14,8 @@ use Rattle.tape.specs.Kinds.{Error, GroupByList, OrderByList}
 use Rattle.tape.specs.Tree.{Children, done, token, node, Tree, size, has_child, has_error_child, count_list_items, EachNode}
 use Rattle.tape.specs.Tape.{head_at}
 use Rattle.tape.specs.SpelledAt.{OpenAt, SpelledAt}
-use Rattle.tape.specs.NodeFacts.{notes_error, notes_several, notes_list, NodeFacts, NotedNode, Noted, opened, with_child}
+use Rattle.std.specs.Prelude.{Option, Some, None}
+use Rattle.tape.specs.NodeFacts.{notes_error, notes_several, notes_list, NodeFacts, NotedNode, Noted, opened, with_child, noted_open}
 use Rattle.tape.proofs.AddedBits.{with_bits}
 
 -- the byte f after all children
@@ -142,7 +143,7 @@ fill q (token h rest) fs = fill q rest fs
 fill q (node h kids rest) fs = fill q rest (fill (h.at / 11) kids (opened_at (h.at / 11) q h.kind fs))
 
 abbrev pub fill_tree : Tree → List ℕ → List ℕ
-fill_tree t fs = fill (t.head.at / 11) t.kids (opened_at (t.head.at / 11) 0 t.head.kind fs)
+fill_tree t fs = fill (t.head.at / 11) t.kids (set fs (t.head.at / 11) (opened t.head.kind))
 
 module _ (i q k : ℕ) (fs : List ℕ) where
   opened-length : length (opened_at i q k fs) ≡ length fs
@@ -156,6 +157,10 @@ module _ (i q k : ℕ) (fs : List ℕ) where
 
   opened-other : (j : ℕ) → (j ≡ i → ⊥) → (j ≡ q → ⊥) → get_or (opened_at i q k fs) j 0 ≡ get_or fs j 0
   opened-other j n m = simp get_or-set_other
+
+pub noted_open-length : (o : Option ℕ) (i k : ℕ) (fs : List ℕ) → length (noted_open o i k fs) ≡ length fs
+noted_open-length None i k fs = length-set fs i (opened k)
+noted_open-length (Some q) i k fs = opened-length i q k fs
 
 pub fill_length : (q : ℕ) (c : Children) (fs : List ℕ) → length (fill q c fs) ≡ length fs
 unfolding fill
@@ -229,8 +234,8 @@ module _ (len : ℕ) (tape : List ℕ) where
       let i = t.head.at / 11 in
       let k = t.head.kind in
       let at : t.head.at ≡ 0 = ap (λ x. x.at) o.head in
-      let same-open = opened-length i 0 k fs in
-      let f = filled 11 i t.kids (opened_at i 0 k fs) l (omega arith) (omega arith) in (
-        rw (f.parent ∙ ap (λ x. noted x t.kids) (opened-node i 0 k fs (omega arith))) (noted-facts k t.kids),
+      let same-open = length-set fs i (opened k) in
+      let f = filled 11 i t.kids (set fs i (opened k)) l (omega arith) (omega arith) in (
+        rw (f.parent ∙ ap (λ x. noted x t.kids) (get_or-set_same fs i (opened k) 0 (omega arith))) (noted-facts k t.kids),
         f.each (fill_tree t fs) (λ j u v. refl),
       )

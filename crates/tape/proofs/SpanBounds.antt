@@ -18,9 +18,9 @@ use Rattle.utf8.proofs.CharacterLength.{ascii-bytes}
 use Rattle.utf8.proofs.AsciiStart.{start-boundary, start-part}
 use Rattle.tape.specs.declared.Head.{Head}
 use Rattle.tape.specs.declared.Fault.TheVariants.{UnknownKind, KindNotCarried, SpanOutside, TooDeep, InsideCharacter, WordNotAscii}
-use Rattle.tape.specs.declared.Finding.TheVariants.{Sound, Faulty}
+use Rattle.std.specs.Prelude.{Err, is_ok}
 use Rattle.tape.specs.Kinds.{BareWord, not_carried}
-use Rattle.tape.specs.Tape.{tests_of, length_alone, check_open, check_token, sound, KnownText}
+use Rattle.tape.specs.Tape.{tests_of, length_alone, check_open, check_token, KnownText, no_fault}
 use Rattle.tape.specs.SpelledAt.{TokenInText, NodeInText}
 use Rattle.tape.proofs.KnownCommands.{NodePasses, TokenPasses}
 
@@ -69,14 +69,14 @@ module _ {text : List ℕ} {n : ℕ} (known : KnownText text n) where
       outside : (p : ℕ) → p ≤ n → inside p (pieces text) ≡ false
       outside p l = inside-trailing text known.well_formed p ∙ start-boundary text n known.start.within known.start.ascii known.well_formed p l
 
-  pub start-token : (h : Head) → sound (check_token (length_alone n) h) ≡ true → Sound ≡ check_token (tests_of text) h
+  pub start-token : (h : Head) → is_ok (check_token (length_alone n) h) ≡ true → no_fault ≡ check_token (tests_of text) h
   unfolding check_token
   start-token h e = go (ltb 257 h.kind) (ltb h.end h.start) (ltb n h.end) refl refl refl e
     where
       go : (k o s : Bool) → ltb 257 h.kind ≡ k → ltb h.end h.start ≡ o → ltb n h.end ≡ s
-          → sound (cond k (Faulty UnknownKind) (cond (o || s) (Faulty SpanOutside) (cond (eqb h.kind BareWord && false) (Faulty WordNotAscii) Sound))) ≡ true
-          → Sound ≡ cond k (Faulty UnknownKind) (cond (o || ltb (length text) h.end) (Faulty SpanOutside)
-          (cond ((tests_of text).inside_character h) (Faulty InsideCharacter) (cond (eqb h.kind BareWord && (tests_of text).not_ascii h) (Faulty WordNotAscii) Sound)))
+          → is_ok (cond k (Err UnknownKind) (cond (o || s) (Err SpanOutside) (cond (eqb h.kind BareWord && false) (Err WordNotAscii) no_fault))) ≡ true
+          → no_fault ≡ cond k (Err UnknownKind) (cond (o || ltb (length text) h.end) (Err SpanOutside)
+          (cond ((tests_of text).inside_character h) (Err InsideCharacter) (cond (eqb h.kind BareWord && (tests_of text).not_ascii h) (Err WordNotAscii) no_fault)))
       go true o s u v w x = absurd (false≢true x)
       go false true s u v w x = absurd (false≢true x)
       go false false true u v w x = absurd (false≢true x)
@@ -90,14 +90,14 @@ module _ {text : List ℕ} {n : ℕ} (known : KnownText text n) where
             and-false (eqb h.kind BareWord),
           )
 
-  pub start-open : (depth : ℕ) (h : Head) → sound (check_open (length_alone n) depth h) ≡ true → Sound ≡ check_open (tests_of text) depth h
+  pub start-open : (depth : ℕ) (h : Head) → is_ok (check_open (length_alone n) depth h) ≡ true → no_fault ≡ check_open (tests_of text) depth h
   unfolding check_open
   start-open depth h e = go (ltb 257 h.kind) (not_carried h.kind) (leb h.start h.end) (ltb n h.end) (leb 64 depth) refl refl e
     where
       go : (k m o s d : Bool) → leb h.start h.end ≡ o → ltb n h.end ≡ s
-          → sound (cond k (Faulty UnknownKind) (cond m (Faulty KindNotCarried) (cond (o && s) (Faulty SpanOutside) (cond (o && false) (Faulty InsideCharacter) (cond d (Faulty TooDeep) Sound))))) ≡ true
-          → Sound ≡ cond k (Faulty UnknownKind) (cond m (Faulty KindNotCarried) (cond (o && ltb (length text) h.end) (Faulty SpanOutside)
-          (cond (o && (tests_of text).inside_character h) (Faulty InsideCharacter) (cond d (Faulty TooDeep) Sound))))
+          → is_ok (cond k (Err UnknownKind) (cond m (Err KindNotCarried) (cond (o && s) (Err SpanOutside) (cond (o && false) (Err InsideCharacter) (cond d (Err TooDeep) no_fault))))) ≡ true
+          → no_fault ≡ cond k (Err UnknownKind) (cond m (Err KindNotCarried) (cond (o && ltb (length text) h.end) (Err SpanOutside)
+          (cond (o && (tests_of text).inside_character h) (Err InsideCharacter) (cond d (Err TooDeep) no_fault))))
       go true m o s d v w x = absurd (false≢true x)
       go false true o s d v w x = absurd (false≢true x)
       go false false true true d v w x = absurd (false≢true x)

@@ -1,8 +1,6 @@
 -- A whole call: refusals 1 to 5 in their order, then those of the tape; and which of them look at the text's bytes.
-use Rattle.std.specs.Prelude.{ℕ, Bool, true, cond, not, List, [], ◌∷◌, length, ltb}
+use Rattle.std.specs.Prelude.{ℕ, Bool, true, cond, not, List, [], ◌∷◌, length, ltb, Option, Some, None}
 use Rattle.basics.specs.Match.{among}
-use Rattle.utf8.specs.declared.Place.{Place}
-use Rattle.utf8.specs.declared.Place.TheVariants.{Nowhere, At}
 use Rattle.utf8.specs.Pieces.{first_ill_formed}
 use Rattle.tape.specs.declared.Fault.{Fault}
 use Rattle.tape.specs.declared.Fault.TheVariants.{IndentWidth, CaseByte, TextTooLong, IllFormed, TapeTooLong}
@@ -11,9 +9,9 @@ use Rattle.tape.specs.Tree.{Tree}
 use Rattle.tape.specs.Tape.{Read, refused, got, tests_of, read_tape}
 
 -- 4, or what comes after it
-abbrev pub by_place : Place → Read Tree → Read Tree
-by_place (At p) next = refused IllFormed p
-by_place Nowhere next = next
+abbrev pub by_place : Option ℕ → Read Tree → Read Tree
+by_place (Some p) next = refused IllFormed p
+by_place None next = next
 
 -- 3 to 12, 15 and 16: text and tape
 unfoldable pub read_input : List ℕ → List ℕ → Read Tree

@@ -3,6 +3,7 @@ pub mod Kinds
 pub mod Tree
 pub mod Faults
 pub mod Tape
+pub mod ReadCommands
 pub mod Call
 pub mod SpelledAt
 pub mod NodeFacts

@@ -1,6 +1,6 @@
 -- What the check notes of each node for those that walk the tape: a byte for each, at the place of its open divided by 11. Opens are at least
 -- 11 bytes apart, so no two nodes share one.
-use Rattle.std.specs.Prelude.{ℕ, ◌*◌, ◌/◌, ◌%◌, ◌≡◌, Bool, cond, ◌||◌, List, [], ◌∷◌, get_or, eqb}
+use Rattle.std.specs.Prelude.{ℕ, ◌*◌, ◌/◌, ◌%◌, ◌≡◌, Bool, cond, ◌||◌, List, [], ◌∷◌, get_or, set, eqb, Option, Some, None}
 use Rattle.std.specs.Int.Bits.{bit_and, bit_or}
 use Rattle.basics.specs.Match.{match}
 use Rattle.tape.specs.declared.Head.{Head}
@@ -54,3 +54,13 @@ child_bits k = match k ((Error, 3) ∷ (GroupByList, 10) ∷ (OrderByList, 18) �
 
 abbrev pub with_child : ℕ → ℕ → ℕ
 with_child f k = bit_or (bit_or f (child_bits k)) (bit_and f 2 * 2)
+
+-- the innermost of the open nodes, which are the first to the last from the inside out
+abbrev pub innermost : List ℕ → Option ℕ
+innermost [] = None
+innermost (i ∷ is) = Some i
+
+-- the facts where a node of the kind opens, whose byte is at i: its own byte, and one more child in that of the node around it, if there is one
+abbrev pub noted_open : Option ℕ → ℕ → ℕ → List ℕ → List ℕ
+noted_open None i k fs = set fs i (opened k)
+noted_open (Some q) i k fs = set (set fs q (with_child (get_or fs q 0) k)) i (opened k)

@@ -1,15 +1,12 @@
 -- The tape: what each command is, which refusal it meets, and the tree that a tape holds.
-use Rattle.std.specs.Prelude.{ℕ, zero, suc, ◌+◌, ◌*◌, ◌≤◌, ◌≡◌, Bool, true, false, cond, not, ◌&&◌, ◌||◌, List, length, take, get_or, leb, ltb, eqb}
+use Rattle.std.specs.Prelude.{ℕ, zero, suc, ◌+◌, ◌*◌, ◌≤◌, ◌≡◌, Bool, true, false, cond, not, ◌&&◌, ◌||◌, List, length, take, get_or, leb, ltb, eqb, Result, Ok, Err}
 use Rattle.basics.specs.Bytes.{token_text}
 use Rattle.utf8.specs.Table.{is_ascii}
 use Rattle.utf8.specs.Pieces.{pieces, WellFormed, inside}
 use Rattle.tape.specs.declared.Head.{Head}
 use Rattle.tape.specs.declared.Fault.{Fault}
 use Rattle.tape.specs.declared.Fault.TheVariants.{UnknownCommand, CutCommand, UnknownKind, KindNotCarried, SpanOutside, TooDeep, NotOneRoot, InsideCharacter, WordNotAscii}
-use Rattle.tape.specs.declared.Finding.{Finding}
-use Rattle.tape.specs.declared.Finding.TheVariants.{Sound, Faulty}
-use Rattle.tape.specs.declared.Checked.{Checked}
-use Rattle.tape.specs.declared.Checked.TheVariants.{Accepted, Refused}
+use Rattle.tape.specs.declared.Refusal.{Refusal}
 use Rattle.tape.specs.Kinds.{not_carried, BareWord, ErrorMaxQuerySizeExceeded}
 use Rattle.tape.specs.Tree.{Children, done, token, node, Tree}
 
@@ -63,27 +60,26 @@ tests_of text =
 abbrev pub length_alone : ℕ → SpanTests
 length_alone len = record { length = len; inside_character = λ h. false; not_ascii = λ h. false }
 
+-- what the tests find where there is no fault
+abbrev pub no_fault : Result (Unit {0}) Fault
+no_fault = Ok tt
+
 -- 8, 9, 10, 15 and 11 for the open of a node, with depth nodes open before it
-unfoldable pub check_open : SpanTests → ℕ → Head → Finding
+unfoldable pub check_open : SpanTests → ℕ → Head → Result (Unit {0}) Fault
 check_open tests depth h =
-    cond (ltb ErrorMaxQuerySizeExceeded h.kind) (Faulty UnknownKind)
-    (cond (not_carried h.kind) (Faulty KindNotCarried)
-    (cond (leb h.start h.end && ltb tests.length h.end) (Faulty SpanOutside)
-    (cond (leb h.start h.end && tests.inside_character h) (Faulty InsideCharacter)
-    (cond (leb 64 depth) (Faulty TooDeep) Sound))))
+    cond (ltb ErrorMaxQuerySizeExceeded h.kind) (Err UnknownKind)
+    (cond (not_carried h.kind) (Err KindNotCarried)
+    (cond (leb h.start h.end && ltb tests.length h.end) (Err SpanOutside)
+    (cond (leb h.start h.end && tests.inside_character h) (Err InsideCharacter)
+    (cond (leb 64 depth) (Err TooDeep) no_fault))))
 
 -- 8, 10, 15 and 16 for a token
-unfoldable pub check_token : SpanTests → Head → Finding
+unfoldable pub check_token : SpanTests → Head → Result (Unit {0}) Fault
 check_token tests h =
-    cond (ltb ErrorMaxQuerySizeExceeded h.kind) (Faulty UnknownKind)
-    (cond (ltb h.end h.start || ltb tests.length h.end) (Faulty SpanOutside)
-    (cond (tests.inside_character h) (Faulty InsideCharacter)
-    (cond (eqb h.kind BareWord && tests.not_ascii h) (Faulty WordNotAscii) Sound)))
-
--- the tests find no fault
-abbrev pub sound : Finding → Bool
-sound Sound = true
-sound (Faulty f) = false
+    cond (ltb ErrorMaxQuerySizeExceeded h.kind) (Err UnknownKind)
+    (cond (ltb h.end h.start || ltb tests.length h.end) (Err SpanOutside)
+    (cond (tests.inside_character h) (Err InsideCharacter)
+    (cond (eqb h.kind BareWord && tests.not_ascii h) (Err WordNotAscii) no_fault)))
 
 -- so many bytes at the text's start are ASCII
 pub record AsciiStart (text : List ℕ) (n : ℕ) : Type 0 where
@@ -128,9 +124,9 @@ by_end opens t p = refused NotOneRoot p
 by_end is_token t p = refused NotOneRoot p
 by_end closes t p = refused NotOneRoot p
 
-abbrev pub by_finding : Finding → Command → Command
-by_finding Sound x = x
-by_finding (Faulty f) x = faulty f
+abbrev pub by_finding : Result (Unit {0}) Fault → Command → Command
+by_finding (Ok u) x = x
+by_finding (Err f) x = faulty f
 
 module _ (tests : SpanTests) (tape : List ℕ) where
   -- after 6 and 7 comes 12, a token or a close with no node open, then the tests of the operands
@@ -164,6 +160,6 @@ unfoldable pub read_tree : ℕ → List ℕ → Read Tree
 read_tree len tape = read_tape (length_alone len) tape
 
 -- what a check answers of a reading
-abbrev pub verdict : Read Tree → Checked
-verdict (refused f p) = Refused f p
-verdict (got t p) = Accepted
+abbrev pub verdict : Read Tree → Result (Unit {0}) Refusal
+verdict (refused f p) = Err (record { fault = f; at = p })
+verdict (got t p) = Ok tt

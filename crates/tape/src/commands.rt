@@ -1,18 +1,34 @@
 // Reading one command of the tape, numbers low byte first. The readers ask for bytes within the tape: the check has tested it.
-ghost use Rattle.std.specs.Prelude.{◌≡◌, not, ◌&&◌, ◌+◌, ◌≤◌, length, eqb};
-ghost use Rattle.utf8.specs.Pieces.{WellFormed};
+ghost use Rattle.std.specs.Prelude.{◌≡◌, not, ◌&&◌, ◌+◌, ◌<◌, ◌≤◌, length, eqb, is_ok, MatchResult};
 ghost use Rattle.tape.specs.Kinds.{not_carried, BareWord};
-ghost use Rattle.tape.specs.Tape.{u16_at, u32_at, head_at, tests_of, length_alone, check_open, check_token, sound, KnownText};
+ghost use Rattle.tape.specs.Tape.{u16_at, u32_at, head_at, tests_of, length_alone, command_at, check_open, check_token, KnownText};
+ghost use Rattle.tape.specs.ReadCommands.{sort_of, ReadAt, cut_at, placed};
 
-use crate::{Fault, Finding, Head, syntax_kind};
+use crate::{Fault, Head, Refusal, syntax_kind};
 use utf8::{is_ascii, is_boundary};
+
+// A command as it is read: an open and a token with their operands.
+#[derive(Clone, Copy)]
+pub(crate) enum ReadCommand {
+    Open(Head),
+    Token(Head),
+    Close,
+}
+
+// A well-formed text, of which so many bytes at the start are known to be ASCII.
+#[derive(Clone, Copy)]
+pub(crate) struct WellFormedText<'a> {
+    pub(crate) text: &'a [u8],
+    pub(crate) ascii: usize,
+    ghost known: { KnownText text.now ascii },
+}
 
 // The number of two bytes at a place, for the tape and for what stores numbers in the same way.
 pub fn u16_at(bytes: &[u8], at: usize) -> u16
     requires { at + 2 ≤ length bytes.now }
     ensures { result ≡ u16_at bytes.now at }
 {
-    bytes[at] as u16 + 256 * (bytes[at + 1] as u16)
+    u16::from_le_bytes([bytes[at], bytes[at + 1]])
 }
 
 // The same of four bytes.
@@ -20,7 +36,7 @@ pub fn u32_at(bytes: &[u8], at: usize) -> u32
     requires { at + 4 ≤ length bytes.now }
     ensures { result ≡ u32_at bytes.now at }
 {
-    u16_at(bytes, at) as u32 + 65536 * (u16_at(bytes, at + 2) as u32)
+    u32::from_le_bytes([bytes[at], bytes[at + 1], bytes[at + 2], bytes[at + 3]])
 }
 
 // The operands of the open or the token at `at`, which must be whole.
@@ -33,6 +49,37 @@ pub fn head_at(tape: &[u8], at: usize) -> Head
         start: u32_at(tape, at + 3) as usize,
         end: u32_at(tape, at + 7) as usize,
         at: at,
+    }
+}
+
+// 7: the operands at `at`, where the command is whole.
+fn whole_head(tape: &[u8], at: usize) -> Result<Head, Refusal>
+    requires { at < length tape.now }
+    ensures { MatchResult result (λ h. (at + 11 ≤ length tape.now) × (h ≡ head_at tape.now at)) (λ r. (length tape.now < at + 11) × (r ≡ cut_at at)) }
+{
+    if tape.len() < at + 11 {
+        return Err(Refusal {
+            fault: Fault::CutCommand,
+            at,
+        });
+    }
+    Ok(head_at(tape, at))
+}
+
+// 6 and 7: the command at `at`.
+pub(crate) fn command_at(tape: &[u8], at: usize) -> Result<ReadCommand, Refusal>
+    requires { at < length tape.now }
+    ensures sort { command_at tape.now at ≡ sort_of result }
+    ensures place { ReadAt tape.now at result }
+{
+    match tape[at] {
+        1 => Ok(ReadCommand::Open(whole_head(tape, at)?)),
+        2 => Ok(ReadCommand::Token(whole_head(tape, at)?)),
+        3 => Ok(ReadCommand::Close),
+        _ => Err(Refusal {
+            fault: Fault::UnknownCommand,
+            at,
+        }),
     }
 }
 
@@ -63,7 +110,7 @@ fn not_carried(kind: u16) -> bool
 
 // 8 to 11 for the open of a node, with `depth` nodes open before it and a text of the length: whether nothing is found, in one test.
 fn sound_open(len: usize, depth: usize, h: Head) -> bool
-    ensures { result ≡ sound (check_open (length_alone len) depth h) }
+    ensures { result ≡ is_ok (check_open (length_alone len) depth h) }
 {
     let known = h.kind <= syntax_kind::ERROR_MAX_QUERY_SIZE_EXCEEDED;
     let within = (h.end < h.start) | (h.end <= len);
@@ -72,100 +119,99 @@ fn sound_open(len: usize, depth: usize, h: Head) -> bool
 
 // 8 and 10 for a token, in the same way.
 fn sound_token(len: usize, t: Head) -> bool
-    ensures { result ≡ sound (check_token (length_alone len) t) }
+    ensures { result ≡ is_ok (check_token (length_alone len) t) }
 {
     let known = t.kind <= syntax_kind::ERROR_MAX_QUERY_SIZE_EXCEEDED;
     known & (t.start <= t.end) & (t.end <= len)
 }
 
-// 15: whether a span of a well-formed text starts and ends inside no character. A look at two bytes tells.
-fn at_bounds(text: &[u8], h: Head) -> bool
-    requires { WellFormed text.now }
-    ensures { result ≡ not ((tests_of text.now).inside_character h) }
-{
-    is_boundary(text, h.start) & is_boundary(text, h.end)
-}
-
-// 16: whether a token is a BareWord with a byte above 127.
-fn word_not_ascii(text: &[u8], t: Head) -> bool
-    requires { (t.start ≤ t.end) × (t.end ≤ length text.now) }
-    ensures { result ≡ (eqb t.kind BareWord && (tests_of text.now).not_ascii t) }
-{
-    if t.kind == syntax_kind::BARE_WORD {
-        let start = t.start;
-        let end = t.end;
-        return !is_ascii(&text[start..end]);
-    }
-    false
-}
-
-// 8, 9, 10, 15 and 11 for the open of a node, one after the other.
-fn open_finding(text: &[u8], depth: usize, h: Head) -> Finding
-    requires { WellFormed text.now }
-    ensures { result ≡ check_open (tests_of text.now) depth h }
-{
-    if syntax_kind::ERROR_MAX_QUERY_SIZE_EXCEEDED < h.kind {
-        return Finding::Faulty(Fault::UnknownKind);
-    }
-    if not_carried(h.kind) {
-        return Finding::Faulty(Fault::KindNotCarried);
-    }
-    if h.start <= h.end {
-        if text.len() < h.end {
-            return Finding::Faulty(Fault::SpanOutside);
+impl WellFormedText<'_> {
+    // What the tests of an open find. In a span that ends among the ASCII bytes at the text's start neither 15 nor 16 is found, so that one test is
+    // enough.
+    pub(crate) fn check_open(self, depth: usize, h: Head) -> Result<(), Refusal>
+        ensures { result ≡ placed h.at (check_open (tests_of self.entry.text.now) depth h) }
+    {
+        if sound_open(self.ascii, depth, h) {
+            return Ok(());
         }
-        if !at_bounds(text, h) {
-            return Finding::Faulty(Fault::InsideCharacter);
+        self.open_finding(depth, h)
+            .map_err(|fault| Refusal { fault, at: h.at })
+    }
+
+    // The same of a token.
+    pub(crate) fn check_token(self, t: Head) -> Result<(), Refusal>
+        ensures { result ≡ placed t.at (check_token (tests_of self.entry.text.now) t) }
+    {
+        if sound_token(self.ascii, t) {
+            return Ok(());
         }
+        self.token_finding(t)
+            .map_err(|fault| Refusal { fault, at: t.at })
     }
-    if depth < 64 {
-        return Finding::Sound;
-    }
-    Finding::Faulty(Fault::TooDeep)
-}
 
-// 8, 10, 15 and 16 for a token, in the same way.
-fn token_finding(text: &[u8], t: Head) -> Finding
-    requires { WellFormed text.now }
-    ensures { result ≡ check_token (tests_of text.now) t }
-{
-    if syntax_kind::ERROR_MAX_QUERY_SIZE_EXCEEDED < t.kind {
-        return Finding::Faulty(Fault::UnknownKind);
+    // 8, 9, 10, 15 and 11 for the open of a node, one after the other.
+    fn open_finding(self, depth: usize, h: Head) -> Result<(), Fault>
+        ensures { result ≡ check_open (tests_of self.entry.text.now) depth h }
+    {
+        if syntax_kind::ERROR_MAX_QUERY_SIZE_EXCEEDED < h.kind {
+            return Err(Fault::UnknownKind);
+        }
+        if not_carried(h.kind) {
+            return Err(Fault::KindNotCarried);
+        }
+        if h.start <= h.end {
+            if self.text.len() < h.end {
+                return Err(Fault::SpanOutside);
+            }
+            if !self.at_bounds(h) {
+                return Err(Fault::InsideCharacter);
+            }
+        }
+        if depth < 64 {
+            return Ok(());
+        }
+        Err(Fault::TooDeep)
     }
-    if t.end < t.start {
-        return Finding::Faulty(Fault::SpanOutside);
-    }
-    if text.len() < t.end {
-        return Finding::Faulty(Fault::SpanOutside);
-    }
-    if !at_bounds(text, t) {
-        return Finding::Faulty(Fault::InsideCharacter);
-    }
-    if word_not_ascii(text, t) {
-        return Finding::Faulty(Fault::WordNotAscii);
-    }
-    Finding::Sound
-}
 
-// What the tests of an open find. `ascii`: so many bytes at the text's start are ASCII. In a span that ends there neither 15 nor 16 is found, so that
-// one test is enough.
-pub(crate) fn check_open(text: &[u8], ascii: usize, depth: usize, h: Head) -> Finding
-    requires { KnownText text.now ascii }
-    ensures { result ≡ check_open (tests_of text.now) depth h }
-{
-    if sound_open(ascii, depth, h) {
-        return Finding::Sound;
+    // 8, 10, 15 and 16 for a token, in the same way.
+    fn token_finding(self, t: Head) -> Result<(), Fault>
+        ensures { result ≡ check_token (tests_of self.entry.text.now) t }
+    {
+        if syntax_kind::ERROR_MAX_QUERY_SIZE_EXCEEDED < t.kind {
+            return Err(Fault::UnknownKind);
+        }
+        if t.end < t.start {
+            return Err(Fault::SpanOutside);
+        }
+        if self.text.len() < t.end {
+            return Err(Fault::SpanOutside);
+        }
+        if !self.at_bounds(t) {
+            return Err(Fault::InsideCharacter);
+        }
+        if self.word_not_ascii(t) {
+            return Err(Fault::WordNotAscii);
+        }
+        Ok(())
     }
-    open_finding(text, depth, h)
-}
 
-// The same of a token.
-pub(crate) fn check_token(text: &[u8], ascii: usize, t: Head) -> Finding
-    requires { KnownText text.now ascii }
-    ensures { result ≡ check_token (tests_of text.now) t }
-{
-    if sound_token(ascii, t) {
-        return Finding::Sound;
+    // 15: whether a span starts and ends inside no character. A look at two bytes tells.
+    fn at_bounds(self, h: Head) -> bool
+        ensures { result ≡ not ((tests_of self.entry.text.now).inside_character h) }
+    {
+        is_boundary(self.text, h.start) & is_boundary(self.text, h.end)
     }
-    token_finding(text, t)
+
+    // 16: whether a token is a BareWord with a byte above 127.
+    fn word_not_ascii(self, t: Head) -> bool
+        requires { (t.start ≤ t.end) × (t.end ≤ length self.text.now) }
+        ensures { result ≡ (eqb t.kind BareWord && (tests_of self.entry.text.now).not_ascii t) }
+    {
+        if t.kind == syntax_kind::BARE_WORD {
+            let start = t.start;
+            let end = t.end;
+            return !is_ascii(&self.text[start..end]);
+        }
+        false
+    }
 }

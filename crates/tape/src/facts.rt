@@ -1,11 +1,11 @@
 // What the check notes of each node for the walk, so that the walk never looks ahead: a byte for each node, at the place of its open divided by 11.
-ghost use Rattle.std.specs.Prelude.{◌≡◌, ◌*◌, ◌<◌, length};
-ghost use Rattle.tape.specs.NodeFacts.{child_bits, facts_at, notes_error, notes_list, notes_several, opened, with_child};
+ghost use Rattle.std.specs.Prelude.{◌≡◌, ◌*◌, ◌<◌, length, IfSome};
+ghost use Rattle.tape.specs.NodeFacts.{child_bits, facts_at, notes_error, notes_list, notes_several, noted_open, opened, with_child};
 
 use crate::syntax_kind;
 
 // The byte of a node of the kind before its children.
-pub(crate) fn opened(kind: u16) -> u8
+fn opened(kind: u16) -> u8
     ensures { result ≡ opened kind }
 {
     if kind == syntax_kind::ERROR { 1 } else { 0 }
@@ -24,13 +24,26 @@ fn child_bits(kind: u16) -> u8
 }
 
 // The byte after one more child of the kind.
-pub(crate) fn with_child(f: u8, kind: u16) -> u8
+fn with_child(f: u8, kind: u16) -> u8
     ensures { result ≡ with_child f kind }
 {
     f | child_bits(kind) | ((f & 2) * 2)
 }
 
-// Whether the node that opens at `at` is an Error node or has one as child.
+// What is noted where a node of the kind opens, whose byte is at `here`: its own byte, and one more child in that of the node around it, if there is one.
+pub(crate) fn note_open(facts: &mut [u8], around: Option<u16>, here: usize, kind: u16)
+    requires { (here < length facts.old) × IfSome around (λ q. q < length facts.old) }
+    ensures { facts.new ≡ noted_open around here kind facts.old }
+{
+    if let Some(parent) = around {
+        let parent = usize::from(parent);
+        facts[parent] = with_child(facts[parent], kind);
+    }
+    facts[here] = opened(kind);
+}
+
+// Whether the node that opens at `at` is an Error node or has one as child. A walk holds `facts` and goes from place to place, so that a struct of both would
+// be made for one question each time.
 pub fn has_error(facts: &[u8], at: usize) -> bool
     requires { at < 11 * length facts.now }
     ensures { result ≡ notes_error (facts_at facts.now at) }

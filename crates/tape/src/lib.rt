@@ -23,35 +23,28 @@ pub struct Passed {
     pub tokens: usize,
 }
 
-// What a refusal is for: 1 to 12 in this order, then 15 and 16.
-#[derive(Clone, Copy)]
+// What a refusal is for, by the number that the caller is told: 1 to 12 in this order, then 15 and 16; 13 and 14 are of the calls above.
+#[derive(Clone, Copy, Debug, PartialEq, Eq)]
 pub enum Fault {
-    IndentWidth,
-    CaseByte,
-    TextTooLong,
-    IllFormed,
-    TapeTooLong,
-    UnknownCommand,
-    CutCommand,
-    UnknownKind,
-    KindNotCarried,
-    SpanOutside,
-    TooDeep,
-    NotOneRoot,
-    InsideCharacter,
-    WordNotAscii,
+    IndentWidth = 1,
+    CaseByte = 2,
+    TextTooLong = 3,
+    IllFormed = 4,
+    TapeTooLong = 5,
+    UnknownCommand = 6,
+    CutCommand = 7,
+    UnknownKind = 8,
+    KindNotCarried = 9,
+    SpanOutside = 10,
+    TooDeep = 11,
+    NotOneRoot = 12,
+    InsideCharacter = 15,
+    WordNotAscii = 16,
 }
 
-// What the tests of a command's operands find.
-#[derive(Clone, Copy)]
-pub enum Finding {
-    Sound,
-    Faulty(Fault),
-}
-
-// The answer of a check: accepted; or the fault and its place.
-#[derive(Clone, Copy)]
-pub enum Checked {
-    Accepted,
-    Refused(Fault, usize),
+// Why a call is refused, and the place.
+#[derive(Clone, Copy, Debug, PartialEq, Eq)]
+pub struct Refusal {
+    pub fault: Fault,
+    pub at: usize,
 }

@@ -3,7 +3,8 @@ ghost use Rattle.tape.specs.SpelledAt.{NodeAt, Skipped};
 
 use crate::Passed;
 
-// The place after the close of the node that opens at `at`, and how many tokens are below the node.
+// The place after the close of the node that opens at `at`, and how many tokens are below the node. By places, and not over commands as they are read
+// elsewhere: what lies here is known, so that no operand and no refusal is needed. Tokens have a loop of their own, or each step would wait for a byte.
 pub fn skip(tape: &[u8], at: usize) -> Passed
     requires { NodeAt tape.now at }
     ensures { Skipped tape.now at result }

@@ -3,15 +3,19 @@ use Prim.Native.Nat.{ℕ, zero, suc, ◌+◌, ◌-◌, ◌≤◌, ◌<◌}
 use native.Mathlib.Omega.{arith}
 use native.Mathlib.Numerals.{add-one, unary_clauses}
 use mathlib.Core.Path.{◌≡◌, refl, sym, ap, ◌∙◌, subst}
-use mathlib.Core.Bool.{Bool, true, false, ◌||◌, false≢true}
+use mathlib.Core.Bool.{Bool, true, false}
 use mathlib.Core.List.{List, [], ◌∷◌, ◌++◌}
-use lib.ListN.{length, get_or, set, take, drop}
+use lib.ListN.{length, get_or, set, take, drop, length-drop}
 use lib.Seq.{take-suc, take_all, length-take-le}
 use lib.Dec.{eqb}
-use borrow.Author.Tests.{eqb-true, eqb-false}
+use borrow.Author.Tests.{ne_eqb, le-ltb}
+use Rattle.std.proofs.Common.{min, inl, inr}
+use Rattle.std.proofs.lemmas.Bool.{cases_lt}
 use Rattle.layout.specs.Lines.{Spot, first_spot, turned, spot_after, spot_at}
 use Rattle.layout.specs.TokenMap.{entry}
-use Rattle.token_map.specs.Spots.{spots, LineOf}
+use Rattle.token_map.specs.Spots.{spots, EndsAt, LineOf}
+use Rattle.std.proofs.lemmas.List.{get_or-drop}
+use Rattle.std.specs.List.{AllWithin, HoldsAt}
 use Rattle.token_map.specs.declared.Line.{Line}
 
 -- ── bytes
@@ -49,17 +53,43 @@ spot_few bs n h = omega (arith, after-few (take n bs) first_spot, length-take-le
 
 -- ── lines
 
--- a byte more that is no newline
-module _ (bs : List ℕ) (from i : ℕ) where
-  pub none-next : ((j : ℕ) → from ≤ j → j < i → eqb (get_or bs j 0) 10 ≡ false) → eqb (get_or bs i 0) 10 ≡ false
-      → (j : ℕ) → from ≤ j → j < i + 1 → eqb (get_or bs j 0) 10 ≡ false
-  none-next before here j h k = go (eqb j i) refl
-    where
-      go : (t : Bool) → eqb j i ≡ t → eqb (get_or bs j 0) 10 ≡ false
-      go true e = rw (eqb-true j i e) here
-      go false e =
-          let other = eqb-false j i e in
-          before j h (omega arith)
+-- where a search over the bytes from an offset on ends
+module _ (bs : List ℕ) (from : ℕ) (within : from ≤ length bs) where
+  abbrev pub rest : List ℕ
+  rest = take (length bs - from) (drop from bs)
+
+  rest-drop : rest ≡ drop from bs
+  rest-drop = take_all (length bs - from) (drop from bs) (omega (arith, length-drop from bs))
+
+  rest-length : length rest ≡ length bs - from
+  rest-length = ap length rest-drop ∙ length-drop from bs
+
+  rest-at : (j : ℕ) → from ≤ j → get_or rest (j - from) 0 ≡ get_or bs j 0
+  rest-at j h =
+      let e : from + (j - from) ≡ j = omega arith in
+      rw rest-drop (get_or-drop from bs (j - from) 0 ∙ ap (λ i. get_or bs i 0) e)
+
+  none-before : (n : ℕ) → AllWithin (λ b. eqb b 10 ≡ false) rest 0 n → (j : ℕ) → from ≤ j → j < from + n → eqb (get_or bs j 0) 10 ≡ false
+  none-before n none j h k = rw (← rest-at j h) (none (j - from) 0 (omega arith) (omega arith))
+
+  pub ends-found : (n : ℕ) → n < length rest → HoldsAt (λ b. eqb b 10 ≡ true) rest n → AllWithin (λ b. eqb b 10 ≡ false) rest 0 n → EndsAt bs from (from + n)
+  ends-found n inside here none =
+      let e : from + n - from ≡ n = omega arith in
+      record {
+        ordered = omega arith;
+        within = omega (arith, rest-length);
+        none = none-before n none;
+        newline = λ _. rw (← rest-at (from + n) (omega arith), e) (here 0);
+      }
+
+  pub ends-last : AllWithin (λ b. eqb b 10 ≡ false) rest 0 (length rest) → EndsAt bs from (length bs)
+  ends-last none =
+      record {
+        ordered = within;
+        within = omega arith;
+        none = λ j h k. none-before (length rest) none j h (omega (arith, rest-length));
+        newline = λ h. absurd (omega arith);
+      }
 
 module _ {bs : List ℕ} {l : Line} (line : LineOf bs l) where
   -- n bytes on in the line
@@ -83,6 +113,14 @@ module _ {bs : List ℕ} {l : Line} (line : LineOf bs l) where
 
   pub line-few : l.number ≤ l.start + 1
   line-few = subst (λ (p : Spot). p.line ≤ l.start + 1) line.agrees (spot_few bs l.start (omega (arith, line.ends.ordered, line.ends.within)))
+
+-- the entry of a place from 1 to k, by the line that its offset is in; one past the bytes has the line and column of their end
+pub entry-in : {bs : List ℕ} {l : Line} (k place at : ℕ) → LineOf bs l → (place ≡ 0 → ⊥) → place ≤ k → at ≡ min (place - 1) (length bs)
+    → l.start ≤ at → at ≤ l.end → entry k bs place ≡ record { line = l.number; column = at - l.start + 1 }
+entry-in {bs} {l} k place at line some few e h j = rw (ne_eqb place 0 some, le-ltb k place few) (here ∙ spot_in line at h j)
+  where
+    here : spot_at bs (place - 1) ≡ spot_at bs at
+    here = elim (cases_lt (length bs) (place - 1)) as (λ _. spot_at bs (place - 1) ≡ spot_at bs at) [ inl x ↦ spot_past bs (place - 1) at (omega arith) (omega arith) | inr x ↦ ap (spot_at bs) (omega arith) ]
 
 -- ── the pairs of the map
 
@@ -108,8 +146,3 @@ module _ (k : ℕ) (bs : List ℕ) where
   spots-more m i x y h e f =
       let two : i + 2 ≡ suc (suc i) = omega arith in
       rw (two, add-one i) (spots-step m i x y (omega arith) e f)
-
--- the first of two tests that failed
-pub first-none : (a b : Bool) → a || b ≡ false → a ≡ false
-first-none false b e = refl
-first-none true b e = absurd (false≢true (sym e))

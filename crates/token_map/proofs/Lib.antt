@@ -1,5 +1,4 @@
 -- The laws that the functions' proofs and the crates above cite.
-pub mod SignKinds
 pub mod Noting
 pub mod Counting
 pub mod NotedSpots

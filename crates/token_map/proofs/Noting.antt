@@ -52,18 +52,11 @@ unfolding note_all
 note_all-none [] m e = refl
 note_all-none (p ∷ ps) m e = rw (← noted-none p m e) (note_all-none ps m e)
 
--- one token without a place, of several
-pub note_all-less : (n : ℕ) (m : List ℕ) → 0 < n → note_all (replicate (n - 1) 0) (noted 0 m) ≡ note_all (replicate n 0) m
+-- one token without a place more
+pub note_all-more : (n : ℕ) (m : List ℕ) → noted 0 (note_all (replicate n 0) m) ≡ note_all (replicate (suc n) 0) m
 unfolding note_all
-note_all-less zero m h = absurd (omega arith)
-note_all-less (suc n) m h =
-    let less : suc n - 1 ≡ n = omega arith in
-    ap (λ x. note_all (replicate x 0) (noted 0 m)) less
-
-pub note_all-zero : (n : ℕ) (m : List ℕ) → n ≤ 0 → m ≡ note_all (replicate n 0) m
-unfolding note_all
-note_all-zero zero m h = refl
-note_all-zero (suc n) m h = absurd (omega arith)
+note_all-more zero m = refl
+note_all-more (suc n) m = note_all-more n (noted 0 m)
 
 -- ── what stands where
 

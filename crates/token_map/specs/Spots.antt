@@ -3,7 +3,6 @@ use Rattle.std.specs.Prelude.{ℕ, ◌≤◌, ◌<◌, ◌≡◌, true, false, L
 use Rattle.layout.specs.Lines.{spot_at}
 use Rattle.layout.specs.TokenMap.{entry}
 use Rattle.token_map.specs.declared.Line.{Line}
-use Rattle.token_map.specs.declared.Entry.{Entry}
 
 -- the first number of each pair is a place; the pair becomes its line and column in bs, of which trimming leaves k
 unfoldable pub spots : ℕ → List ℕ → List ℕ → List ℕ
@@ -22,9 +21,3 @@ pub record EndsAt (bs : List ℕ) (from end : ℕ) : Type 0 where
 pub record LineOf (bs : List ℕ) (l : Line) : Type 0 where
   pub agrees : spot_at bs l.start ≡ record { line = l.number; column = 1 }
   pub ends : EndsAt bs l.start l.end
-
--- the entry of a place, and a line to go on from
-pub record Entered (k : ℕ) (bs : List ℕ) (place : ℕ) (e : Entry) : Type 0 where
-  pub from : LineOf bs e.from
-  pub line : e.line ≡ (entry k bs place).line
-  pub column : e.column ≡ (entry k bs place).column

@@ -2,11 +2,13 @@
 // no numbers.
 #![tactic(auto)]
 
-ghost use Rattle.std.specs.Prelude.{◌≡◌, cond, ◌+◌, ◌-◌, ◌≤◌, ◌<◌, ◌^◌, length, replicate, take};
-ghost use Rattle.token_map.specs.Signs.{place_as, place_by, written_as};
+ghost use Rattle.std.specs.Prelude.{◌≡◌, cond, ◌+◌, ◌-◌, ◌≤◌, ◌<◌, ◌^◌, ◌||◌, eqb, length, replicate, take};
+ghost use Rattle.basics.specs.Match.{among};
+ghost use Rattle.tape.specs.Kinds;
+ghost use Rattle.token_map.specs.Signs.{dropped_kinds, place_as, place_by, sign_kinds, written_as};
 ghost use Rattle.token_map.specs.Notes.{note_all, noted};
-ghost use Rattle.layout.specs.Lines.{spot_at};
-ghost use Rattle.token_map.specs.Spots.{EndsAt, LineOf, Entered, spots};
+ghost use Rattle.layout.specs.TokenMap.{entry};
+ghost use Rattle.token_map.specs.Spots.{EndsAt, LineOf, spots};
 
 use context::{Position, token_text};
 use tape::{Head, syntax_kind};
@@ -42,52 +44,67 @@ pub struct Line {
     pub end: usize,
 }
 
-// Line and column in the map, 0 and 0 for none, and the line to go on from.
-#[derive(Clone, Copy)]
-pub struct Entry {
-    pub line: u64,
-    pub column: u64,
-    pub from: Line,
+// A search for lines of `out`, and the line where it stands.
+#[derive(Drop)]
+struct Lines<'a> {
+    out: &'a [u8],
+    line: Line,
+    ghost is_line: { LineOf out.now line },
 }
 
-fn sign_if(is_sign: bool) -> Written
-    ensures { result ≡ cond is_sign Written.Sign Written.Text }
+// Whether a fixed sign is written for a kind.
+fn is_sign(signs: Signs, kind: u16) -> bool
+    ensures { result ≡ among kind (sign_kinds signs) }
 {
-    if is_sign {
-        return Written::Sign;
+    match signs {
+        Signs::Nothing | Signs::NoSemicolon => false,
+        Signs::Semicolon => kind == syntax_kind::SEMICOLON,
+        Signs::Comma => kind == syntax_kind::COMMA,
+        Signs::Minus => kind == syntax_kind::MINUS,
+        Signs::RoundBrackets => matches!(
+            kind,
+            syntax_kind::OPENING_ROUND_BRACKET | syntax_kind::CLOSING_ROUND_BRACKET
+        ),
+        Signs::CommaRoundBrackets => matches!(
+            kind,
+            syntax_kind::COMMA
+                | syntax_kind::OPENING_ROUND_BRACKET
+                | syntax_kind::CLOSING_ROUND_BRACKET
+        ),
+        Signs::CommaSquareBrackets => matches!(
+            kind,
+            syntax_kind::COMMA
+                | syntax_kind::OPENING_SQUARE_BRACKET
+                | syntax_kind::CLOSING_SQUARE_BRACKET
+        ),
+        Signs::CommaColonCurlyBraces => matches!(
+            kind,
+            syntax_kind::COMMA
+                | syntax_kind::COLON
+                | syntax_kind::OPENING_CURLY_BRACE
+                | syntax_kind::CLOSING_CURLY_BRACE
+        ),
     }
-    Written::Text
 }
 
+// Whether nothing is written for a kind.
+fn is_dropped(signs: Signs, kind: u16) -> bool
+    ensures { result ≡ (eqb kind Kinds.Whitespace || among kind (dropped_kinds signs)) }
+{
+    kind == syntax_kind::WHITESPACE
+        || kind == syntax_kind::SEMICOLON && matches!(signs, Signs::NoSemicolon)
+}
+
+#[tactic(auto, unfolding(crate::specs::Signs::written_as))]
 fn written_as(signs: Signs, kind: u16) -> Written
     ensures { result ≡ written_as signs kind }
 {
-    if kind == syntax_kind::WHITESPACE {
-        return Written::Nothing;
-    }
-    let round = (kind == syntax_kind::OPENING_ROUND_BRACKET)
-        | (kind == syntax_kind::CLOSING_ROUND_BRACKET);
-    let square = (kind == syntax_kind::OPENING_SQUARE_BRACKET)
-        | (kind == syntax_kind::CLOSING_SQUARE_BRACKET);
-    let curly = (kind == syntax_kind::OPENING_CURLY_BRACE)
-        | (kind == syntax_kind::CLOSING_CURLY_BRACE);
-    match signs {
-        Signs::Nothing => Written::Text,
-        Signs::Semicolon => sign_if(kind == syntax_kind::SEMICOLON),
-        Signs::NoSemicolon => {
-            if kind == syntax_kind::SEMICOLON {
-                return Written::Nothing;
-            }
-            Written::Text
-        }
-        Signs::Comma => sign_if(kind == syntax_kind::COMMA),
-        Signs::Minus => sign_if(kind == syntax_kind::MINUS),
-        Signs::RoundBrackets => sign_if(round),
-        Signs::CommaRoundBrackets => sign_if((kind == syntax_kind::COMMA) | round),
-        Signs::CommaSquareBrackets => sign_if((kind == syntax_kind::COMMA) | square),
-        Signs::CommaColonCurlyBraces => {
-            sign_if((kind == syntax_kind::COMMA) | (kind == syntax_kind::COLON) | curly)
-        }
+    if is_dropped(signs, kind) {
+        Written::Nothing
+    } else if is_sign(signs, kind) {
+        Written::Sign
+    } else {
+        Written::Text
     }
 }
 
@@ -96,13 +113,11 @@ fn place_before(end: usize, n: usize) -> usize
     requires { 0 < n }
     ensures { result ≡ end - n + 1 }
 {
-    if end < n {
-        return 1;
-    }
-    end - n + 1
+    end.saturating_sub(n) + 1
 }
 
 // The place of a text that was written last. A text of white space does not show in what trimming leaves.
+#[tactic(auto, unfolding(crate::specs::Signs::place_as))]
 fn place_of_text(text: &[u8], p: Position) -> usize
     requires { 0 < length text.now }
     ensures { result ≡ place_as Written.Text text.now p }
@@ -115,24 +130,22 @@ fn place_of_text(text: &[u8], p: Position) -> usize
 }
 
 // The place of the token for which an arm wrote, from the position after it.
-fn place_by(source: &[u8], token: Head, p: Position, signs: Signs) -> usize
-    requires { (token.start ≤ token.end) × (token.end ≤ length source.now) }
-    ensures { result ≡ place_by signs source.now token p }
+#[tactic(auto, unfolding(crate::specs::Signs::place_as))]
+fn place_by(text: &[u8], kind: u16, p: Position, signs: Signs) -> usize
+    ensures { result ≡ cond (eqb (length text.now) 0) 0 (place_as (written_as signs kind) text.now p) }
 {
-    let start = token.start;
-    let end = token.end;
-    if start == end {
+    if text.is_empty() {
         return 0;
     }
-    let written = written_as(signs, token.kind);
-    match written {
+    match written_as(signs, kind) {
         Written::Nothing => 0,
         Written::Sign => p.trimmed,
-        Written::Text => place_of_text(token_text(source, start, end), p),
+        Written::Text => place_of_text(text, p),
     }
 }
 
-// A place more.
+// A place more. The last number of the map is the index of the next pair: there is no memory beside the map, and a plain layout lends none. By index,
+// since the library tells nothing of a slice after a write by get_mut.
 fn note_place(map: &mut [u64], place: usize)
     ensures { map.new ≡ noted place map.old }
 {
@@ -152,8 +165,8 @@ fn note_written(map: &mut [u64], source: &[u8], token: Head, p: Position, signs:
     requires { (token.start ≤ token.end) × (token.end ≤ length source.now) }
     ensures { map.new ≡ noted (place_by signs source.now token p) map.old }
 {
-    let place = place_by(source, token, p, signs);
-    note_place(map, place);
+    let text = token_text(source, token.start, token.end);
+    note_place(map, place_by(text, token.kind, p, signs));
 }
 
 // Notes a token, right after its arm: p is the position then. Only the test goes into the loops of the routines.
@@ -161,7 +174,7 @@ pub fn note_token(map: &mut [u64], source: &[u8], token: Head, p: Position, sign
     requires { (token.start ≤ token.end) × (token.end ≤ length source.now) }
     ensures { map.new ≡ noted (place_by signs source.now token p) map.old }
 {
-    if map.len() == 0 {
+    if map.is_empty() {
         return;
     }
     note_written(map, source, token, p, signs);
@@ -171,13 +184,11 @@ pub fn note_token(map: &mut [u64], source: &[u8], token: Head, p: Position, sign
 pub fn note_none(map: &mut [u64], tokens: usize)
     ensures { map.new ≡ note_all (replicate tokens 0) map.old }
 {
-    if map.len() == 0 {
+    if map.is_empty() {
         return;
     }
-    let mut left = tokens;
-    while 0 < left {
+    for _ in 0..tokens {
         note_place(map, 0);
-        left -= 1;
     }
 }
 
@@ -185,11 +196,7 @@ pub fn note_none(map: &mut [u64], tokens: usize)
 pub fn clear(map: &mut [u64])
     ensures { map.new ≡ replicate (length map.old) 0 }
 {
-    let mut i: usize = 0;
-    while i < map.len() {
-        map[i] = 0;
-        i += 1;
-    }
+    map.fill(0);
 }
 
 // The first numbers of `notes`, as many as the map has.
@@ -197,107 +204,80 @@ pub fn copy_front(map: &mut [u64], notes: &[u64])
     requires { length map.old ≤ length notes.now }
     ensures { map.new ≡ take (length map.old) notes.now }
 {
-    let mut i: usize = 0;
-    while i < map.len() {
-        map[i] = notes[i];
-        i += 1;
-    }
+    map.copy_from_slice(&notes[..map.len()]);
 }
 
-// Where a line that goes on at an offset ends. Most of the time goes into this loop, so it does nothing else.
+// Where a line that goes on at an offset ends. Most of the time goes into this search.
 fn newline_from(out: &[u8], from: usize) -> usize
     requires { from ≤ length out.now }
     ensures { EndsAt out.now from result }
 {
-    let mut i = from;
-    while i < out.len() {
-        if out[i] == 10 {
-            return i;
-        }
-        i += 1;
-    }
-    i
-}
-
-fn first_line(out: &[u8]) -> Line
-    ensures { LineOf out.now result × (result.start ≡ 0) }
-{
-    let end = newline_from(out, 0);
-    Line {
-        number: 1,
-        start: 0,
-        end: end,
+    let rest = &out[from..];
+    match rest.iter().position(|b| *b == 10) {
+        Some(n) => from + n,
+        None => out.len(),
     }
 }
 
-// The line after a newline.
-fn next_line(out: &[u8], line: Line) -> Line
-    requires { LineOf out.now line × (line.end < length out.now) × (line.end + 2 < 2 ^ 64) }
-    ensures { LineOf out.now result × (result.start ≡ line.end + 1) }
-{
-    let start = line.end + 1;
-    let end = newline_from(out, start);
-    Line {
-        number: line.number + 1,
-        start: start,
-        end: end,
+impl<'a> Lines<'a> {
+    // At the first line.
+    fn new(out: &'a [u8]) -> Self
+        ensures same { result.out.now ≡ out.now }
+        ensures start { result.line.start ≡ 0 }
+    {
+        let line = Line {
+            number: 1,
+            start: 0,
+            end: newline_from(out, 0),
+        };
+        Lines { out, line }
     }
-}
 
-// Where the search for an offset's line starts: at the given line, unless the offset is before it.
-fn line_before(out: &[u8], from: Line, at: usize) -> Line
-    requires { LineOf out.now from }
-    ensures { LineOf out.now result × (result.start ≤ at) }
-{
-    if at < from.start {
-        return first_line(out);
-    }
-    from
-}
-
-// The line that an offset is in. Only the bytes between the given line and this one are looked at.
-fn line_of(out: &[u8], from: Line, at: usize) -> Line
-    requires { LineOf out.now from × (at ≤ length out.now) × (at + 1 < 2 ^ 64) }
-    ensures { LineOf out.now result × (result.start ≤ at) × (at ≤ result.end) }
-{
-    let mut line = line_before(out, from, at);
-    while line.end < at {
-        line = next_line(out, line);
-    }
-    line
-}
-
-// The offset of a place. One past the bytes has the line and column of their end.
-fn offset_of(out: &[u8], place: usize) -> usize
-    requires { 0 < place }
-    ensures { (result ≤ length out.now) × (result < place) × (spot_at out.now result ≡ spot_at out.now (place - 1)) }
-{
-    let at = place - 1;
-    if out.len() < at {
-        return out.len();
-    }
-    at
-}
-
-// What stands in the map for a place, and the line to go on from.
-fn entry_of(out: &[u8], from: Line, place: u64, k: usize) -> Entry
-    requires { LineOf out.now from }
-    ensures { Entered k out.now place result }
-{
-    let p = place as usize;
-    if (p == 0) | (k < p) {
-        return Entry {
-            line: 0,
-            column: 0,
-            from: from,
+    // On to the line after the newline.
+    fn advance(&mut self)
+        requires newline { self.old.line.end < length self.old.out.now }
+        requires counted { self.old.line.end + 2 < 2 ^ 64 }
+        ensures same { self.new.out.now ≡ self.old.out.now }
+        ensures start { self.new.line.start ≡ self.old.line.end + 1 }
+    {
+        let start = self.line.end + 1;
+        self.line = Line {
+            number: self.line.number + 1,
+            start,
+            end: newline_from(self.out, start),
         };
     }
-    let at = offset_of(out, p);
-    let line = line_of(out, from, at);
-    Entry {
-        line: line.number,
-        column: (at - line.start) as u64 + 1,
-        from: line,
+
+    // To the line that an offset is in. Only the bytes between the line where the search stands and this one are looked at, unless the offset is before it.
+    fn go_to(&mut self, at: usize)
+        requires within { at ≤ length self.old.out.now }
+        requires counted { at + 1 < 2 ^ 64 }
+        ensures same { self.new.out.now ≡ self.old.out.now }
+        ensures start { self.new.line.start ≤ at }
+        ensures end { at ≤ self.new.line.end }
+    {
+        if at < self.line.start {
+            *self = Lines::new(self.out);
+        }
+        while self.line.end < at {
+            self.advance();
+        }
+    }
+
+    // Line and column in the map for a place, 0 and 0 for none. The search goes on from there.
+    fn entry_of(&mut self, place: u64, k: usize) -> (u64, u64)
+        ensures same { self.new.out.now ≡ self.old.out.now }
+        ensures line { result.0 ≡ (entry k self.old.out.now place).line }
+        ensures column { result.1 ≡ (entry k self.old.out.now place).column }
+    {
+        let p = place as usize;
+        if p == 0 || k < p {
+            return (0, 0);
+        }
+        // One past the bytes has the line and column of their end.
+        let at = (p - 1).min(self.out.len());
+        self.go_to(at);
+        (self.line.number, (at - self.line.start) as u64 + 1)
     }
 }
 
@@ -305,13 +285,11 @@ fn entry_of(out: &[u8], from: Line, place: u64, k: usize) -> Entry
 pub fn place_tokens(map: &mut [u64], out: &[u8], k: usize)
     ensures { map.new ≡ spots k out.now map.old }
 {
-    let mut line = first_line(out);
-    let mut i: usize = 0;
-    while 1 < map.len() - i {
-        let e = entry_of(out, line, map[i], k);
-        map[i] = e.line;
-        map[i + 1] = e.column;
-        line = e.from;
-        i += 2;
+    let mut lines = Lines::new(out);
+    // By index, since the library tells nothing of a slice after a walk over its chunks.
+    for i in 0..map.len() / 2 {
+        let (line, column) = lines.entry_of(map[2 * i], k);
+        map[2 * i] = line;
+        map[2 * i + 1] = column;
     }
 }

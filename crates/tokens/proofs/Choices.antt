@@ -5,22 +5,23 @@ use mathlib.Core.Bool.{Bool, true, false, cond, ◌||◌, false≢true}
 use mathlib.Core.List.{List, [], ◌∷◌, ◌++◌, map}
 use lib.Dec.{eqb}
 use native.Mathlib.Omega.{arith}
-use borrow.Author.Tests.{ne_eqb}
-use Rattle.basics.specs.Match.{among}
+use mathlib.Core.Logic.{◌⊎◌, inl, inr}
+use borrow.Author.Tests.{eqb-true, ne_eqb}
 use Rattle.keywords.specs.Words.{is_word}
-use Rattle.context.specs.declared.FormatConfig.{FormatConfig}
 use Rattle.context.specs.declared.FormatterContext.{FormatterContext}
 use Rattle.context.proofs.Writes.{spent-none}
-use Rattle.context.specs.Cells.{Text, token_text}
-use Rattle.tape.specs.Kinds.{Whitespace, Comment, BareWord, SelectStatement, UnionClause}
+use Rattle.context.specs.Cells.{Text}
 use Rattle.tape.specs.declared.Head.{Head}
+use Rattle.tape.specs.Kinds.{Whitespace, Comment, BareWord}
 use Rattle.layout.specs.declared.Local.{Local}
-use Rattle.layout.specs.Arms.{Spacing, newline, space, indent, dedent, Act, spacing, write_text, write_keyword, Seen, seen}
+use Rattle.layout.specs.Arms.{Spacing, newline, space, indent, dedent, Act, spacing, write_text, write_keyword, Seen}
 use Rattle.layout.specs.Tokens.{note_skipped_whitespace, emit_comment, emit_other, emit_token, is_operator}
-use Rattle.layout.specs.Routines.{flagged, keyword_space, space_if, spaced, or_else, binary_token, list_clause_node, format_union_clause, case_word, when_word}
+use Rattle.layout.specs.Routines.{flagged, keyword_space, space_if, spaced, or_else, binary_token, case_word, when_word}
 use Rattle.tokens.specs.declared.Arm.{Arm}
-use Rattle.tokens.specs.TokenPromises.{SpacedUnwritten, Spaced, Acted, TokenDone, TriviaDone, emit_trivia, is_trivia}
-use Rattle.tokens.proofs.Runs.{acted}
+use Rattle.tokens.specs.declared.settings.Settings.{Settings}
+use Rattle.tokens.specs.declared.token.Token.{Token}
+use Rattle.tokens.specs.TokenPromises.{SpacedUnwritten, Spaced, ActedOn, ArmDone, IsTokenAt, TokenDone, seen_as, emit_trivia, emit_uncommented, is_trivia}
+use Rattle.tokens.proofs.Runs.{acted, acted_at, seen_at}
 
 -- ── spacing that writes no byte
 
@@ -34,6 +35,16 @@ module _ {n : ℕ} {c r : FormatterContext} where
 
 pub no_unwritten : {c : FormatterContext} → SpacedUnwritten 0 [] c c
 no_unwritten = record { did = λ xs. refl; spent = spent-none }
+
+-- what goes before and after a child node, where a test says which of two it is
+module _ (l m : Local) (x y z w : List Spacing) where
+  pub before_either : (t : Bool) → (cond {A = Local × List Spacing × List Spacing} t (l, x, y) (m, z, w)).1 ≡ cond t x z
+  before_either true = refl
+  before_either false = refl
+
+  pub after_either : (t : Bool) → (cond {A = Local × List Spacing × List Spacing} t (l, x, y) (m, z, w)).2 ≡ cond t y w
+  after_either true = refl
+  after_either false = refl
 
 -- ── arms
 
@@ -62,57 +73,86 @@ module _ (l : Local) (t : Seen) where
       go false true = refl
       go false false = refl
 
+pub trivia_is : (kind : ℕ) → is_trivia kind ≡ true → (kind ≡ Whitespace) ⊎ (kind ≡ Comment)
+trivia_is kind e = go (eqb kind Whitespace) (eqb kind Comment) refl refl e
+  where
+    go : (p q : Bool) → eqb kind Whitespace ≡ p → eqb kind Comment ≡ q → (p || q) ≡ true → (kind ≡ Whitespace) ⊎ (kind ≡ Comment)
+    go true q f g u = inl (eqb-true kind Whitespace f)
+    go false true f g u = inr (eqb-true kind Comment g)
+    go false false f g u = absurd (false≢true u)
+
+pub trivia_not : (kind : ℕ) → is_trivia kind ≡ false → (eqb kind Whitespace ≡ false) × (eqb kind Comment ≡ false)
+trivia_not kind e = go (eqb kind Whitespace) (eqb kind Comment) e
+  where
+    go : (p q : Bool) → (p || q) ≡ false → (p ≡ false) × (q ≡ false)
+    go true q u = absurd (false≢true (sym u))
+    go false true u = absurd (false≢true (sym u))
+    go false false u = (refl, refl)
+
 -- white space or a comment, and any other token
-module _ (source : Text) (token : Head) where
-  or_else-trivia : (l : Local) (x : Local × List Act) → is_trivia token.kind ≡ true
-      → or_else l (seen source token) x ≡ (l, emit_trivia (eqb token.kind Whitespace) (token_text source token.start token.end))
-  unfolding seen
-  or_else-trivia l x e = go (eqb token.kind Whitespace) (eqb token.kind Comment) e
+module _ (kind : ℕ) (text : List ℕ) where
+  or_else-trivia : (l : Local) (x : Local × List Act) → is_trivia kind ≡ true → or_else l (seen_as kind text) x ≡ (l, emit_trivia (eqb kind Whitespace) text)
+  or_else-trivia l x e = go (eqb kind Whitespace) (eqb kind Comment) e
     where
       bytes : Bool → List ℕ
-      bytes read = cond read (token_text source token.start token.end) []
+      bytes read = cond read text []
 
       go : (p q : Bool) → (p || q) ≡ true
-          → cond p (l, note_skipped_whitespace (bytes (p || q || eqb token.kind BareWord))) (cond q (l, emit_comment (bytes (p || q || eqb token.kind BareWord))) x)
-          ≡ (l, emit_trivia p (token_text source token.start token.end))
+          → cond p (l, note_skipped_whitespace (bytes (p || q || eqb kind BareWord))) (cond q (l, emit_comment (bytes (p || q || eqb kind BareWord))) x)
+          ≡ (l, emit_trivia p text)
       go true q u = refl
       go false true u = refl
       go false false u = absurd (false≢true u)
 
-  or_else-other : (l : Local) (x : Local × List Act) → is_trivia token.kind ≡ false → or_else l (seen source token) x ≡ x
-  unfolding seen
-  or_else-other l x e = go (eqb token.kind Whitespace) (eqb token.kind Comment) e _ _
+  or_else-other : (l : Local) (x : Local × List Act) → is_trivia kind ≡ false → or_else l (seen_as kind text) x ≡ x
+  or_else-other l x e = go (eqb kind Whitespace) (eqb kind Comment) e _ _
     where
       go : (p q : Bool) → (p || q) ≡ false → (y z : Local × List Act) → cond p y (cond q z x) ≡ x
       go true q u = absurd (false≢true (sym u))
       go false true u = absurd (false≢true (sym u))
       go false false u = λ y z. refl
 
-  pub other_trivia : is_trivia token.kind ≡ true
-      → emit_other (seen source token) ≡ emit_trivia (eqb token.kind Whitespace) (token_text source token.start token.end)
-  other_trivia e = sym (or_else-acts (flagged false) (seen source token)) ∙ ap (λ (x : Local × List Act). x.1) (or_else-trivia (flagged false) _ e)
+  pub other_trivia : is_trivia kind ≡ true → emit_other (seen_as kind text) ≡ emit_trivia (eqb kind Whitespace) text
+  other_trivia e = sym (or_else-acts (flagged false) (seen_as kind text)) ∙ ap (λ (x : Local × List Act). x.1) (or_else-trivia (flagged false) _ e)
 
-  pub other_token : is_trivia token.kind ≡ false → emit_other (seen source token) ≡ emit_token (seen source token)
-  other_token e = sym (or_else-acts (flagged false) (seen source token)) ∙ ap (λ (x : Local × List Act). x.1) (or_else-other (flagged false) _ e)
+  pub other_token : is_trivia kind ≡ false → emit_other (seen_as kind text) ≡ emit_token (seen_as kind text)
+  other_token e = sym (or_else-acts (flagged false) (seen_as kind text)) ∙ ap (λ (x : Local × List Act). x.1) (or_else-other (flagged false) _ e)
+
+  -- a routine without a comment arm writes a comment as a token, and does all else alike
+  pub uncommented_comment : kind ≡ Comment → emit_uncommented (seen_as kind text) ≡ emit_token (seen_as kind text)
+  unfolding emit_uncommented
+  uncommented_comment e = rw e
+
+  pub uncommented_other : eqb kind Comment ≡ false → emit_uncommented (seen_as kind text) ≡ emit_other (seen_as kind text)
+  unfolding emit_uncommented emit_other
+  uncommented_other e = rw e
 
 -- the same in a routine with local variables
-module _ {config : FormatConfig} {source : Text} {token : Head} {l : Local} {c : FormatterContext} {xs ys : List ℕ} where
-  pub trivia_done : {r : FormatterContext} → is_trivia token.kind ≡ true
-      → Acted 3 config source token (emit_trivia (eqb token.kind Whitespace) (token_text source token.start token.end)) c xs r ys
-      → TriviaDone config source l token c xs (record { context = r; local = l }) ys
-  trivia_done e d =
-      record {
-        all =
-            λ other.
-            let w = or_else-trivia source token l (other l (seen source token)) e in
-            record { acted = acted 4 _ (omega arith) (ap (λ (x : Local × List Act). x.1) w) d; local = sym (ap (λ (x : Local × List Act). x.0) w) };
-      }
+module _ {settings : Settings} {token : Token} {l : Local} {c : FormatterContext} {xs ys : List ℕ} where
+  pub trivia_done : {r : FormatterContext} (other : Local → Seen → Local × List Act) → is_trivia token.kind ≡ true
+      → ActedOn 3 settings.config token.text.now (emit_trivia (eqb token.kind Whitespace) token.text.now) c xs r ys
+      → ArmDone settings token (λ k t. or_else k t (other k t)) l c xs (record { context = r; local = l }) ys
+  trivia_done other e d =
+      let w = or_else-trivia token.kind token.text.now l (other l (seen_as token.kind token.text.now)) e in
+      record { acted = acted 4 _ (omega arith) (ap (λ (x : Local × List Act). x.1) w) d; local = sym (ap (λ (x : Local × List Act). x.0) w) }
 
-  pub other_done : {a : Arm} (other : Local → Seen → Local × List Act) → is_trivia token.kind ≡ false → TokenDone config source other l token c xs a ys
-      → TokenDone config source (λ k t. or_else k t (other k t)) l token c xs a ys
+  pub other_done : {a : Arm} (other : Local → Seen → Local × List Act) → is_trivia token.kind ≡ false → ArmDone settings token other l c xs a ys
+      → ArmDone settings token (λ k t. or_else k t (other k t)) l c xs a ys
   other_done other e d =
-      let w = or_else-other source token l (other l (seen source token)) e in
+      let w = or_else-other token.kind token.text.now l (other l (seen_as token.kind token.text.now)) e in
       record { acted = acted 4 _ (omega arith) (ap (λ (x : Local × List Act). x.1) w) d.acted; local = d.local ∙ sym (ap (λ (x : Local × List Act). x.0) w) }
+
+  -- the same at the head that the token is made of
+  pub done_at : {source : Text} {head : Head} {a : Arm} (at_token : Local → Seen → Local × List Act) → IsTokenAt source head token → ArmDone settings token at_token l c xs a ys
+      → TokenDone settings.config source at_token l head c xs a ys
+  done_at at_token is d =
+      record { acted = acted_at is settings (λ t. (at_token l t).1) d.acted; local = d.local ∙ ap (λ (t : Seen). (at_token l t).0) (seen_at is) }
+
+  -- a routine that does the same at the token as another
+  pub arm_as : {a : Arm} {other : Local → Seen → Local × List Act} (at_token : Local → Seen → Local × List Act)
+      → at_token l (seen_as token.kind token.text.now) ≡ other l (seen_as token.kind token.text.now) → ArmDone settings token other l c xs a ys → ArmDone settings token at_token l c xs a ys
+  arm_as at_token e d =
+      record { acted = acted 4 _ (omega arith) (ap (λ (x : Local × List Act). x.1) e) d.acted; local = d.local ∙ sym (ap (λ (x : Local × List Act). x.0) e) }
 
 other_w : is_operator Whitespace ≡ false
 unfolding is_operator
@@ -127,24 +167,11 @@ unfolding is_operator
 other_b = refl
 
 -- an operator is neither white space, nor a comment, nor a bare word
-pub operator_acts : (source : Text) (token : Head) → is_operator token.kind ≡ true → binary_token (seen source token) ≡ spacing space ∷ write_text ∷ spacing space ∷ []
-unfolding binary_token seen
-operator_acts source token e =
-    let no : (x : ℕ) → is_operator x ≡ false → eqb token.kind x ≡ false = λ x f. ne_eqb token.kind x (λ q. false≢true (sym f ∙ ap is_operator (sym q) ∙ e)) in
+pub operator_acts : (kind : ℕ) (text : List ℕ) → is_operator kind ≡ true → binary_token (seen_as kind text) ≡ spacing space ∷ write_text ∷ spacing space ∷ []
+unfolding binary_token
+operator_acts kind text e =
+    let no : (x : ℕ) → is_operator x ≡ false → eqb kind x ≡ false = λ x f. ne_eqb kind x (λ q. false≢true (sym f ∙ ap is_operator (sym q) ∙ e)) in
     rw (no Whitespace other_w, no Comment other_c, no BareWord other_b, e)
-
-pub list-local : (list : ℕ) (multi : Bool) (l : Local) (k : ℕ) (p q r : Bool) → eqb k list ≡ p → l.flag ≡ q → multi ≡ r
-    → cond p l (cond q l (cond r (flagged true) l)) ≡ (list_clause_node list multi l k 0).0
-unfolding list_clause_node
-list-local list multi l k true q r e f g = rw e
-list-local list multi l k false true r e f g = rw (e, f)
-list-local list multi l k false false true e f g = rw (e, f, g)
-list-local list multi l k false false false e f g = rw (e, f, g)
-
-pub union_local : (l : Local) (k : ℕ) (p : Bool) → among k (SelectStatement ∷ UnionClause ∷ []) ≡ p → cond p (flagged true) l ≡ (format_union_clause.at_node l k 0).0
-unfolding format_union_clause
-union_local l k true e = rw e
-union_local l k false e = rw e
 
 -- ── words
 

@@ -8,8 +8,7 @@ use lib.ListN.{length, get_or, replicate}
 use lib.Dec.{eqb}
 use borrow.Author.Tests.{eqb-true, ne_eqb, le-leb, lt-leb}
 use Rattle.keywords.specs.Words.{is_keyword, is_value_keyword}
-use Rattle.context.specs.Cells.{Text, count, fixed, fresh, bytes_of, token_text, span_cells, to_case}
-use Rattle.utf8.specs.Trimming.{trimmed_length}
+use Rattle.context.specs.Cells.{Text, count, fixed, fresh, bytes_of, token_text, span_cells}
 use Rattle.context.specs.Splice.{splice}
 use Rattle.context.specs.Context.{Step, lead, write_newline, write_token, write_space, note_skipped_whitespace, take_pending_newline, take_pending_blank_line, indent, dedent, write_raw}
 use Rattle.context.specs.Context as context
@@ -18,20 +17,21 @@ use Rattle.context.specs.declared.FormatConfig.{FormatConfig}
 use Rattle.context.specs.declared.FormatterContext.{FormatterContext}
 use Rattle.context.specs.declared.State.{State}
 use Rattle.context.proofs.Splicing.{splice-past}
-use Rattle.context.proofs.Bytes.{bytes-span, token-length}
+use Rattle.context.proofs.Bytes.{bytes-span}
 use Rattle.context.proofs.Writes.{appended-none, spent-none, spent-twice, stored-token, stored-keyword, stored-raw, token-put, keyword-put}
 use Rattle.tape.specs.Kinds.{Whitespace, BareWord}
 use Rattle.tape.specs.declared.Head.{Head}
 use Rattle.layout.specs.Arms as arms
-use Rattle.layout.specs.Arms.{Spacing, Act, spacing, write_text, write_keyword, write_sign, Sign, sign_byte, is_read, seen}
+use Rattle.layout.specs.Arms.{Spacing, Act, spacing, write_text, write_keyword, write_sign, Sign, sign_byte, Seen, is_read, seen}
 use Rattle.layout.specs.Tokens.{is_line_comment, emit_comment, emit_token}
 use Rattle.layout.specs.Calls.{Call, act_at, format_error_verbatim}
-use Rattle.layout.specs.Layout.{nothing_written, do_spacing, step}
+use Rattle.layout.specs.Layout.{nothing_written, newline_if, do_spacing, step}
 use Rattle.layout.specs.Run.{run_spacing, run}
 use Rattle.layout.proofs.Running.{run-append}
-use Rattle.tokens.specs.TokenPromises.{Ran, SpacedUnwritten, Spaced, TokenReady, TextReady, PutText, Acted, ActedOn, casing_of, emit_trivia, in_case, is_as_typed}
-use Rattle.tokens.specs.declared.Casing.{Casing}
-use Rattle.tokens.specs.declared.Casing.TheVariants.{AsTyped, Listed, Always}
+use Rattle.tokens.specs.TokenPromises.{Ran, SpacedUnwritten, Spaced, PutText, Acted, ActedOn, ArmActed, IsTokenAt, seen_as, write_by, casing_of, emit_trivia, in_case}
+use Rattle.tokens.specs.declared.settings.Settings.{Settings}
+use Rattle.tokens.specs.declared.token.Token.{Token}
+use Rattle.tokens.specs.declared.Casing.TheVariants.{AsTyped, Listed}
 
 -- ── spacing
 
@@ -58,8 +58,17 @@ module _ {c r : FormatterContext} {xs : List ℕ} where
   did-newline w = record { did = w.did; spent = w.spent }
 
 -- no byte was written
-pub did-unwritten : {n : ℕ} {s : State} {c r : FormatterContext} (x : Spacing) → do_spacing x c.state ≡ nothing_written s → Changed n s c r → SpacedUnwritten n (x ∷ []) c r
+did-unwritten : {n : ℕ} {s : State} {c r : FormatterContext} (x : Spacing) → do_spacing x c.state ≡ nothing_written s → Changed n s c r → SpacedUnwritten n (x ∷ []) c r
 did-unwritten x e d = record { did = λ xs. (changed x e d).did; spent = d.spent }
+
+module _ {c r : FormatterContext} where
+  pub unwritten-space : Changed 0 (write_space c.state) c r → SpacedUnwritten 0 (arms.space ∷ []) c r
+  unfolding do_spacing
+  unwritten-space = did-unwritten arms.space refl
+
+  pub unwritten-dedent : Changed 0 (dedent c.state) c r → SpacedUnwritten 0 (arms.dedent ∷ []) c r
+  unfolding do_spacing
+  unwritten-dedent = did-unwritten arms.dedent refl
 
 pub no_spacing : {c : FormatterContext} {xs : List ℕ} → Spaced 0 [] c xs c xs
 no_spacing = record { did = refl; spent = spent-none }
@@ -98,108 +107,95 @@ module _ (config : FormatConfig) (source : Text) (token : Head) where
   run-acts : (x y : List Act) (w : Store) → run config source (map (act_at token) (x ++ y)) w ≡ run config source (map (act_at token) y) (run config source (map (act_at token) x) w)
   run-acts x y w = ap (λ (l : List Call). run config source l w) (map-append x y) ∙ run-append config source (map (act_at token) x) (map (act_at token) y) w
 
-module _ {config : FormatConfig} {source : Text} {token : Head} {c r : FormatterContext} {xs ys : List ℕ} where
-  pub as_acts : {n : ℕ} {x : List Spacing} → Spaced n x c xs r ys → Acted n config source token (map spacing x) c xs r ys
-  as_acts {x = x} d = record { did = d.did ∙ sym (act_spacing config source token x (c, xs)); spent = d.spent }
+-- ── acts at whatever token has the text
 
-  pub did-sign : (x : Sign) → Wrote 1 (stored (write_token config (fresh (sign_byte x) ∷ []) c.state) (c, xs)) c r ys → Acted 1 config source token (write_sign x ∷ []) c xs r ys
+module _ {config : FormatConfig} {text : List ℕ} {c r : FormatterContext} {xs ys : List ℕ} where
+  pub as_acts : {n : ℕ} {x : List Spacing} → Spaced n x c xs r ys → ActedOn n config text (map spacing x) c xs r ys
+  as_acts {x = x} d = record { did = λ source token e. d.did ∙ sym (act_spacing config source token x (c, xs)); spent = d.spent }
+
+  pub did-sign : (x : Sign) → Wrote 1 (stored (write_token config (fresh (sign_byte x) ∷ []) c.state) (c, xs)) c r ys → ActedOn 1 config text (write_sign x ∷ []) c xs r ys
   unfolding step
-  did-sign x w = record { did = w.did; spent = w.spent }
+  did-sign x w = record { did = λ source token e. w.did; spent = w.spent }
 
-  module _ (bs : List ℕ) (e : bs ≡ token_text source token.start token.end) where
-    pub did-text : Wrote 1 (stored (write_token config (fixed bs) c.state) (c, xs)) c r ys → Acted 1 config source token (write_text ∷ []) c xs r ys
-    unfolding step
-    did-text w = record { did = w.did ∙ stored-token (span_cells source token.start token.end) bs (bytes-span source token.start token.end ∙ sym e) c.state (c, xs) config; spent = w.spent }
+  -- the sign as the code has it, a byte
+  pub did-sign-as : (x : Sign) {b : ℕ} → b ≡ sign_byte x → Wrote 1 (stored (write_token config (fresh b ∷ []) c.state) (c, xs)) c r ys → ActedOn 1 config text (write_sign x ∷ []) c xs r ys
+  unfolding step
+  did-sign-as x e w = record { did = λ source token q. w.did ∙ ap (λ (b : ℕ). stored (write_token config (fresh b ∷ []) c.state) (c, xs)) e; spent = w.spent }
 
-    pub did-keyword : Wrote 1 (stored (context.write_keyword config (fixed bs) c.state) (c, xs)) c r ys → Acted 1 config source token (write_keyword ∷ []) c xs r ys
-    unfolding step
-    did-keyword w = record { did = w.did ∙ stored-keyword (span_cells source token.start token.end) bs (bytes-span source token.start token.end ∙ sym e) c.state (c, xs) config; spent = w.spent }
+  pub did-text : Wrote 1 (stored (write_token config (fixed text) c.state) (c, xs)) c r ys → ActedOn 1 config text (write_text ∷ []) c xs r ys
+  unfolding step
+  did-text w =
+      record {
+        did = λ source token e. w.did ∙ stored-token (span_cells source token.start token.end) text (bytes-span source token.start token.end ∙ sym e) c.state (c, xs) config;
+        spent = w.spent;
+      }
+
+  pub did-keyword : Wrote 1 (stored (context.write_keyword config (fixed text) c.state) (c, xs)) c r ys → ActedOn 1 config text (write_keyword ∷ []) c xs r ys
+  unfolding step
+  did-keyword w =
+      record {
+        did = λ source token e. w.did ∙ stored-keyword (span_cells source token.start token.end) text (bytes-span source token.start token.end ∙ sym e) c.state (c, xs) config;
+        spent = w.spent;
+      }
 
   -- one after the other
-  pub then : {m n : ℕ} {x y : List Act} {q : FormatterContext} {zs : List ℕ} → Acted m config source token x c xs r ys → Acted n config source token y r ys q zs
-      → Acted (m + n) config source token (x ++ y) c xs q zs
+  pub then : {m n : ℕ} {x y : List Act} {q : FormatterContext} {zs : List ℕ} → ActedOn m config text x c xs r ys → ActedOn n config text y r ys q zs
+      → ActedOn (m + n) config text (x ++ y) c xs q zs
   then {x = x} {y = y} a b =
       record {
-        did = b.did ∙ ap (run config source (map (act_at token) y)) a.did ∙ sym (run-acts config source token x y (c, xs));
+        did =
+            λ source token e.
+            b.did source token e ∙ ap (run config source (map (act_at token) y)) (a.did source token e) ∙ sym (run-acts config source token x y (c, xs));
         spent = spent-twice a.spent b.spent;
       }
 
   -- at most n is at most m; the acts are what the routine does
-  pub acted : {n : ℕ} {x : List Act} (m : ℕ) (y : List Act) → n ≤ m → y ≡ x → Acted n config source token x c xs r ys → Acted m config source token y c xs r ys
+  pub acted : {n : ℕ} {x : List Act} (m : ℕ) (y : List Act) → n ≤ m → y ≡ x → ActedOn n config text x c xs r ys → ActedOn m config text y c xs r ys
   acted m y h e d =
-      record { did = d.did ∙ ap (λ (l : List Act). run config source (map (act_at token) l) (c, xs)) (sym e); spent = record { level = omega arith; length = omega arith } }
+      record {
+        did = λ source token q. d.did source token q ∙ ap (λ (l : List Act). run config source (map (act_at token) l) (c, xs)) (sym e);
+        spent = record { level = omega arith; length = omega arith };
+      }
 
-module _ {config : FormatConfig} {source : Text} {token : Head} {c : FormatterContext} {xs : List ℕ} where
-  pub no_acts : Acted 0 config source token [] c xs c xs
-  no_acts = record { did = refl; spent = spent-none }
+module _ {config : FormatConfig} {text : List ℕ} {c : FormatterContext} {xs : List ℕ} where
+  pub no_acts : ActedOn 0 config text [] c xs c xs
+  no_acts = record { did = λ source token e. refl; spent = spent-none }
 
-  pub noted : {r : FormatterContext} (bs : List ℕ) → Changed 0 (note_skipped_whitespace bs c.state) c r → Acted 0 config source token (spacing (arms.note bs) ∷ []) c xs r xs
+  pub noted : {r : FormatterContext} (bs : List ℕ) → Changed 0 (note_skipped_whitespace bs c.state) c r → ActedOn 0 config text (spacing (arms.note bs) ∷ []) c xs r xs
   unfolding do_spacing
   noted bs d = as_acts (changed (arms.note bs) refl d)
 
--- a span's text is no longer than the text
-pub text-fits : {n : ℕ} {source bs : List ℕ} {config : FormatConfig} {token : Head} {c : FormatterContext} → TokenReady n source config token c
-    → bs ≡ token_text source token.start token.end → length bs ≤ 2 ^ 18
-text-fits {source = source} {token = token} p e =
-    omega (arith, ap length e, token-length source token.start token.end p.ordered p.within, p.within, p.text-fits)
+-- ── the same at a head
 
--- the token's text is noted
-pub as_note : {config : FormatConfig} {source bs : List ℕ} {token : Head} {c r : FormatterContext} {xs : List ℕ} → bs ≡ token_text source token.start token.end
-    → Changed 0 (note_skipped_whitespace bs c.state) c r
-    → Acted 0 config source token (spacing (arms.note (token_text source token.start token.end)) ∷ []) c xs r xs
-as_note {bs = bs} e d = acted 0 _ (omega arith) (ap (λ (l : List ℕ). spacing (arms.note l) ∷ []) (sym e)) (noted bs d)
+-- what an arm did is what the routine does at the head that its token is made of
+module _ {token : Token} {source : Text} {head : Head} (is : IsTokenAt source head token) where
+  pub seen_at : seen_as token.kind token.text.now ≡ seen source head
+  unfolding seen
+  seen_at = ap (λ (k : ℕ). seen_as k token.text.now) is.kind ∙ ap (seen_as head.kind) is.text
+
+  pub acted_at : {n : ℕ} (settings : Settings) {c r : FormatterContext} {xs ys : List ℕ} (at_token : Seen → List Act) → ArmActed n settings token at_token c xs r ys
+      → Acted n settings.config source head (at_token (seen source head)) c xs r ys
+  acted_at settings {c = c} {xs = xs} at_token d =
+      record {
+        did = d.did source head is.text ∙ ap (λ (t : Seen). run settings.config source (map (act_at head) (at_token t)) (c, xs)) seen_at;
+        spent = d.spent;
+      }
 
 -- ── spacing that reads the state
 
-module _ {x : Spacing} {t : State} {c next r : FormatterContext} {xs ys : List ℕ} where
-  -- a newline after another change of the state
-  pub newline-after : do_spacing x c.state ≡ write_newline t → Changed 0 t c next → Wrote 1 (stored (write_newline next.state) (next, xs)) next r ys
-      → Spaced 1 (x ∷ []) c xs r ys
-  unfolding appended
-  newline-after e d w =
-      record {
-        did = w.did ∙ ap (λ (q : FormatterContext). stored (write_newline q.state) (q, xs)) d.did ∙ ap (λ (q : Step). stored q (c, xs)) (sym e);
-        spent = spent-twice d.spent w.spent;
-      }
+-- a step after a change of the state
+pub step-after : {x : Spacing} {t : State} {c next r : FormatterContext} {xs ys : List ℕ} (f : State → Step) → do_spacing x c.state ≡ f t → Changed 0 t c next → Wrote 1 (stored (f next.state) (next, xs)) next r ys
+    → Spaced 1 (x ∷ []) c xs r ys
+unfolding appended
+step-after {c = c} {xs = xs} f e d w =
+    record {
+      did = w.did ∙ ap (λ (q : FormatterContext). stored (f q.state) (q, xs)) d.did ∙ ap (λ (q : Step). stored q (c, xs)) (sym e);
+      spent = spent-twice d.spent w.spent;
+    }
 
 -- a change after another
 pub changed_after : {n : ℕ} {t : State} {c next r : FormatterContext} (f : State → State) → Changed 0 t c next → Changed n (f next.state) next r → Changed n (f t) c r
 changed_after f d e = record { did = e.did ∙ ap (λ (q : FormatterContext). with_state (f q.state) q) d.did; spent = record { level = omega (arith, d.spent.level, e.spent.level); length = omega (arith, d.spent.length, e.spent.length) } }
-
-module _ (s : State) where
-  pub line-held : (take_pending_newline s).0 ≡ true → (take_pending_newline s).1.at_line_start ≡ true → do_spacing arms.line_or_space s ≡ nothing_written (take_pending_newline s).1
-  unfolding do_spacing
-  line-held e f = rw (e, f)
-
-  pub line-written : (take_pending_newline s).0 ≡ true → (take_pending_newline s).1.at_line_start ≡ false → do_spacing arms.line_or_space s ≡ write_newline (take_pending_newline s).1
-  unfolding do_spacing
-  line-written e f = rw (e, f)
-
-  pub line-space : (take_pending_newline s).0 ≡ false → do_spacing arms.line_or_space s ≡ nothing_written (write_space (take_pending_newline s).1)
-  unfolding do_spacing
-  line-space e = rw e
-
-  pub blank_held : (take_pending_blank_line s).0 ≡ false → do_spacing arms.blank_line s ≡ nothing_written (take_pending_blank_line s).1
-  unfolding do_spacing
-  blank_held e = rw e
-
-  pub blank_written : (take_pending_blank_line s).0 ≡ true → do_spacing arms.blank_line s ≡ write_newline (take_pending_blank_line s).1
-  unfolding do_spacing
-  blank_written e = rw e
-
-  pub comment_start : (take_pending_blank_line s).0 ≡ true → (take_pending_blank_line s).1.at_line_start ≡ true
-      → do_spacing arms.blank_line_before_comment s ≡ nothing_written (take_pending_blank_line s).1
-  unfolding do_spacing
-  comment_start e f = rw (e, f)
-
-  pub comment_written : (take_pending_blank_line s).0 ≡ true → (take_pending_blank_line s).1.at_line_start ≡ false
-      → do_spacing arms.blank_line_before_comment s ≡ write_newline (take_pending_blank_line s).1
-  unfolding do_spacing
-  comment_written e f = rw (e, f)
-
-  pub comment_held : (take_pending_blank_line s).0 ≡ false → do_spacing arms.blank_line_before_comment s ≡ nothing_written (take_pending_blank_line s).1
-  unfolding do_spacing
-  comment_held e = rw e
 
 -- line start, as the code reads it after a mark was taken
 pub start_is : {t : State} {c next : FormatterContext} {b : Bool} → Changed 0 t c next → b ≡ next.state.at_line_start → t.at_line_start ≡ b
@@ -207,27 +203,28 @@ start_is d e = sym (e ∙ ap (λ (q : FormatterContext). q.state.at_line_start) 
 
 -- ── emit_comment, emit_token
 
-pub line-short : (b : List ℕ) → length b < 2 → is_line_comment b ≡ false
-unfolding is_line_comment
-line-short [] h = refl
-line-short (x ∷ []) h = refl
-line-short (x ∷ y ∷ b) h = absurd (omega arith)
+-- a newline where it is wanted, as a step
+pub newline-step : {c r : FormatterContext} {xs ys : List ℕ} (t : Bool) → Spaced 1 (cond t (arms.newline ∷ []) []) c xs r ys → Wrote 1 (stored (newline_if t c.state) (c, xs)) c r ys
+unfolding do_spacing
+newline-step {c} {r} {xs} {ys} t d = go t d
+  where
+    go : (t : Bool) → Spaced 1 (cond t (arms.newline ∷ []) []) c xs r ys → Wrote 1 (stored (newline_if t c.state) (c, xs)) c r ys
+    go true w = record { did = w.did; spent = w.spent }
+    go false w = record { did = w.did ∙ appended-none c.state c xs; spent = w.spent }
 
-pub line_at : (b : List ℕ) → 2 ≤ length b → is_line_comment b ≡ (eqb (get_or b 0 0) 45 && eqb (get_or b 1 0) 45)
-unfolding is_line_comment
-line_at [] h = absurd (omega arith)
-line_at (x ∷ []) h = absurd (omega arith)
-line_at (x ∷ y ∷ b) h = refl
-
-pub line-last : (b : List ℕ) → 2 ≤ length b → get_or b 0 0 ≡ 45 → eqb (get_or b 1 0) 45 ≡ is_line_comment b
-line-last b h e = sym (line_at b h ∙ ap (λ (n : ℕ). eqb n 45 && eqb (get_or b 1 0) 45) e)
-
-pub comment_acts : (b bs : List ℕ) (t : Bool) → bs ≡ b → is_line_comment bs ≡ t → emit_comment b ≡ spacing arms.line_or_space ∷ write_text ∷ cond t (spacing arms.newline ∷ []) []
+comment_acts : (b : List ℕ) (t : Bool) → is_line_comment b ≡ t → emit_comment b ≡ map spacing (arms.line_or_space ∷ []) ++ ((write_text ∷ []) ++ map spacing (cond t (arms.newline ∷ []) []))
 unfolding emit_comment
-comment_acts b bs t e f = rw (← e, f)
+comment_acts b true e = rw e
+comment_acts b false e = rw e
+
+pub did-comment : {config : FormatConfig} {text : List ℕ} {c a b r : FormatterContext} {xs ys zs us : List ℕ} {t : Bool} → Spaced 1 (arms.line_or_space ∷ []) c xs a ys
+    → Wrote 1 (stored (write_token config (fixed text) a.state) (a, ys)) a b zs → t ≡ is_line_comment text → Spaced 1 (cond t (arms.newline ∷ []) []) b zs r us
+    → ActedOn 3 config text (emit_comment text) c xs r us
+did-comment {text = text} {t = t} first second e third =
+    acted 3 _ (omega arith) (comment_acts text t (sym e)) (then (as_acts first) (then (did-text second) (as_acts third)))
 
 -- the case of a bare word is changed
-abbrev pub changes_case : ℕ → List ℕ → Bool
+abbrev changes_case : ℕ → List ℕ → Bool
 changes_case k b = eqb k BareWord && (is_keyword b && not (is_value_keyword b))
 
 casing_is : (k : ℕ) (b : List ℕ) → in_case (casing_of k) b ≡ changes_case k b
@@ -237,37 +234,18 @@ casing_is k b = go (eqb k BareWord)
     go true = refl
     go false = refl
 
-pub as_typed : (g : Casing) (b : List ℕ) → is_as_typed g ≡ true → in_case g b ≡ false
-as_typed AsTyped b e = refl
-as_typed Listed b e = absurd (false≢true e)
-as_typed Always b e = absurd (false≢true e)
-
-pub token-acts : (source : Text) (token : Head) → (token.kind ≡ Whitespace → ⊥)
-    → emit_token (seen source token) ≡ cond (changes_case token.kind (token_text source token.start token.end)) (write_keyword ∷ []) (write_text ∷ [])
-unfolding emit_token seen
-token-acts source token h =
-    ap (λ (t : Bool). cond t [] (cond (changes_case token.kind bytes) (write_keyword ∷ []) (write_text ∷ []))) (ne_eqb token.kind Whitespace h) ∙ go (eqb token.kind BareWord) refl
+pub token-acts : (kind : ℕ) (text : List ℕ) → (kind ≡ Whitespace → ⊥) → emit_token (seen_as kind text) ≡ write_by (in_case (casing_of kind) text)
+unfolding emit_token
+token-acts kind text h =
+    ap (λ (t : Bool). cond t [] (write_by (changes_case kind bytes))) (ne_eqb kind Whitespace h) ∙ go (eqb kind BareWord) refl
+    ∙ sym (ap write_by (casing_is kind text))
   where
-    whole : List ℕ
-    whole = token_text source token.start token.end
-
     bytes : List ℕ
-    bytes = cond (is_read token.kind) whole []
+    bytes = cond (is_read kind) text []
 
-    go : (t : Bool) → eqb token.kind BareWord ≡ t
-        → cond (t && (is_keyword bytes && not (is_value_keyword bytes))) (write_keyword ∷ []) (write_text ∷ []) ≡ cond (t && (is_keyword whole && not (is_value_keyword whole))) (write_keyword ∷ []) (write_text ∷ [])
-    go true e = rw (eqb-true token.kind BareWord e)
+    go : (t : Bool) → eqb kind BareWord ≡ t → write_by (t && (is_keyword bytes && not (is_value_keyword bytes))) ≡ write_by (t && (is_keyword text && not (is_value_keyword text)))
+    go true e = rw (eqb-true kind BareWord e)
     go false e = refl
-
--- a token that is ready has a text that is, with room for fewer writes too
-pub text-ready : {m n : ℕ} {source bs : List ℕ} {config : FormatConfig} {token : Head} {c : FormatterContext} → n ≤ m → TokenReady m source config token c
-    → bs ≡ token_text source token.start token.end → TextReady n config bs c
-text-ready l p e = record { text-fits = text-fits p e; width_fits = p.width_fits; room = record { level = omega (arith, p.room.level); length = omega (arith, p.room.length) } }
-
--- white space or a comment at the token that has the text
-pub trivia_acted : (white : Bool) {config : FormatConfig} {source bs : List ℕ} {token : Head} {c r : FormatterContext} {xs ys : List ℕ} → bs ≡ token_text source token.start token.end
-    → ActedOn 3 config bs (emit_trivia white bs) c xs r ys → Acted 3 config source token (emit_trivia white (token_text source token.start token.end)) c xs r ys
-trivia_acted white {source = source} {token = token} e w = acted 3 _ (omega arith) (ap (emit_trivia white) (sym e)) (w.all source token e)
 
 -- one byte that is no newline
 pub one_byte : (bs : List ℕ) → length bs ≡ 1 → not (eqb (get_or bs 0 0) 10) ≡ true → count 10 bs ≡ 0
@@ -284,39 +262,20 @@ unnoted : (bs : List ℕ) (c : FormatterContext) → count 10 bs ≡ 0 → c ≡
 unfolding note_skipped_whitespace
 unnoted bs c z = rw z refl
 
-pub blank_acted : (kind : ℕ) {config : FormatConfig} {source bs : List ℕ} {token : Head} {c : FormatterContext} {xs : List ℕ} → bs ≡ token_text source token.start token.end
-    → (kind ≡ Whitespace) × (count 10 bs ≡ 0) → Acted 0 config source token (emit_trivia (eqb kind Whitespace) (token_text source token.start token.end)) c xs c xs
-blank_acted kind {bs = bs} {c = c} e z = rw z.0 (as_note e (record { did = unnoted bs c z.1; spent = spent-none }))
+pub blank_acted : (kind : ℕ) {config : FormatConfig} {text : List ℕ} {c : FormatterContext} {xs : List ℕ}
+    → (kind ≡ Whitespace) × (count 10 text ≡ 0) → ActedOn 0 config text (emit_trivia (eqb kind Whitespace) text) c xs c xs
+blank_acted kind {text = text} {c = c} z = rw z.0 (noted text (record { did = unnoted text c z.1; spent = spent-none }))
 
 -- where the space is full nothing is written, whatever the text is
 pub full_put : (at blanks : ℕ) (bs us xs : List ℕ) → length xs ≤ at → xs ≡ splice (at + blanks) us (splice at bs xs)
 full_put at blanks bs us xs h = sym (rw (splice-past at bs xs h) (splice-past (at + blanks) us xs (omega arith)))
 
 -- a token's text as `put_text` and `after_text` write it
-put-acted : {config : FormatConfig} {source : Text} {token : Head} {c r : FormatterContext} {xs ys : List ℕ} {j : ℕ} (bs : List ℕ) → bs ≡ token_text source token.start token.end → length bs ≤ 2 ^ 18
-    → (n : ℕ) → (bytes_of (lead config c.state) ≡ replicate n 32) × (n ≤ 2 ^ 24) → (b : Bool) → j ≡ trimmed_length bs
-    → ys ≡ splice (c.position.length + n) (cond b (map (to_case config.uppercase_keywords) bs) bs) (splice c.position.length (replicate n 32) xs)
-    → r ≡ after_text n (length bs) j c → Acted 1 config source token (cond b (write_keyword ∷ []) (write_text ∷ [])) c xs r ys
-put-acted {config} {c = c} {xs = xs} bs e k n l true p w a = did-keyword bs e (keyword-put config bs c n l.0 l.1 k xs p a w)
-put-acted {config} {c = c} {xs = xs} bs e k n l false p w a = did-text bs e (token-put config bs c n l.0 l.1 k xs p a w)
-
-module _ {n : ℕ} {config : FormatConfig} {source : List ℕ} {token : Head} {c r : FormatterContext} {xs ys bs : List ℕ} {m j : ℕ} (p : TokenReady n source config token c)
-    (e : bs ≡ token_text source token.start token.end) (l : (bytes_of (lead config c.state) ≡ replicate m 32) × (m ≤ 2 ^ 24)) (a : r ≡ after_text m (length bs) j c) where
-  -- as it stands
-  pub put_typed : {u : Bool} → PutText c.position.length m bs false u xs j ys → Acted 1 config source token (write_text ∷ []) c xs r ys
-  put_typed w = put-acted bs e (text-fits p e) m l false w.left w.written a
-
-  -- in the case that is set
-  pub put-keyword : PutText c.position.length m bs true config.uppercase_keywords xs j ys → Acted 1 config source token (write_keyword ∷ []) c xs r ys
-  put-keyword w = put-acted bs e (text-fits p e) m l true w.left w.written a
-
-  -- by the word list
-  pub put-token : {g : Casing} → (token.kind ≡ Whitespace → ⊥) → g ≡ casing_of token.kind
-      → PutText c.position.length m bs (in_case g bs) config.uppercase_keywords xs j ys → Acted 1 config source token (emit_token (seen source token)) c xs r ys
-  put-token {g} h q w =
-      acted 1 _ (omega arith)
-      (token-acts source token h ∙ ap (λ (b : Bool). cond b (write_keyword ∷ []) (write_text ∷ [])) (ap (changes_case token.kind) (sym e) ∙ sym (ap (λ (k : Casing). in_case k bs) q ∙ casing_is token.kind bs)))
-      (put-acted bs e (text-fits p e) m l (in_case g bs) w.left w.written a)
+pub put-acted : {config : FormatConfig} {c r : FormatterContext} {xs ys : List ℕ} {j : ℕ} (text : List ℕ) → length text ≤ 2 ^ 18
+    → (n : ℕ) → (bytes_of (lead config c.state) ≡ replicate n 32) × (n ≤ 2 ^ 24) → (b : Bool) → PutText c.position.length n text b config.uppercase_keywords xs j ys
+    → r ≡ after_text n (length text) j c → ActedOn 1 config text (write_by b) c xs r ys
+put-acted {config} {c} {xs = xs} text k n l true w a = did-keyword (keyword-put config text c n l.0 l.1 k xs w.left a w.written)
+put-acted {config} {c} {xs = xs} text k n l false w a = did-text (token-put config text c n l.0 l.1 k xs w.left a w.written)
 
 -- ── format_error_verbatim
 

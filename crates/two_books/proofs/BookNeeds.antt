@@ -35,10 +35,9 @@ use Rattle.layout.specs.MaskingTests.{Condition, same_length, no_newline, in_som
 use Rattle.layout.specs.MaskingNeeds.{Claim, Broken, number, pairs, refused_by_four, refused_by_fifteen, Needed, EachNeeded as EachNeededOfLayout}
 use Rattle.layout.proofs.MaskingTests.{asked}
 use Rattle.layout.proofs.MaskingNeeds.{each_needed as each-needed-of-layout}
-use Rattle.desk_job.specs.declared.Header.TheVariants.{Accepted}
-use Rattle.desk_job.specs.Job.{has_command, text_end, read_header, answered_outcome, answered_job as answered_by, decimal, field, pair, refused_line}
-use Rattle.book.specs.declared.open.Opened.{Opened}
-use Rattle.book.specs.declared.open.Opened.TheVariants.{Fault, Jobs}
+use Rattle.std.specs.Prelude.{Result, Ok, Err}
+use Rattle.desk_job.specs.Job.{has_command, text_end, read_header, accepted, answered_outcome, answered_job as answered_by, decimal, field, pair, refused_line}
+use Rattle.book.specs.declared.open.BookFault.{BookFault}
 use Rattle.book.specs.Book.{job_end, is_whole, walk, opened, jobs_from}
 use Rattle.book.specs.Told.{told_of, answered_job}
 use Rattle.book.specs.Tally.{with_job, tallied}
@@ -71,13 +70,13 @@ reports_differ_lem a b u e =
     T_not (same (lines_of a) (lines_of b)) u
     (subst (λ (x : List ℕ). T (same (lines_of a) x)) e (holds-true (same (lines_of a) (lines_of a)) (same_self (lines_of a))))
 
-abbrev is_fault : Opened → Bool
-is_fault (Fault n p) = true
-is_fault (Jobs count) = false
+abbrev is_fault : Result ℕ BookFault → Bool
+is_fault (Err f) = true
+is_fault (Ok count) = false
 
 -- of a refused book no job is asked for
 no_jobs : (commands : ℕ) (a b : List ℕ) → T (is_fault (opened false a)) → AsksOfBooks commands each_pair a b
-no_jobs commands a b f count e = absurd (subst (λ (o : Opened). T (is_fault o)) e f)
+no_jobs commands a b f count e = absurd (subst (λ (o : Result ℕ BookFault). T (is_fault o)) e f)
 
 -- ── what is computed
 
@@ -188,19 +187,19 @@ unfolding holds_byte character_length cut first_ill_formed is_trailing kinds not
 plain-texts = one_text (97 ∷ []) (drop 10 plain_job) refl
 
 module _ (first second : List ℕ) (s : drop 10 first ≡ drop 10 second) (t : MaskedPair 4 1 (take 1 (drop 9 first)) (take 1 (drop 9 second)) (drop 10 first)) where
-  without-first : read_header false second ≡ Accepted 4 1 10 → (c : OfJobs) → (job_number c ≡ job_number header_a → ⊥) → AsksOfJobs c first second 4 1 10
+  without-first : read_header false second ≡ accepted 4 1 10 → (c : OfJobs) → (job_number c ≡ job_number header_a → ⊥) → AsksOfJobs c first second 4 1 10
   without-first h header_a ne = absurd (ne refl)
   without-first h header_b ne = h
   without-first h same_tape ne = s
   without-first h texts ne = t
 
-  without-second : read_header false first ≡ Accepted 4 1 10 → (c : OfJobs) → (job_number c ≡ job_number header_b → ⊥) → AsksOfJobs c first second 4 1 10
+  without-second : read_header false first ≡ accepted 4 1 10 → (c : OfJobs) → (job_number c ≡ job_number header_b → ⊥) → AsksOfJobs c first second 4 1 10
   without-second h header_a ne = h
   without-second h header_b ne = absurd (ne refl)
   without-second h same_tape ne = s
   without-second h texts ne = t
 
-plain-header : read_header false plain_job ≡ Accepted 4 1 10
+plain-header : read_header false plain_job ≡ accepted 4 1 10
 unfolding has_command text_end read_header
 plain-header = refl
 

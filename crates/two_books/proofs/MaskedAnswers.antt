@@ -12,8 +12,7 @@ use Rattle.layout.specs.Layout.{original}
 use Rattle.layout.specs.Outcome.{Outcome, Result, laid_out, outcome}
 use Rattle.layout.specs.Masking.{MaskedPairForLayout, SameLines, AlikeByLines}
 use Rattle.layout.proofs.TwoCalls.{masking_original, demand_3}
-use Rattle.desk_job.specs.declared.Header.TheVariants.{Accepted}
-use Rattle.desk_job.specs.Job.{Answered, refused, text, read_header, answered_outcome, answered_job as answered_by, leaves}
+use Rattle.desk_job.specs.Job.{Answered, refused, text, read_header, accepted, answered_outcome, answered_job as answered_by, leaves}
 use Rattle.desk_job.proofs.Printing.{Fits, outcome_fits, laid-leaves}
 use Rattle.book.specs.Told.{told_of, answered_job, told_job}
 use Rattle.two_books.specs.MaskedBooks.{MaskedJob, MaskedJobs, equal, masked}
@@ -64,7 +63,7 @@ outcomes_alike x y space e h =
 
 -- ── of two jobs with one header and one tape
 
-module _ (a b : List ℕ) (width case end : ℕ) (header_a : read_header false a ≡ Accepted width case end) (header_b : read_header false b ≡ Accepted width case end)
+module _ (a b : List ℕ) (width case end : ℕ) (header_a : read_header false a ≡ accepted width case end) (header_b : read_header false b ≡ accepted width case end)
     (same_tape : drop end a ≡ drop end b) where
   abbrev text_of : List ℕ → Text
   text_of job = take (end - 9) (drop 9 job)

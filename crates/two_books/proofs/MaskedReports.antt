@@ -10,14 +10,14 @@ use lib.Seq.{get_or-take, get_or-drop}
 use lib.Dec.{leb}
 use Rattle.desk_job.specs.Written.{written}
 use Rattle.book.specs.declared.Tally.{Tally}
-use Rattle.book.specs.declared.told.Told.{Told}
-use Rattle.book.specs.declared.open.Opened.{Opened}
-use Rattle.book.specs.declared.open.Opened.TheVariants.{Fault, Jobs}
+use Rattle.std.specs.Prelude.{Result, Ok, Err}
+use Rattle.book.specs.declared.Reported.{Reported}
+use Rattle.book.specs.declared.open.BookFault.{BookFault}
+use Rattle.book.specs.declared.open.BookFault.TheVariants.{NotWhole}
 use Rattle.book.specs.Book.{job_end, is_whole, walk, opened, jobs_from}
-use Rattle.book.specs.Told.{told_job}
+use Rattle.book.specs.Told.{Told, told_job}
 use Rattle.book.specs.Tally.{zeros, tallied}
 use Rattle.book.specs.Report.{Called, job_lines, total_line, report_of, reported}
-use Rattle.two_books.specs.declared.Reports.{Reports}
 use Rattle.two_books.specs.MaskedBooks.{MaskedJobs, Pairs, SameCommands, MaskedBooks}
 use Rattle.two_books.specs.Both.{ReportsBoth}
 use Rattle.two_books.proofs.MaskedAnswers.{same-told}
@@ -50,10 +50,10 @@ module _ (a b : List ℕ) (l : length a ≡ length b) where
     same_whole = rw (l, same-command, same_end)
 
   -- one job whole or not, where the rest is the same
-  one_more : (w : Bool) (at n : ℕ) (x y : Opened) → (w ≡ true → x ≡ y)
-      → cond (leb (length b) at) (Jobs n) (cond w x (Fault 18 at)) ≡ cond (leb (length b) at) (Jobs n) (cond w y (Fault 18 at))
+  one_more : (w : Bool) (at n : ℕ) (x y : Result ℕ BookFault) → (w ≡ true → x ≡ y)
+      → cond (leb (length b) at) (Ok n) (cond w x (Err (NotWhole at))) ≡ cond (leb (length b) at) (Ok n) (cond w y (Err (NotWhole at)))
   one_more false at n x y f = refl
-  one_more true at n x y f = ap (λ (o : Opened). cond (leb (length b) at) (Jobs n) o) (f refl)
+  one_more true at n x y f = ap (λ (o : Result ℕ BookFault). cond (leb (length b) at) (Ok n) o) (f refl)
 
   same-walk : (k at n : ℕ) → SameCommands (suc k) a b at → walk k a at n ≡ walk k b at n
   unfolding walk
@@ -76,36 +76,36 @@ all_told_lem (x ∷ xs) [] h = absurd h
 all_told_lem (x ∷ xs) (y ∷ ys) h = rw (same-told x y h.0, all_told_lem xs ys h.1)
 
 -- lines and tally
-record OneReport (a b : List ℕ) (t : Tally) (o u : Opened) (wa wb : List ℕ) : Type 0 where
+record OneReport (a b : List ℕ) (t : Tally) (o u : Result ℕ BookFault) (wa wb : List ℕ) : Type 0 where
   lines : (report_of o a t wa).lines ≡ (report_of u b t wb).lines
   tally : (report_of o a t wa).tally ≡ (report_of u b t wb).tally
 
 module _ (a b : List ℕ) (t : Tally) (wa wb : List ℕ) where
-  by_opened : (o : Opened) → ((count : ℕ) → o ≡ Jobs count → Pairs MaskedJobs (jobs_from count a 0) (jobs_from count b 0)) → OneReport a b t o o wa wb
+  by_opened : (o : Result ℕ BookFault) → ((count : ℕ) → o ≡ Ok count → Pairs MaskedJobs (jobs_from count a 0) (jobs_from count b 0)) → OneReport a b t o o wa wb
   unfolding report_of
-  by_opened (Fault n p) f = record { lines = refl; tally = refl }
-  by_opened (Jobs count) f =
+  by_opened (Err e) f = record { lines = refl; tally = refl }
+  by_opened (Ok count) f =
       let e = all_told_lem (jobs_from count a 0) (jobs_from count b 0) (f count refl) in
       record {
         lines = ap (λ (told : List Told). job_lines 1 told ++ total_line (tallied zeros told)) e;
         tally = ap (tallied zeros) e;
       }
 
-module _ (more : Bool) (a b : List ℕ) (t : Tally) (wa wb xs us : List ℕ) (r : Reports) (va vb ys zs : List ℕ)
-    (p : ◌≡◌ {A = Called} (record { end = r.first.put; space = ys; work = va; tally = r.first.tally }) (reported more a t wa xs))
-    (q : ◌≡◌ {A = Called} (record { end = r.second.put; space = zs; work = vb; tally = r.second.tally }) (reported more b t wb us)) where
+module _ (more : Bool) (a b : List ℕ) (t : Tally) (wa wb xs us : List ℕ) (r : Reported × Reported) (va vb ys zs : List ℕ)
+    (p : ◌≡◌ {A = Called} (record { end = r.0.put; space = ys; work = va; tally = r.0.tally }) (reported more a t wa xs))
+    (q : ◌≡◌ {A = Called} (record { end = r.1.put; space = zs; work = vb; tally = r.1.tally }) (reported more b t wb us)) where
   module _ (m : MaskedBooks more a b) (same : xs ≡ us) where
     one : OneReport a b t (opened more a) (opened more b) wa wb
     one = rw (← (same-opened a b m.same_length more m.same_commands)) (by_opened a b t wa wb (opened more a) m.jobs)
 
-    one_end : r.first.put ≡ r.second.put
+    one_end : r.0.put ≡ r.1.put
     unfolding reported
     one_end =
         ap (λ (c : Called). c.end) p
         ∙ (λ i. (written 0 (one.lines i) (same i)).end)
         ∙ sym (ap (λ (c : Called). c.end) q)
 
-    one_tally : r.first.tally ≡ r.second.tally
+    one_tally : r.0.tally ≡ r.1.tally
     unfolding reported
     one_tally = ap (λ (c : Called). c.tally) p ∙ one.tally ∙ sym (ap (λ (c : Called). c.tally) q)
 
@@ -116,7 +116,7 @@ module _ (more : Bool) (a b : List ℕ) (t : Tally) (wa wb xs us : List ℕ) (r 
         ∙ (λ i. (written 0 (one.lines i) (same i)).space)
         ∙ sym (ap (λ (c : Called). c.space) q)
 
-    one_answer : r.first ≡ r.second
+    one_answer : r.0 ≡ r.1
     one_answer = λ i. record { put = one_end i; tally = one_tally i }
 
   pub reports_both : ReportsBoth more a b t wa wb xs us r va vb ys zs

@@ -6,8 +6,8 @@ use Prim.Native.Nat.{ℕ}
 use Rattle.layout.specs.MaskingNeeds.{masked}
 use Rattle.layout.proofs.MaskingNeeds.{met}
 use Rattle.desk_job.specs.Job.{has_command, text_end, read_header}
-use Rattle.book.specs.declared.open.Opened.{Opened}
-use Rattle.book.specs.declared.open.Opened.TheVariants.{Fault, Jobs}
+use Rattle.std.specs.Prelude.{Result, Ok, Err}
+use Rattle.book.specs.declared.open.BookFault.{BookFault}
 use Rattle.book.specs.Book.{job_end, is_whole, walk, opened, jobs_from}
 use Rattle.book.specs.SmallBooks.{example}
 use Rattle.two_books.specs.MaskedBooks.{MaskedJob, MaskedJobs, equal, masked as masked_jobs, Pairs, MaskedBooks}
@@ -19,11 +19,11 @@ a = worked_book masked.first
 abbrev b : List ℕ
 b = worked_book masked.second
 
-abbrev count_of : Opened → ℕ
-count_of (Fault n p) = 0
-count_of (Jobs count) = count
+abbrev count_of : Result ℕ BookFault → ℕ
+count_of (Err f) = 0
+count_of (Ok count) = count
 
-four-jobs : opened false a ≡ Jobs 4
+four-jobs : opened false a ≡ Ok 4
 unfolding opened walk is_whole job_end worked_book masked example
 four-jobs = refl
 

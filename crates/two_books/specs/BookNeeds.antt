@@ -1,5 +1,5 @@
 -- Each condition on two books is needed: for each a pair of small books that meets all the others and whose reports differ.
-use Rattle.std.specs.Prelude.{ℕ, zero, suc, ◌-◌, ◌≡◌, Bool, true, false, not, ◌&&◌, ◌||◌, List, [], ◌∷◌, ◌++◌, length, take, drop, T, eqb}
+use Rattle.std.specs.Prelude.{ℕ, zero, suc, ◌-◌, ◌≡◌, Bool, true, false, not, ◌&&◌, ◌||◌, List, [], ◌∷◌, ◌++◌, length, take, drop, T, eqb, Ok}
 use Rattle.keywords.specs.Words.{bytes, same}
 use Rattle.tape.specs.Kinds
 use Rattle.tape.specs.Tree.{done, Tree}
@@ -8,9 +8,7 @@ use Rattle.layout.specs.Masking.{MaskedPair}
 use Rattle.layout.specs.CourseSheet.{tok}
 use Rattle.layout.specs.MaskingTests.{Condition, same_length, no_newline, in_some_token, strictly_inside, in_quotes, not_copied, no_white_space_end, Asks}
 use Rattle.layout.specs.MaskingNeeds.{Pair, both_pass, Broken, number, pair, pairs, refused_by_four, refused_by_fifteen}
-use Rattle.desk_job.specs.declared.Header.TheVariants.{Accepted}
-use Rattle.desk_job.specs.Job.{read_header}
-use Rattle.book.specs.declared.open.Opened.TheVariants.{Jobs}
+use Rattle.desk_job.specs.Job.{read_header, accepted}
 use Rattle.book.specs.Book.{job_end, is_whole, opened, jobs_from}
 use Rattle.book.specs.Tally.{zeros}
 use Rattle.book.specs.Report.{report_of}
@@ -34,7 +32,7 @@ pub data OfBooks : Type 0 where
 abbrev pub AsksOfBooks : ℕ → OfBooks → List ℕ → List ℕ → Type 0
 AsksOfBooks commands one_length a b = length a ≡ length b
 AsksOfBooks commands one_walk a b = SameCommands commands a b 0
-AsksOfBooks commands each_pair a b = (count : ℕ) → opened false a ≡ Jobs count → Pairs MaskedJobs (jobs_from count a 0) (jobs_from count b 0)
+AsksOfBooks commands each_pair a b = (count : ℕ) → opened false a ≡ Ok count → Pairs MaskedJobs (jobs_from count a 0) (jobs_from count b 0)
 
 abbrev pub book_number : OfBooks → ℕ
 book_number one_length = 0
@@ -52,8 +50,8 @@ pub data OfJobs : Type 0 where
 
 -- as in `MaskedJob`
 abbrev pub AsksOfJobs : OfJobs → List ℕ → List ℕ → ℕ → ℕ → ℕ → Type 0
-AsksOfJobs header_a a b width case end = read_header false a ≡ Accepted width case end
-AsksOfJobs header_b a b width case end = read_header false b ≡ Accepted width case end
+AsksOfJobs header_a a b width case end = read_header false a ≡ accepted width case end
+AsksOfJobs header_b a b width case end = read_header false b ≡ accepted width case end
 AsksOfJobs same_tape a b width case end = drop end a ≡ drop end b
 AsksOfJobs texts a b width case end = MaskedPair width case (take (end - 9) (drop 9 a)) (take (end - 9) (drop 9 b)) (drop end a)
 

@@ -1,15 +1,13 @@
 -- Two books that differ only as the masking rule allows, in any number of jobs at the same time.
-use Rattle.std.specs.Prelude.{ℕ, zero, suc, ◌-◌, ◌≡◌, Bool, true, false, List, [], ◌∷◌, length, take, drop}
+use Rattle.std.specs.Prelude.{ℕ, zero, suc, ◌-◌, ◌≡◌, Bool, true, false, List, [], ◌∷◌, length, take, drop, Ok}
 use Rattle.layout.specs.Masking.{MaskedPair}
-use Rattle.desk_job.specs.declared.Header.TheVariants.{Accepted}
-use Rattle.desk_job.specs.Job.{read_header}
-use Rattle.book.specs.declared.open.Opened.TheVariants.{Jobs}
+use Rattle.desk_job.specs.Job.{read_header, accepted}
 use Rattle.book.specs.Book.{job_end, is_whole, opened, jobs_from}
 
 -- two jobs with the same header and tape, whose texts are a masked pair for these settings and this tape
 pub record MaskedJob (a b : List ℕ) (width case end : ℕ) : Type 0 where
-  pub header_a : read_header false a ≡ Accepted width case end
-  pub header_b : read_header false b ≡ Accepted width case end
+  pub header_a : read_header false a ≡ accepted width case end
+  pub header_b : read_header false b ≡ accepted width case end
   pub same_tape : drop end a ≡ drop end b
   pub texts : MaskedPair width case (take (end - 9) (drop 9 a)) (take (end - 9) (drop 9 b)) (drop end a)
 
@@ -35,4 +33,4 @@ SameCommands (suc more) a b at =
 pub record MaskedBooks (more : Bool) (a b : List ℕ) : Type 0 where
   pub same_length : length a ≡ length b
   pub same_commands : SameCommands 257 a b 0
-  pub jobs : (count : ℕ) → opened more a ≡ Jobs count → Pairs MaskedJobs (jobs_from count a 0) (jobs_from count b 0)
+  pub jobs : (count : ℕ) → opened more a ≡ Ok count → Pairs MaskedJobs (jobs_from count a 0) (jobs_from count b 0)

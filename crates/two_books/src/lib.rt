@@ -5,12 +5,6 @@ ghost use Rattle.two_books.specs.Both.{ReportsBoth};
 
 use book::{Reported, Tally, report_from};
 
-#[derive(Clone, Copy)]
-pub struct Reports {
-    pub first: Reported,
-    pub second: Reported,
-}
-
 // Both calls are lent a tally of the same numbers; the working spaces may hold anything.
 pub fn report_both(
     a: &[u8],
@@ -21,13 +15,10 @@ pub fn report_both(
     work_b: &mut [u8; 65536],
     out_a: &mut [u8],
     out_b: &mut [u8],
-) -> Reports
+) -> (Reported, Reported)
     ensures { ReportsBoth more a.now b.now tally work_a.old work_b.old out_a.old out_b.old result work_a.new work_b.new out_a.new out_b.new }
 {
     let first = report_from(a, more, tally, work_a, out_a);
     let second = report_from(b, more, tally, work_b, out_b);
-    Reports {
-        first: first,
-        second: second,
-    }
+    (first, second)
 }

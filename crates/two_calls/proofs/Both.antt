@@ -10,13 +10,13 @@ use Rattle.layout.specs.MapCall.{Mapped, mapped, numbers}
 use Rattle.layout.proofs.TwoCalls.{masking_original, cells_after_lem}
 use Rattle.layout.proofs.MapCalls.{masking_maps, map-cells_after, maps-masked}
 use Rattle.layout.proofs.OneLength.{one_value_lem}
-use Rattle.two_calls.specs.declared.Answers.{Answers}
+use Rattle.layout.specs.declared.Answer.{Answer}
 use Rattle.two_calls.specs.Both.{LaysOutBoth, LaysOutTwice, MapsBoth}
 
-module _ (a b : Text) (tape : List ℕ) (width case : ℕ) (r : Answers) where
+module _ (a b : Text) (tape : List ℕ) (width case : ℕ) (r : Answer × Answer) where
   pub lays_out-both : (xs us : List ℕ) {ys zs : List ℕ}
-      → ◌≡◌ {A = Result} (record { answer = r.first; space = ys }) (laid_out (outcome original width case a tape) xs)
-      → ◌≡◌ {A = Result} (record { answer = r.second; space = zs }) (laid_out (outcome original width case b tape) us)
+      → ◌≡◌ {A = Result} (record { answer = r.0; space = ys }) (laid_out (outcome original width case a tape) xs)
+      → ◌≡◌ {A = Result} (record { answer = r.1; space = zs }) (laid_out (outcome original width case b tape) us)
       → LaysOutBoth a b tape width case xs us r ys zs
   lays_out-both xs us {ys} {zs} p q =
       record {
@@ -27,7 +27,7 @@ module _ (a b : Text) (tape : List ℕ) (width case : ℕ) (r : Answers) where
             let k = masking_original width case a b tape m xs in
             let x = outcome original width case a tape in
             let y = outcome original width case b tape in
-            let q' : ◌≡◌ {A = Result} (record { answer = r.second; space = zs }) (laid_out y xs) = q ∙ ap (λ (s : List ℕ). laid_out y s) (sym e) in
+            let q' : ◌≡◌ {A = Result} (record { answer = r.1; space = zs }) (laid_out y xs) = q ∙ ap (λ (s : List ℕ). laid_out y s) (sym e) in
             let u : ys ≡ (laid_out x xs).space = ap (λ (z : Result). z.space) p in
             let v : zs ≡ (laid_out y xs).space = ap (λ (z : Result). z.space) q' in (
               ap (λ (z : Result). z.answer) p ∙ k.answers ∙ sym (ap (λ (z : Result). z.answer) q'),
@@ -41,8 +41,8 @@ module _ (a b : Text) (tape : List ℕ) (width case : ℕ) (r : Answers) where
       }
 
   pub maps-both : (xs us ms ls : List ℕ) {ys zs ns os : List ℕ}
-      → ◌≡◌ {A = Mapped} (record { answer = r.first; space = ys; map = ns }) (mapped width case a tape xs ms)
-      → ◌≡◌ {A = Mapped} (record { answer = r.second; space = zs; map = os }) (mapped width case b tape us ls)
+      → ◌≡◌ {A = Mapped} (record { answer = r.0; space = ys; map = ns }) (mapped width case a tape xs ms)
+      → ◌≡◌ {A = Mapped} (record { answer = r.1; space = zs; map = os }) (mapped width case b tape us ls)
       → MapsBoth a b tape width case xs us ms ls r ys zs ns os
   unfolding mapped
   maps-both xs us ms ls {ys} {zs} {ns} {os} p q =
@@ -73,13 +73,13 @@ module _ (a b : Text) (tape : List ℕ) (width case : ℕ) (r : Answers) where
             );
       }
     where
-      second : xs ≡ us → ms ≡ ls → ◌≡◌ {A = Mapped} (record { answer = r.second; space = zs; map = os }) (mapped width case b tape xs ms)
+      second : xs ≡ us → ms ≡ ls → ◌≡◌ {A = Mapped} (record { answer = r.1; space = zs; map = os }) (mapped width case b tape xs ms)
       second e d = q ∙ ap (λ (s : List ℕ). mapped width case b tape s ls) (sym e) ∙ ap (mapped width case b tape xs) (sym d)
 
-module _ (text : Text) (tape : List ℕ) (width case : ℕ) (r : Answers) where
+module _ (text : Text) (tape : List ℕ) (width case : ℕ) (r : Answer × Answer) where
   pub lays_out-twice : (xs us : List ℕ) {ys zs : List ℕ}
-      → ◌≡◌ {A = Result} (record { answer = r.first; space = ys }) (laid_out (outcome original width case text tape) xs)
-      → ◌≡◌ {A = Result} (record { answer = r.second; space = zs }) (laid_out (outcome original width case text tape) us)
+      → ◌≡◌ {A = Result} (record { answer = r.0; space = ys }) (laid_out (outcome original width case text tape) xs)
+      → ◌≡◌ {A = Result} (record { answer = r.1; space = zs }) (laid_out (outcome original width case text tape) us)
       → LaysOutTwice text tape width case xs us r ys zs
   lays_out-twice xs us p q =
       record {

@@ -6,12 +6,6 @@ ghost use Rattle.two_calls.specs.Both.{LaysOutBoth, LaysOutTwice, MapsBoth};
 use formatter::{layout, layout_map};
 use layout::Answer;
 
-#[derive(Clone, Copy)]
-pub struct Answers {
-    pub first: Answer,
-    pub second: Answer,
-}
-
 pub fn layout_both(
     a: &[u8],
     b: &[u8],
@@ -20,15 +14,12 @@ pub fn layout_both(
     case: u64,
     out_a: &mut [u8],
     out_b: &mut [u8],
-) -> Answers
+) -> (Answer, Answer)
     ensures { LaysOutBoth a.now b.now tape.now width case out_a.old out_b.old result out_a.new out_b.new }
 {
     let first = layout(a, tape, width, case, out_a);
     let second = layout(b, tape, width, case, out_b);
-    Answers {
-        first: first,
-        second: second,
-    }
+    (first, second)
 }
 
 // Request E3: both with a token map.
@@ -42,15 +33,12 @@ pub fn layout_map_both(
     out_b: &mut [u8],
     map_a: &mut [u64],
     map_b: &mut [u64],
-) -> Answers
+) -> (Answer, Answer)
     ensures { MapsBoth a.now b.now tape.now width case out_a.old out_b.old map_a.old map_b.old result out_a.new out_b.new map_a.new map_b.new }
 {
     let first = layout_map(a, tape, width, case, out_a, map_a);
     let second = layout_map(b, tape, width, case, out_b, map_b);
-    Answers {
-        first: first,
-        second: second,
-    }
+    (first, second)
 }
 
 // Request E5: one input in two spaces.
@@ -61,7 +49,7 @@ pub fn layout_twice(
     case: u64,
     out_a: &mut [u8],
     out_b: &mut [u8],
-) -> Answers
+) -> (Answer, Answer)
     ensures { LaysOutTwice text.now tape.now width case out_a.old out_b.old result out_a.new out_b.new }
 {
     layout_both(text, text, tape, width, case, out_a, out_b)

@@ -10,7 +10,7 @@ use lib.Seq.{length-take-le, take-take, take-append-le, drop-append-le, get_or-d
 use lib.Dec.{eqb}
 use borrow.Author.Tests.{eqb-true, eqb-false}
 use Rattle.basics.specs.Bytes.{token_text}
-use Rattle.utf8.specs.declared.Place.TheVariants.{Nowhere}
+use Rattle.std.specs.Prelude.{None}
 use Rattle.utf8.specs.Table.{holds, character_length, is_ascii}
 use Rattle.utf8.specs.Pieces.{first_ill_formed, WellFormed, is_trailing, Boundary, Starts}
 use Rattle.utf8.proofs.Rows.{shape}
@@ -18,7 +18,7 @@ use Rattle.utf8.proofs.Cutting.{ill_here, no_place_lem}
 use Rattle.utf8.proofs.CharacterLength.{ascii-passed, ascii_take, ascii-part}
 
 -- where nothing is ill-formed, a character begins
-well_starts : (q : ℕ) (xs : List ℕ) → first_ill_formed q xs ≡ Nowhere → Starts xs
+well_starts : (q : ℕ) (xs : List ℕ) → first_ill_formed q xs ≡ None → Starts xs
 unfolding is_trailing holds
 well_starts q [] e = refl
 well_starts q (x ∷ xs) e = go (eqb (character_length (x ∷ xs)) 0) refl

@@ -11,7 +11,7 @@ use lib.Seq.{length-take-le, drop-drop, get_or-drop}
 use lib.Dec.{ltb}
 use borrow.Author.Tests.{lt-ltb, ltb-true, ltb-false}
 use Rattle.basics.specs.Bytes.{token_text}
-use Rattle.utf8.specs.declared.Place.TheVariants.{Nowhere}
+use Rattle.std.specs.Prelude.{None}
 use Rattle.utf8.specs.Table.{holds, character_length}
 use Rattle.utf8.specs.Pieces.{Piece, character, stray, piece_at, later, cut, pieces, first_stray, first_ill_formed, WellFormed, inside, is_trailing, Boundary, Starts}
 use Rattle.utf8.proofs.Rows.{Shape, shape}
@@ -24,8 +24,8 @@ module _ (x : ℕ) (xs : List ℕ) where
   among_first m s (suc k) h = lt-ltb 0 (suc k) (omega arith) ∙ sym (s.tail k h)
 
   step : (n : ℕ) → Shape (x ∷ xs) n
-      → ((q p : ℕ) → first_stray q (cut (later n) xs) ≡ Nowhere → inside p (cut (later n) xs) ≡ is_trailing (get_or xs (later n + p) 0))
-      → (q p : ℕ) → first_stray q (piece_at n x xs ∷ cut (later n) xs) ≡ Nowhere
+      → ((q p : ℕ) → first_stray q (cut (later n) xs) ≡ None → inside p (cut (later n) xs) ≡ is_trailing (get_or xs (later n + p) 0))
+      → (q p : ℕ) → first_stray q (piece_at n x xs ∷ cut (later n) xs) ≡ None
       → inside p (piece_at n x xs ∷ cut (later n) xs) ≡ is_trailing (get_or (x ∷ xs) p 0)
   step zero s ih q p e = absurd (no_place_lem e)
   step (suc m) s ih q p e =
@@ -41,7 +41,7 @@ module _ (x : ℕ) (xs : List ℕ) where
           let v : suc (m + (p - suc m)) ≡ p = omega arith in
           i ∙ ap (λ k. is_trailing (get_or (x ∷ xs) k 0)) v
 
-inside-cut : (k : ℕ) (xs : List ℕ) (q p : ℕ) → first_stray q (cut k xs) ≡ Nowhere → inside p (cut k xs) ≡ is_trailing (get_or xs (k + p) 0)
+inside-cut : (k : ℕ) (xs : List ℕ) (q p : ℕ) → first_stray q (cut k xs) ≡ None → inside p (cut k xs) ≡ is_trailing (get_or xs (k + p) 0)
 unfolding cut is_trailing holds
 inside-cut zero [] q p e = refl
 inside-cut (suc k) [] q p e = refl
@@ -56,17 +56,17 @@ inside-trailing text w p = inside-cut 0 text 0 p w ∙ ap (λ k. is_trailing (ge
 -- ── parts
 
 -- where nothing is ill-formed, it does not matter from where places are counted
-stray-from : (p q : ℕ) (ps : List Piece) → first_stray p ps ≡ Nowhere → first_stray q ps ≡ Nowhere
+stray-from : (p q : ℕ) (ps : List Piece) → first_stray p ps ≡ None → first_stray q ps ≡ None
 stray-from p q [] e = refl
 stray-from p q (character c ∷ ps) e = stray-from (p + length c) (q + length c) ps e
 stray-from p q (stray b ∷ ps) e = absurd (no_place_lem e)
 
-stray-front : (p : ℕ) (ps qs : List Piece) → first_stray p (ps ++ qs) ≡ Nowhere → first_stray p ps ≡ Nowhere
+stray-front : (p : ℕ) (ps qs : List Piece) → first_stray p (ps ++ qs) ≡ None → first_stray p ps ≡ None
 stray-front p [] qs e = refl
 stray-front p (character c ∷ ps) qs e = stray-front (p + length c) ps qs e
 stray-front p (stray b ∷ ps) qs e = e
 
-stray-back : (p : ℕ) (ps qs : List Piece) → first_stray p (ps ++ qs) ≡ Nowhere → first_stray p qs ≡ Nowhere
+stray-back : (p : ℕ) (ps qs : List Piece) → first_stray p (ps ++ qs) ≡ None → first_stray p qs ≡ None
 stray-back p [] qs e = e
 stray-back p (character c ∷ ps) qs e = stray-from (p + length c) p qs (stray-back (p + length c) ps qs e)
 stray-back p (stray b ∷ ps) qs e = absurd (no_place_lem e)

@@ -5,8 +5,7 @@ use mathlib.Core.Path.{◌≡◌, refl, ap, ap₂, ◌∙◌}
 use mathlib.Core.List.{List, [], ◌∷◌, ◌++◌}
 use lib.ListN.{length, take, drop, take-append-drop}
 use lib.Seq.{take-append-le, take-length, drop-length, length-take-le}
-use Rattle.utf8.specs.declared.Place.{Place}
-use Rattle.utf8.specs.declared.Place.TheVariants.{Nowhere, At}
+use Rattle.std.specs.Prelude.{Option, Some, None}
 use Rattle.utf8.specs.Table.{character_length}
 use Rattle.utf8.specs.Pieces.{character, bytes_of, all_bytes, piece_at, later, cut, pieces, first_stray, first_ill_formed, Starts}
 use Rattle.utf8.proofs.Rows.{shape, length-append_char}
@@ -81,14 +80,14 @@ unfolding first_ill_formed
 ill_on p [] h e = absurd (omega arith)
 ill_on p (x ∷ xs) h e = ap (first_stray p) (cut-here x xs) ∙ ill_cons p (character_length (x ∷ xs)) x xs (later-in x xs) e
 
-pub ill_here : (p : ℕ) (xs : List ℕ) → 0 < length xs → character_length xs ≡ 0 → first_ill_formed p xs ≡ At p
+pub ill_here : (p : ℕ) (xs : List ℕ) → 0 < length xs → character_length xs ≡ 0 → first_ill_formed p xs ≡ Some p
 unfolding first_ill_formed
 ill_here p [] h e = absurd (omega arith)
 ill_here p (x ∷ xs) h e = ap (first_stray p) (cut-here x xs) ∙ ap (λ n. first_stray p (piece_at n x xs ∷ cut (later n) xs)) e
 
-pub ill_none : (p : ℕ) → first_ill_formed p [] ≡ Nowhere
+pub ill_none : (p : ℕ) → first_ill_formed p [] ≡ None
 unfolding first_ill_formed cut
 ill_none p = refl
 
-pub no_place_lem : {p : ℕ} → ◌≡◌ {A = Place} (At p) Nowhere → ⊥
+pub no_place_lem : {p : ℕ} → ◌≡◌ {A = Option ℕ} (Some p) None → ⊥
 no_place_lem u = let z : ◌≡◌ {A = ℕ} 0 1 = cc in omega arith

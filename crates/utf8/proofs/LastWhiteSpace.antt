@@ -8,12 +8,12 @@ use lib.ListN.{length, take, drop, get_or, length-append}
 use lib.Seq.{take-add, drop-cons, get_or-take, get_or-append-add, length-take-le}
 use lib.Dec.{eqb}
 use borrow.Author.Tests.{eqb-true, eqb-false, not-true}
-use Rattle.utf8.specs.Table.{◌‥◌, holds, character_length}
+use Rattle.utf8.specs.Table.{holds, character_length}
 use Rattle.utf8.specs.Pieces.{Piece, character, stray, bytes_of, all_bytes, pieces, is_trailing, Starts}
 use Rattle.utf8.specs.WhiteSpace.{white_characters, is_white_space}
 use Rattle.utf8.specs.Trimming.{is_white_byte}
 use Rattle.utf8.specs.Steps.{white_pair, white_triple, white_bytes, end_white}
-use Rattle.utf8.proofs.Tests.{left, right, never, holds-low, holds-high}
+use Rattle.utf8.proofs.Tests.{left, right, never}
 use Rattle.utf8.proofs.Rows.{trailing_below}
 use Rattle.utf8.proofs.Cutting.{all-bytes, pieces-append, pieces-one}
 use Rattle.utf8.proofs.CharacterLength.{one}
@@ -181,11 +181,8 @@ module _ (text : List ℕ) (n : ℕ) (within : n ≤ length text) where
   byte-before p w = ending_in (take (n - 1) text) (byte 1 ∷ []) (last_one p) w
 
   -- the test that most texts need
-  pub solid_before : 0 < n → holds (33 ‥ 127) (byte 1) ≡ true → Before 0
-  solid_before p t =
-      let u = holds-low (33 ‥ 127) (byte 1) t in
-      let v = holds-high (33 ‥ 127) (byte 1) t in
-      ascii-before p (omega arith) false (not_white (byte 1) (omega arith) (λ z. omega arith))
+  pub solid_before : 0 < n → 33 ≤ byte 1 → byte 1 ≤ 127 → Before 0
+  solid_before p u v = ascii-before p (omega arith) false (not_white (byte 1) (omega arith) (λ z. omega arith))
 
   pub pair-before : 2 ≤ n → white_pair (byte 2) (byte 1) ≡ true → Before 2
   pair-before p h = ending_in (take (n - 2) text) (byte 2 ∷ byte 1 ∷ []) (last_two p) h

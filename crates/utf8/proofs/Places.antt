@@ -5,7 +5,7 @@ use mathlib.Core.Path.{◌≡◌, sym, ap, ◌∙◌}
 use mathlib.Core.List.{List}
 use lib.ListN.{length, drop, length-drop}
 use lib.Seq.{drop-drop, drop-length}
-use Rattle.utf8.specs.declared.Place.TheVariants.{Nowhere, At}
+use Rattle.std.specs.Prelude.{Some, None}
 use Rattle.utf8.specs.Table.{character_length}
 use Rattle.utf8.specs.Pieces.{first_ill_formed}
 use Rattle.utf8.specs.Steps.{AsciiBlock}
@@ -20,7 +20,7 @@ module _ (text : List ℕ) (i n : ℕ) (in_text : i < length text) (is : n ≡ c
   some_left : 0 < length (drop i text)
   some_left = omega (arith, length-drop i text)
 
-  pub ill_at : n ≡ 0 → first_ill_formed i (drop i text) ≡ At i
+  pub ill_at : n ≡ 0 → first_ill_formed i (drop i text) ≡ Some i
   ill_at z = ill_here i (drop i text) some_left (sym is ∙ z)
 
   pub ill_after : (n ≡ 0 → ⊥) → first_ill_formed i (drop i text) ≡ first_ill_formed (i + n) (drop (i + n) text)
@@ -35,7 +35,7 @@ ill_past_block text i b =
     let l : 32 ≤ length (drop i text) = omega (arith, length-drop i text, b.inside) in
     ascii-passed i 32 (drop i text) l b.ascii ∙ ap (first_ill_formed (i + 32)) (drop-drop 32 i text)
 
-pub ill_end : (text : List ℕ) (i : ℕ) → i ≤ length text → length text ≤ i → first_ill_formed i (drop i text) ≡ Nowhere
+pub ill_end : (text : List ℕ) (i : ℕ) → i ≤ length text → length text ≤ i → first_ill_formed i (drop i text) ≡ None
 ill_end text i u v =
     let e : i ≡ length text = omega arith in
     ap (first_ill_formed i) (ap (λ k. drop k text) e ∙ drop-length text) ∙ ill_none i

@@ -10,8 +10,7 @@ use lib.ListN.{length, drop, get_or}
 use lib.Seq.{get_or-drop}
 use lib.Dec.{ltb, eqb}
 use borrow.Author.Tests.{ltb-true, ltb-false, eqb-true, eqb-false}
-use Rattle.utf8.specs.declared.Place.{Place}
-use Rattle.utf8.specs.declared.Place.TheVariants.{Nowhere, At}
+use Rattle.std.specs.Prelude.{Option, Some, None}
 use Rattle.utf8.specs.Table.{character_length}
 use Rattle.utf8.specs.Pieces.{first_ill_formed, WellFormed, is_trailing}
 use Rattle.utf8.specs.Parts.{PartOf}
@@ -24,9 +23,9 @@ module _ (text : List ℕ) where
   abbrev Passed : ℕ → Type 0
   Passed i = (k : ℕ) → k < i → PartOf text k × ((is_trailing (get_or text k 0) ≡ true) ⊎ (k + character_length (drop k text) ≤ i))
 
-  abbrev Reached : Place → Type 0
-  Reached Nowhere = Passed (length text)
-  Reached (At p) = (p < length text) × Passed p × (character_length (drop p text) ≡ 0)
+  abbrev Reached : Option ℕ → Type 0
+  Reached None = Passed (length text)
+  Reached (Some p) = (p < length text) × Passed p × (character_length (drop p text) ≡ 0)
 
   module _ (i n : ℕ) (is : n ≡ character_length (drop i text)) where
     begun : (k : ℕ) → i ≤ k → k < i + n → (t : Bool) → eqb k i ≡ t → (is_trailing (get_or text k 0) ≡ true) ⊎ (k + character_length (drop k text) ≤ i + n)
@@ -84,8 +83,8 @@ module _ (text : List ℕ) where
   pub whole : WellFormed text → (k : ℕ) → k < length text → PartOf text k
   whole w k h = (subst Reached w reached k h).0
 
-  module _ (p : ℕ) (found : first_ill_formed 0 text ≡ At p) where
-    abbrev at : Reached (At p)
+  module _ (p : ℕ) (found : first_ill_formed 0 text ≡ Some p) where
+    abbrev at : Reached (Some p)
     at = subst Reached found reached
 
     pub in_text : p < length text

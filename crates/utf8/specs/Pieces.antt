@@ -1,7 +1,5 @@
 -- A text cut into its characters. A byte at which no well-formed character begins is a piece of its own, so that every text can be cut.
-use Rattle.std.specs.Prelude.{ℕ, zero, suc, ◌+◌, ◌-◌, ◌≡◌, Bool, cond, false, List, [], ◌∷◌, ◌++◌, length, take, get_or, ltb}
-use Rattle.utf8.specs.declared.Place.{Place}
-use Rattle.utf8.specs.declared.Place.TheVariants.{Nowhere, At}
+use Rattle.std.specs.Prelude.{ℕ, zero, suc, ◌+◌, ◌-◌, ◌≡◌, Bool, cond, false, List, [], ◌∷◌, ◌++◌, length, take, get_or, ltb, Option, Some, None}
 use Rattle.utf8.specs.Table.{◌‥◌, holds, character_length}
 
 pub data Piece : Type 0 where
@@ -37,17 +35,17 @@ cut zero (b ∷ bs) = piece_at (character_length (b ∷ bs)) b bs ∷ cut (later
 abbrev pub pieces : List ℕ → List Piece
 pieces text = cut 0 text
 
-abbrev pub first_stray : ℕ → List Piece → Place
-first_stray p [] = Nowhere
+abbrev pub first_stray : ℕ → List Piece → Option ℕ
+first_stray p [] = None
 first_stray p (character c ∷ ps) = first_stray (p + length c) ps
-first_stray p (stray b ∷ ps) = At p
+first_stray p (stray b ∷ ps) = Some p
 
 -- the place of the first byte that is not part of a well-formed character, counted from p
-unfoldable pub first_ill_formed : ℕ → List ℕ → Place
+unfoldable pub first_ill_formed : ℕ → List ℕ → Option ℕ
 first_ill_formed p text = first_stray p (pieces text)
 
 abbrev pub WellFormed : List ℕ → Type 0
-WellFormed text = first_ill_formed 0 text ≡ Nowhere
+WellFormed text = first_ill_formed 0 text ≡ None
 
 -- whether place p lies strictly inside one of these pieces
 abbrev pub inside : ℕ → List Piece → Bool

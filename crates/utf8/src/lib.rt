@@ -1,114 +1,69 @@
 // Well-formed UTF-8: the first ill-formed byte, the bounds of characters, and trailing white space.
 #![tactic(auto)]
 
-ghost use Rattle.std.specs.Prelude.{◌≡◌, true, not, ◌≤◌, ◌<◌, length, take, drop, get_or};
+ghost use Rattle.std.specs.Prelude.{◌≡◌, true, not, ◌&&◌, ◌+◌, ◌≤◌, ◌<◌, length, take, drop, get_or};
 ghost use Rattle.utf8.specs.Table.{◌‥◌, holds, character_length, is_ascii};
 ghost use Rattle.utf8.specs.Pieces.{pieces, first_ill_formed, is_trailing};
 ghost use Rattle.utf8.specs.Trimming.{trimmed_length, is_white_byte};
 ghost use Rattle.utf8.specs.Steps.{AsciiBlock, is_second, white_pair, white_last, white_triple, end_white};
 
-// A place in the text, or none.
-#[derive(Clone, Copy)]
-pub enum Place {
-    Nowhere,
-    At(usize),
-}
-
 // The byte at a place; 0 past the end, which is no later byte of a character.
 fn byte_at(text: &[u8], at: usize) -> u8
     ensures { result ≡ get_or text.now at 0 }
 {
-    if at < text.len() {
-        return text[at];
-    }
-    0
-}
-
-// From low to high, both counted in.
-fn in_range(low: u8, high: u8, b: u8) -> bool
-    ensures { result ≡ holds (low ‥ high) b }
-{
-    if b < low {
-        return false;
-    }
-    b <= high
+    text.get(at).copied().unwrap_or(0)
 }
 
 // A second, third or fourth byte of a character.
+#[tactic(auto, using(std::proofs::lemmas::Bool::Decides::nat_tests), unfolding(crate::specs::Pieces::is_trailing, crate::specs::Table::holds))]
 fn is_trailing(b: u8) -> bool
     ensures { result ≡ is_trailing b }
 {
-    in_range(0x80, 0xBF, b)
+    matches!(b, 0x80..=0xBF)
 }
 
 // A second byte after a first byte from E0 to F4.
+#[tactic(auto, using(std::proofs::lemmas::Bool::Decides::nat_tests), unfolding(crate::specs::Steps::is_second, crate::specs::Pieces::is_trailing, crate::specs::Table::holds))]
 fn is_second(a: u8, b: u8) -> bool
     ensures { result ≡ is_second a b }
 {
-    if a == 0xE0 {
-        return in_range(0xA0, 0xBF, b);
+    match a {
+        0xE0 => matches!(b, 0xA0..=0xBF),
+        0xED => matches!(b, 0x80..=0x9F),
+        0xF0 => matches!(b, 0x90..=0xBF),
+        0xF4 => matches!(b, 0x80..=0x8F),
+        _ => is_trailing(b),
     }
-    if a == 0xED {
-        return in_range(0x80, 0x9F, b);
-    }
-    if a == 0xF0 {
-        return in_range(0x90, 0xBF, b);
-    }
-    if a == 0xF4 {
-        return in_range(0x80, 0x8F, b);
-    }
-    in_range(0x80, 0xBF, b)
+}
+
+// Whether the second and the third byte go with a first byte from E0 to F4.
+fn goes_on(text: &[u8], at: usize) -> bool
+    requires { at < length text.now }
+    ensures { result ≡ (is_second (get_or text.now at 0) (get_or text.now (at + 1) 0) && is_trailing (get_or text.now (at + 2) 0)) }
+{
+    is_second(text[at], byte_at(text, at + 1)) && is_trailing(byte_at(text, at + 2))
 }
 
 // The length of the character that begins at a place, or 0.
+#[tactic(auto, using(std::proofs::lemmas::Bool::Decides::nat_tests, crate::proofs::CharacterLength::length_at))]
 fn character_length(text: &[u8], at: usize) -> usize
     requires { at < length text.now }
     ensures { result ≡ character_length (drop at text.now) }
 {
-    let a = text[at];
-    if a < 0x80 {
-        return 1;
+    match text[at] {
+        0..=0x7F => 1,
+        0xC2..=0xDF if is_trailing(byte_at(text, at + 1)) => 2,
+        0xE0..=0xEF if goes_on(text, at) => 3,
+        0xF0..=0xF4 if goes_on(text, at) && is_trailing(byte_at(text, at + 3)) => 4,
+        _ => 0,
     }
-    if a < 0xC2 {
-        return 0;
-    }
-    if 0xF4 < a {
-        return 0;
-    }
-    let b = byte_at(text, at + 1);
-    if a < 0xE0 {
-        if is_trailing(b) {
-            return 2;
-        }
-        return 0;
-    }
-    if is_second(a, b) {
-        if is_trailing(byte_at(text, at + 2)) {
-            if a < 0xF0 {
-                return 3;
-            }
-            if is_trailing(byte_at(text, at + 3)) {
-                return 4;
-            }
-        }
-    }
-    0
 }
 
-// Whether every byte is below 128. It has no early exit, so that the machine takes many bytes at a time.
+// Whether every byte is below 128: the highest is. It has no early exit, so that the machine takes many bytes at a time.
 pub fn is_ascii(text: &[u8]) -> bool
     ensures { result ≡ is_ascii text.now }
 {
-    let mut highest: u8 = 0;
-    let mut i: usize = 0;
-    while i < text.len() {
-        let b = text[i];
-        if highest < b {
-            highest = b;
-        }
-        i += 1;
-    }
-    highest < 128
+    text.iter().fold(0, |highest: u8, b| highest.max(*b)) < 128
 }
 
 // So many bytes are tested for ASCII together.
@@ -119,11 +74,10 @@ fn is_ascii_block(text: &[u8], at: usize) -> bool
     requires { at ≤ length text.now }
     ensures { result ≡ true → AsciiBlock text.now at }
 {
-    if text.len() - at < BLOCK {
-        return false;
+    match text[at..].first_chunk::<BLOCK>() {
+        Some(block) => is_ascii(block),
+        None => false,
     }
-    let end = at + BLOCK;
-    is_ascii(&text[at..end])
 }
 
 // Where a block from a place on ends, or the text.
@@ -131,11 +85,11 @@ fn block_end(len: usize, at: usize) -> usize
     requires { at < len }
     ensures { (at < result) × (result ≤ len) }
 {
-    if len - at < BLOCK { len } else { at + BLOCK }
+    at + BLOCK.min(len - at)
 }
 
 // The place of the first byte that is not part of a well-formed character. Blocks of ASCII are passed over; the others go character by character.
-pub fn first_ill_formed(text: &[u8]) -> Place
+pub fn first_ill_formed(text: &[u8]) -> Option<usize>
     ensures { result ≡ first_ill_formed 0 text.now }
 {
     let mut i: usize = 0;
@@ -147,13 +101,13 @@ pub fn first_ill_formed(text: &[u8]) -> Place
             while i < end {
                 let n = character_length(text, i);
                 if n == 0 {
-                    return Place::At(i);
+                    return Some(i);
                 }
                 i += n;
             }
         }
     }
-    Place::Nowhere
+    None
 }
 
 // Whether a place of a well-formed text lies between two characters, or at an end.
@@ -164,98 +118,55 @@ pub fn is_boundary(text: &[u8], place: usize) -> bool
 }
 
 // 9 to 13 and 32
+#[tactic(auto, using(std::proofs::lemmas::Bool::Decides::nat_tests), unfolding(crate::specs::Trimming::is_white_byte))]
 pub fn is_white_byte(b: u8) -> bool
     ensures { result ≡ is_white_byte b }
 {
-    if b == 32 {
-        return true;
-    }
-    in_range(9, 13, b)
+    matches!(b, 32 | 9..=13)
 }
 
 // U+0085 and U+00A0
+#[tactic(auto, using(std::proofs::lemmas::Bool::Decides::nat_tests), unfolding(crate::specs::Steps::white_pair))]
 fn is_white_pair(a: u8, b: u8) -> bool
     ensures { result ≡ white_pair a b }
 {
-    if a == 0xC2 {
-        if b == 0x85 {
-            return true;
-        }
-        return b == 0xA0;
-    }
-    false
+    a == 0xC2 && matches!(b, 0x85 | 0xA0)
 }
 
 // After E2 80: U+2000 to U+200A, U+2028, U+2029 and U+202F
+#[tactic(auto, using(std::proofs::lemmas::Bool::Decides::nat_tests), unfolding(crate::specs::Steps::white_last, crate::specs::Table::holds))]
 fn is_white_last(c: u8) -> bool
     ensures { result ≡ white_last c }
 {
-    if in_range(0x80, 0x8A, c) {
-        return true;
-    }
-    if c == 0xA8 {
-        return true;
-    }
-    if c == 0xA9 {
-        return true;
-    }
-    c == 0xAF
+    matches!(c, 0x80..=0x8A | 0xA8 | 0xA9 | 0xAF)
 }
 
 // These, and U+205F, U+1680 and U+3000
+#[tactic(auto, using(std::proofs::lemmas::Bool::Decides::nat_tests), unfolding(crate::specs::Steps::white_triple))]
 fn is_white_triple(a: u8, b: u8, c: u8) -> bool
     ensures { result ≡ white_triple a b c }
 {
-    if a == 0xE2 {
-        if b == 0x80 {
-            return is_white_last(c);
-        }
-        if b == 0x81 {
-            return c == 0x9F;
-        }
-        return false;
+    match (a, b) {
+        (0xE2, 0x80) => is_white_last(c),
+        (0xE2, 0x81) => c == 0x9F,
+        (0xE1, 0x9A) | (0xE3, 0x80) => c == 0x80,
+        _ => false,
     }
-    if a == 0xE1 {
-        if b == 0x9A {
-            return c == 0x80;
-        }
-        return false;
-    }
-    if a == 0xE3 {
-        if b == 0x80 {
-            return c == 0x80;
-        }
-        return false;
-    }
-    false
 }
 
-// The length of the white-space character that ends just before n, or 0. Most texts end in a byte from 33 to 127: one test.
+// The length of the white-space character that ends just before n, or 0.
 fn white_before(text: &[u8], n: usize) -> usize
     requires { (0 < n) × (n ≤ length text.now) }
     ensures { result ≡ end_white (pieces (take n text.now)) }
 {
     let c = text[n - 1];
-    if in_range(33, 127, c) {
-        return 0;
-    }
     if c < 0x80 {
-        if is_white_byte(c) {
-            return 1;
-        }
-        return 0;
+        return usize::from(is_white_byte(c));
     }
-    if n < 2 {
-        return 0;
-    }
-    let b = text[n - 2];
-    if is_white_pair(b, c) {
+    if 2 <= n && is_white_pair(text[n - 2], c) {
         return 2;
     }
-    if n < 3 {
-        return 0;
-    }
-    if is_white_triple(text[n - 3], b, c) {
+    if 3 <= n && is_white_triple(text[n - 3], text[n - 2], c) {
         return 3;
     }
     0
@@ -275,7 +186,7 @@ pub fn trimmed_from_end(text: &[u8]) -> usize
             if k == 0 {
                 return n;
             }
-            n = n - k;
+            n -= k;
         }
     }
     0
@@ -286,11 +197,8 @@ pub fn trimmed_from_end(text: &[u8]) -> usize
 pub fn trimmed_length(text: &[u8]) -> usize
     ensures { result ≡ trimmed_length text.now }
 {
-    let n = text.len();
-    if 0 < n {
-        if in_range(33, 127, text[n - 1]) {
-            return n;
-        }
+    match text.last() {
+        Some(33..=127) => text.len(),
+        _ => trimmed_from_end(text),
     }
-    trimmed_from_end(text)
 }

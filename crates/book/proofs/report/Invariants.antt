@@ -1,9 +1,8 @@
 -- `report` meets its contract: what has been put and counted so far is on the way to what is promised of the book.
+use Rattle.std.specs.Prelude.{Ok}
+use Rattle.book.specs.Report.{report_of}
 use Rattle.book.proofs.Looping.{Fine}
 use Rattle.book.proofs.report.Given as goal
 
-abbrev pub invariant-loop-run : goal.invariant-loop-run
-invariant-loop-run l = Fine l.more l.book l.fn.tally l.fn.work l.fn.out (record { run = l.run; work = l.work; space = l.out }) l.tally
-
-abbrev pub decreases-loop-run : goal.decreases-loop-run
-decreases-loop-run l = l.run.left
+abbrev pub invariant-loop : goal.invariant-loop
+invariant-loop l = Fine l.book (report_of (Ok l.count) l.book l.fn.tally l.fn.work) l.count l.counter l.initial.writer l.run l.tally l.work l.writer

@@ -6,8 +6,8 @@ use Rattle.clauses.proofs.file_before.Goals as goal
 
 pub returns-then-local : goal.returns-then-local
 unfolding format_file
-returns-then-local c = spaced 2 _ (omega arith) (rw c.if-local.true) (both (did-newline c.write_newline-a.ensures) (did-newline c.write_newline.ensures))
+returns-then-local c = spaced 2 _ (omega arith) (rw c.if-local.true) (both (did-newline c.write_newline.ensures) (did-newline c.write_newline-then-local.ensures))
 
-pub returns : goal.returns
+pub returns-else-local : goal.returns-else-local
 unfolding format_file
-returns c = spaced 2 _ (omega arith) (rw c.if-local.false) c.blank_line.ensures
+returns-else-local c = spaced 2 _ (omega arith) (rw c.if-local.false) c.blank_line.ensures

@@ -1,18 +1,18 @@
 -- `list_clause_local` meets its contract.
-use mathlib.Core.Bool.{false, true}
-use mathlib.Core.Path.{refl}
 use borrow.Author.Tests.{eq-eqb, ne_eqb}
-use Rattle.tokens.proofs.Choices.{list-local}
+use Rattle.layout.specs.Routines.{list_clause_node}
+use Rattle.clauses.proofs.list_clause_local.Goals.{else-kind-list-via-then-kind-list+then-not-local+else-multi, else-kind-list-via-then-kind-list+else-not-local, else-kind-list-via-else-kind-list}
 use Rattle.clauses.proofs.list_clause_local.Goals as goal
 
-pub returns-then-kind-list : goal.returns-then-kind-list
-returns-then-kind-list c = list-local c.args.list c.args.multi c.args.local c.args.kind true _ _ (eq-eqb _ _ c.if-kind-list.true) refl refl
-
-pub returns-then-local : goal.returns-then-local
-returns-then-local c = list-local c.args.list c.args.multi c.args.local c.args.kind false true _ (ne_eqb _ _ c.if-kind-list.false) c.if-local.true refl
-
 pub returns-then-multi : goal.returns-then-multi
-returns-then-multi c = list-local c.args.list c.args.multi c.args.local c.args.kind false false true (ne_eqb _ _ c.if-kind-list.false) c.if-local.false c.if-multi.true
+unfolding list_clause_node
+returns-then-multi c = rw (ne_eqb _ _ c.if-kind-list.true, c.if-not-local.true, c.if-multi.true) c.flagged.ensures
 
-pub returns : goal.returns
-returns c = list-local c.args.list c.args.multi c.args.local c.args.kind false false false (ne_eqb _ _ c.if-kind-list.false) c.if-local.false c.if-multi.false
+pub returns-else-kind-list : goal.returns-else-kind-list
+unfolding list_clause_node
+returns-else-kind-list c =
+    elim c.else-kind-list.branch [
+      | else-kind-list-via-then-kind-list+then-not-local+else-multi w ↦ rw (ne_eqb _ _ w.if-kind-list.true, w.if-not-local.true, w.if-multi.false)
+      | else-kind-list-via-then-kind-list+else-not-local w ↦ rw (ne_eqb _ _ w.if-kind-list.true, w.if-not-local.false)
+      | else-kind-list-via-else-kind-list w ↦ rw (eq-eqb _ _ w.if-kind-list.false)
+    ]

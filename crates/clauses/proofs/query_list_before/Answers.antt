@@ -8,6 +8,6 @@ pub returns-then-local : goal.returns-then-local
 unfolding format_query_list
 returns-then-local c = spaced 2 _ (omega arith) (rw c.if-local.true) no_spacing
 
-pub returns : goal.returns
+pub returns-else-local : goal.returns-else-local
 unfolding format_query_list
-returns c = spaced 2 _ (omega arith) (rw c.if-local.false) (both (did-newline c.write_newline-a.ensures) (did-newline c.write_newline.ensures))
+returns-else-local c = spaced 2 _ (omega arith) (rw c.if-local.false) (both (did-newline c.write_newline.ensures) (did-newline c.write_newline-else-local.ensures))

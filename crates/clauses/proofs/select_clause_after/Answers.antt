@@ -1,17 +1,12 @@
 -- `select_clause_after` meets its contract.
-use mathlib.Core.Path.{refl}
-use borrow.Author.Tests.{eq-eqb, ne_eqb}
-use Rattle.tokens.proofs.Choices.{no_unwritten, unwritten_as}
-use Rattle.tokens.proofs.Runs.{did-unwritten}
-use Rattle.layout.specs.Arms.{dedent}
-use Rattle.layout.specs.Layout.{do_spacing}
+use mathlib.Core.List.{[], ◌∷◌}
+use lib.Dec.{eqb}
+use Rattle.tape.specs.Kinds.{ColumnList}
+use Rattle.layout.specs.Arms.{dedent, indent, newline}
 use Rattle.layout.specs.Routines.{format_select_clause}
+use Rattle.tokens.proofs.Choices.{after_either, unwritten_as}
 use Rattle.clauses.proofs.select_clause_after.Goals as goal
-
-pub returns-then-kind-eq-COLUMN_LIST : goal.returns-then-kind-eq-COLUMN_LIST
-unfolding format_select_clause do_spacing
-returns-then-kind-eq-COLUMN_LIST c = unwritten_as _ (rw (eq-eqb _ _ c.if-kind-eq-COLUMN_LIST.true)) (did-unwritten dedent refl c.dedent.ensures)
 
 pub returns : goal.returns
 unfolding format_select_clause
-returns c = unwritten_as _ (rw (ne_eqb _ _ c.if-kind-eq-COLUMN_LIST.false)) no_unwritten
+returns c local = unwritten_as _ (after_either local local (newline ∷ indent ∷ []) (dedent ∷ []) [] [] (eqb c.args.kind ColumnList)) c.dedent_if.ensures

@@ -1,18 +1,21 @@
 -- `union_clause_before` meets its contract.
 use native.Mathlib.Omega.{arith}
-use mathlib.Core.Path.{◌∙◌, sym}
-use Rattle.tokens.proofs.Runs.{did-newline, no_spacing, spaced}
+use mathlib.Core.Bool.{Bool, cond}
+use mathlib.Core.List.{[], ◌∷◌}
+use mathlib.Core.Path.{◌∙◌, ap, sym}
+use Rattle.layout.specs.Arms.{newline}
 use Rattle.layout.specs.Routines.{format_union_clause}
+use Rattle.tokens.proofs.Runs.{spaced}
+use Rattle.clauses.proofs.union_clause_before.Goals.{then-is_select, else-is_select}
 use Rattle.clauses.proofs.union_clause_before.Goals as goal
 
-pub returns-then-local : goal.returns-then-local
+pub returns : goal.returns
 unfolding format_union_clause
-returns-then-local c = spaced 1 _ (omega arith) (rw (sym c.is_select.ensures ∙ c.if-is_select.true, c.if-local.true)) (did-newline c.write_newline.ensures)
-
-pub returns-else-local : goal.returns-else-local
-unfolding format_union_clause
-returns-else-local c = spaced 1 _ (omega arith) (rw (sym c.is_select.ensures ∙ c.if-is_select.true, c.if-local.false)) no_spacing
-
-pub returns-else-is_select : goal.returns-else-is_select
-unfolding format_union_clause
-returns-else-is_select c = spaced 1 _ (omega arith) (rw (sym c.is_select.ensures ∙ c.if-is_select.false)) no_spacing
+returns c =
+    let e = c.is_select.ensures in
+    spaced 1 _ (omega arith)
+    (elim c.if-is_select.branch [
+      | then-is_select w ↦ rw (sym e ∙ w.if-is_select.true) (ap (λ (b : Bool). cond b (newline ∷ []) []) (sym w.newline_if-is))
+      | else-is_select w ↦ rw (sym e ∙ w.if-is_select.false) (ap (λ (b : Bool). cond b (newline ∷ []) []) (sym (w.newline_if-is ∙ w.if-is_select.false)))
+    ])
+    c.newline_if.ensures

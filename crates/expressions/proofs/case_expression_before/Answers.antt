@@ -1,14 +1,14 @@
 -- `case_expression_before` meets its contract.
 use native.Mathlib.Omega.{arith}
-use borrow.Author.Tests.{eq-eqb, ne_eqb}
-use Rattle.tokens.proofs.Runs.{did-newline, no_spacing, spaced}
+use mathlib.Core.List.{[], ◌∷◌}
+use lib.Dec.{eqb}
+use Rattle.tape.specs.Kinds.{WhenClause}
+use Rattle.layout.specs.Arms.{newline}
 use Rattle.layout.specs.Routines.{format_case_expression}
+use Rattle.tokens.proofs.Choices.{before_either}
+use Rattle.tokens.proofs.Runs.{spaced}
 use Rattle.expressions.proofs.case_expression_before.Goals as goal
-
-pub returns-then-kind-eq-WHEN_CLAUSE : goal.returns-then-kind-eq-WHEN_CLAUSE
-unfolding format_case_expression
-returns-then-kind-eq-WHEN_CLAUSE c = spaced 1 _ (omega arith) (rw (eq-eqb _ _ c.if-kind-eq-WHEN_CLAUSE.true)) (did-newline c.write_newline.ensures)
 
 pub returns : goal.returns
 unfolding format_case_expression
-returns c = spaced 1 _ (omega arith) (rw (ne_eqb _ _ c.if-kind-eq-WHEN_CLAUSE.false)) no_spacing
+returns c local = spaced 1 _ (omega arith) (before_either local local (newline ∷ []) [] [] [] (eqb c.args.kind WhenClause)) c.newline_if.ensures

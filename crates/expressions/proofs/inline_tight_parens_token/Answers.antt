@@ -1,25 +1,14 @@
 -- `inline_tight_parens_token` meets its contract.
-use borrow.Author.Rules.{rules}
-use native.Mathlib.Omega.{arith}
-use mathlib.Core.Path.{refl, sym, ◌∙◌}
-use Rattle.tokens.proofs.Choices.{as_spaced, spaced-as, other_done}
-use Rattle.tokens.proofs.Runs.{acted, as_acts, then}
-use Rattle.layout.specs.Arms.{seen}
+use mathlib.Core.Bool.{Bool}
+use mathlib.Core.Path.{ap, sym}
 use Rattle.layout.specs.Routines.{inline_tight_parens_token}
+use Rattle.tokens.specs.TokenPromises.{seen_as}
+use Rattle.tokens.proofs.Choices.{arm_as}
+use Rattle.expressions.specs.SharedArms.{spaced_token}
 use Rattle.expressions.proofs.inline_tight_parens_token.Goals as goal
 
-pub trivia_token-requires : goal.trivia_token-requires
-trivia_token-requires c = (search rules, sym c.is_trivia.ensures ∙ c.if-is_trivia.true)
-
-pub returns-then-is_trivia : goal.returns-then-is_trivia
-unfolding inline_tight_parens_token
-returns-then-is_trivia c = c.trivia_token.ensures.all _
-
 pub returns : goal.returns
-unfolding inline_tight_parens_token seen
+unfolding inline_tight_parens_token
 returns c =
-    other_done _ (sym c.is_trivia.ensures ∙ c.if-is_trivia.false)
-    (record {
-      acted = acted 4 _ (omega arith) (spaced-as _ _ _ c.space_between_tight.ensures) (then (as_acts (as_spaced c.space_if-a.ensures)) c.emit_token-b.ensures);
-      local = refl;
-    })
+    let t = c.args.token in
+    arm_as inline_tight_parens_token (ap (λ (b : Bool). spaced_token b c.args.local (seen_as t.kind t.text.now)) (sym c.space_between_tight-wanted.ensures)) c.spaced_token.ensures

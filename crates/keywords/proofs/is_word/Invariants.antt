@@ -1,12 +1,8 @@
--- `keywords::is_word` meets its contract: after i passes what is left of the two decides.
+-- `is_word` meets its contract: after i passes what is left of the two decides.
 use mathlib.Core.Path.{◌≡◌}
-use Prim.Native.Nat.{◌≤◌, ◌-◌}
-use lib.ListN.{length, drop}
+use lib.ListN.{drop}
 use Rattle.keywords.specs.Words.{same, capitals}
 use Rattle.keywords.proofs.is_word.Given as goal
 
 abbrev pub invariant-loop-i : goal.invariant-loop-i
-invariant-loop-i l = (l.i ≤ length l.word) × (length l.word ≡ length l.caps) × (same (capitals l.word) l.caps ≡ same (drop l.i (capitals l.word)) (drop l.i l.caps))
-
-abbrev pub decreases-loop-i : goal.decreases-loop-i
-decreases-loop-i l = length l.word - l.i
+invariant-loop-i l = same (capitals l.word) l.caps ≡ same (drop l.i (capitals l.word)) (drop l.i l.caps)

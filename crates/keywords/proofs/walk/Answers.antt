@@ -2,5 +2,5 @@
 use Rattle.keywords.proofs.Lookup.{none-stands}
 use Rattle.keywords.proofs.walk.Goals as goal
 
-pub walk_in-requires : goal.walk_in-requires
-walk_in-requires c = (c.table-keywords.ensures, none-stands)
+pub walk-requires : goal.walk-requires
+walk-requires c = none-stands

@@ -15,4 +15,4 @@ pub word_at-requires : goal.word_at-requires
 word_at-requires c =
     let w = c.args.word.now in
     let e = c.candidate-number.ensures in
-    (c.table-keywords.ensures, subst (λ (n : ℕ). Stands (unpacked n)) (sym e) (candidate-stands w), candidate-short w (λ z. c.if-number-eq0.false (e ∙ z)))
+    (subst (λ (n : ℕ). Stands (unpacked n)) (sym e) (candidate-stands w), candidate-short w (λ z. c.if-number-eq0.false (e ∙ z)))

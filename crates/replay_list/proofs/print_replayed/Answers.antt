@@ -3,10 +3,10 @@ use mathlib.Core.Path.{◌∙◌, sym}
 use Rattle.replay_list.specs.Line.{replayed_line}
 use Rattle.replay_list.proofs.print_replayed.Goals as goal
 
-pub returns-in-Bad : goal.returns-in-Bad
+pub returns-in-Ok : goal.returns-in-Ok
 unfolding replayed_line
-returns-in-Bad c = rw (← (sym c.in-Bad.is ∙ c.replay_list-result.ensures)) c.print_bad.ensures
+returns-in-Ok c = rw (← (sym c.in-Ok.is ∙ c.replay_list.ensures)) c.print_end.ensures
 
-pub returns-in-Whole : goal.returns-in-Whole
+pub returns-in-Err : goal.returns-in-Err
 unfolding replayed_line
-returns-in-Whole c = rw (← (sym c.in-Whole.is ∙ c.replay_list-result.ensures)) c.print_end.ensures
+returns-in-Err c = rw (← (sym c.in-Err.is ∙ c.replay_list.ensures)) c.print_bad.ensures

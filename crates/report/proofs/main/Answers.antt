@@ -1,6 +1,6 @@
 -- What `report_from` answers lies within the output buffer.
 use Rattle.std.proofs.Common.{sym, length-take-le}
-use Rattle.book.proofs.Reporting.{put-within}
+use Rattle.book.proofs.Looping.{put-within}
 use Rattle.report.proofs.main.Goals as goal
 
 pub slice_bounds-out-end : goal.slice_bounds-out-end

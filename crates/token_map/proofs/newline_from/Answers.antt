@@ -1,29 +1,15 @@
--- `newline_from` meets its contract. The invariant: none of the bytes passed is a newline.
-use borrow.Author.Tests.{eq-eqb, ne_eqb}
-use native.Mathlib.Omega.{arith}
-use Rattle.token_map.proofs.Counting.{none-next}
+-- `newline_from` meets its contract: from a place that the search gives to one of the bytes.
+use Rattle.std.proofs.Common.{◌≡◌, true, false, eqb, rules, tests}
+use Rattle.std.proofs.lemmas.Iterator.{IsFirst-from_position, YieldsList-from_slice}
+use Rattle.token_map.proofs.Counting.{rest, ends-found, ends-last}
 use Rattle.token_map.proofs.newline_from.Goals as goal
 
-pub loop-i-init : goal.loop-i-init
-loop-i-init c = (omega arith, c.requires, λ j h k. absurd (omega arith))
+pub returns-in-Some : goal.returns-in-Some
+returns-in-Some c =
+    let f = IsFirst-from_position _ _ _ (λ b. eqb b 10 ≡ true) (λ b. eqb b 10 ≡ false) c.in-Some.ensures.ran (YieldsList-from_slice (rest c.args.out.now c.args.from c.requires) c.iter.ensures.rest) (λ x q k. search (rules, tests)) (λ x q k. search (rules, tests)) in
+    ends-found _ _ c.requires _ f.0 f.1 f.2
 
-pub bounds-out-i : goal.bounds-out-i
-bounds-out-i c = c.loop-i-test.true
-
-pub returns-then-out-i-eq10 : goal.returns-then-out-i-eq10
-returns-then-out-i-eq10 c =
-    let l = c.loop-i in
-    record { ordered = l.invariant.0; within = l.invariant.1; none = l.invariant.2; newline = λ h. eq-eqb _ _ c.if-out-i-eq10.true }
-
-pub loop-i-smaller : goal.loop-i-smaller
-loop-i-smaller c = omega (arith, c.loop-i-test.true)
-
-pub loop-i-preserved : goal.loop-i-preserved
-loop-i-preserved c =
-    let l = c.loop-i in
-    (omega (arith, l.invariant.0), omega (arith, c.loop-i-test.true), none-next c.args.out.now _ l.i l.invariant.2 (ne_eqb _ _ c.if-out-i-eq10.false))
-
-pub returns : goal.returns
-returns c =
-    let l = c.loop-i in
-    record { ordered = l.invariant.0; within = l.invariant.1; none = l.invariant.2; newline = λ h. absurd (omega (arith, c.loop-i-test.false)) }
+pub returns-in-None : goal.returns-in-None
+returns-in-None c =
+    ends-last _ _ c.requires
+    (IsFirst-from_position _ _ _ (λ b. eqb b 10 ≡ true) (λ b. eqb b 10 ≡ false) c.in-None.ensures.ran (YieldsList-from_slice (rest c.args.out.now c.args.from c.requires) c.iter.ensures.rest) (λ x q k. search (rules, tests)) (λ x q k. search (rules, tests)))

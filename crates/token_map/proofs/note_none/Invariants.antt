@@ -1,11 +1,7 @@
--- `note_none` meets its contract. The invariant: what is left to note gives what all gives.
-use mathlib.Core.Path.{◌≡◌}
-use lib.ListN.{length, replicate}
+-- `note_none` meets its contract. The invariant: so many tokens are noted.
+use Rattle.std.proofs.Common.{◌≡◌, replicate}
 use Rattle.token_map.specs.Notes.{note_all}
 use Rattle.token_map.proofs.note_none.Given as goal
 
-abbrev pub invariant-loop-left : goal.invariant-loop-left
-invariant-loop-left l = (note_all (replicate l.left 0) l.map ≡ note_all (replicate l.tokens 0) l.initial.map) × (length l.map ≡ length l.initial.map)
-
-abbrev pub decreases-loop-left : goal.decreases-loop-left
-decreases-loop-left l = l.left
+abbrev pub invariant-loop : goal.invariant-loop
+invariant-loop l = l.map ≡ note_all (replicate l.counter 0) l.initial.map

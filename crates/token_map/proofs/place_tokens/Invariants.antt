@@ -1,13 +1,8 @@
 -- `place_tokens` meets its contract. The invariant: the pairs passed are done, and with the others they come to what all do.
-use Prim.Native.Nat.{◌-◌, ◌≤◌}
-use mathlib.Core.Path.{◌≡◌}
-use mathlib.Core.List.{◌++◌}
-use lib.ListN.{length, take, drop}
-use Rattle.token_map.specs.Spots.{LineOf, spots}
+use Rattle.std.proofs.Common.{◌≡◌, ◌*◌, ◌++◌, take, drop}
+use Rattle.token_map.specs.Spots.{spots}
 use Rattle.token_map.proofs.place_tokens.Given as goal
 
-abbrev pub invariant-loop-map : goal.invariant-loop-map
-invariant-loop-map l = LineOf l.out l.line × (l.i ≤ length l.map) × (length l.map ≡ length l.initial.map) × (take l.i l.map ++ spots l.k l.out (drop l.i l.map) ≡ spots l.k l.out l.initial.map)
-
-abbrev pub decreases-loop-map : goal.decreases-loop-map
-decreases-loop-map l = length l.map - l.i
+abbrev pub invariant-loop-i : goal.invariant-loop-i
+invariant-loop-i l =
+    (l.lines.out.now ≡ l.out) × (take (2 * l.i) l.map ++ spots l.k l.out (drop (2 * l.i) l.map) ≡ spots l.k l.out l.initial.map)

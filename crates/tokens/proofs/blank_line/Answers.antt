@@ -1,12 +1,11 @@
 -- `blank_line` meets its contract.
-use native.Mathlib.Omega.{arith}
-use mathlib.Core.Path.{◌∙◌, refl, sym}
-use Rattle.tokens.proofs.Runs.{blank_held, blank_written, changed, newline-after, spaced}
-use Rattle.layout.specs.Arms.{blank_line}
+use mathlib.Core.Path.{sym, ap}
+use mathlib.Core.Bool.{Bool}
+use Rattle.context.specs.Context.{take_pending_blank_line}
+use Rattle.layout.specs.Layout.{do_spacing, newline_if}
+use Rattle.tokens.proofs.Runs.{newline-step, step-after}
 use Rattle.tokens.proofs.blank_line.Goals as goal
 
-pub returns-then-taken : goal.returns-then-taken
-returns-then-taken c = newline-after (blank_written c.args.ctx.state (sym c.take_pending_blank_line-taken.ensures.mark ∙ c.if-taken.true)) c.take_pending_blank_line-taken.ensures.context c.write_newline.ensures
-
 pub returns : goal.returns
-returns c = spaced 1 _ (omega arith) refl (changed blank_line (blank_held c.args.ctx.state (sym c.take_pending_blank_line-taken.ensures.mark ∙ c.if-taken.false)) c.take_pending_blank_line-taken.ensures.context)
+unfolding do_spacing
+returns c = let t = c.take_pending_blank_line-taken.ensures in step-after (newline_if _) (ap (λ (b : Bool). newline_if b (take_pending_blank_line c.args.ctx.state).1) (sym t.mark)) t.context (newline-step _ c.newline_if.ensures)

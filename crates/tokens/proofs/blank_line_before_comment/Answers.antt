@@ -1,15 +1,20 @@
 -- `blank_line_before_comment` meets its contract.
-use native.Mathlib.Omega.{arith}
-use mathlib.Core.Path.{◌∙◌, refl, sym}
-use Rattle.tokens.proofs.Runs.{changed, comment_held, comment_start, comment_written, newline-after, spaced, start_is}
-use Rattle.layout.specs.Arms.{blank_line_before_comment}
+use mathlib.Core.Path.{◌≡◌, sym, ap, ◌∙◌}
+use mathlib.Core.Bool.{Bool, not, ◌&&◌}
+use Rattle.context.specs.Context.{take_pending_blank_line}
+use Rattle.layout.specs.Layout.{do_spacing, newline_if}
+use Rattle.tokens.proofs.Runs.{start_is, newline-step, step-after}
+use Rattle.tokens.proofs.blank_line_before_comment.Goals.{then-taken, else-taken}
 use Rattle.tokens.proofs.blank_line_before_comment.Goals as goal
 
-pub returns-then-is_at_line_start : goal.returns-then-is_at_line_start
-returns-then-is_at_line_start c = spaced 1 _ (omega arith) refl (changed blank_line_before_comment (comment_start c.args.ctx.state (sym c.take_pending_blank_line-taken.ensures.mark ∙ c.if-taken.true) (start_is c.take_pending_blank_line-taken.ensures.context c.is_at_line_start.ensures ∙ c.if-is_at_line_start.true)) c.take_pending_blank_line-taken.ensures.context)
-
-pub returns-then-taken : goal.returns-then-taken
-returns-then-taken c = newline-after (comment_written c.args.ctx.state (sym c.take_pending_blank_line-taken.ensures.mark ∙ c.if-taken.true) (start_is c.take_pending_blank_line-taken.ensures.context c.is_at_line_start.ensures ∙ c.if-is_at_line_start.false)) c.take_pending_blank_line-taken.ensures.context c.write_newline.ensures
-
 pub returns : goal.returns
-returns c = spaced 1 _ (omega arith) refl (changed blank_line_before_comment (comment_held c.args.ctx.state (sym c.take_pending_blank_line-taken.ensures.mark ∙ c.if-taken.false)) c.take_pending_blank_line-taken.ensures.context)
+unfolding do_spacing
+returns c =
+    let t = c.take_pending_blank_line-taken.ensures in
+    let next = take_pending_blank_line c.args.ctx.state in
+    let wanted : (next.0 && not next.1.at_line_start) ≡ c.if-taken.newline_if =
+    elim c.if-taken.branch [
+      | then-taken w ↦ rw (sym t.mark ∙ w.if-taken.true, start_is t.context w.is_at_line_start.ensures) (sym w.newline_if-is)
+      | else-taken w ↦ rw (sym t.mark ∙ w.if-taken.false) (sym (w.newline_if-is ∙ w.if-taken.false))
+    ] in
+    step-after (newline_if _) (ap (λ (b : Bool). newline_if b next.1) wanted) t.context (newline-step _ c.newline_if.ensures)

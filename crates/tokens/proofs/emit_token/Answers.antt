@@ -1,17 +1,17 @@
 -- `emit_token` meets its contract.
 use native.Mathlib.Omega.{arith}
-use Rattle.utf8.proofs.Trimming.{trimmed-le}
-use Rattle.layout.specs.Arms.{seen}
+use mathlib.Core.Path.{ap, sym, ◌∙◌}
 use Rattle.layout.specs.Tokens.{emit_token}
-use Rattle.tokens.proofs.Runs.{acted, no_acts, put-token, text-fits}
+use Rattle.tokens.specs.TokenPromises.{in_case, write_by}
+use Rattle.tokens.specs.declared.Casing.{Casing}
+use Rattle.tokens.proofs.Runs.{acted, no_acts, token-acts}
 use Rattle.tokens.proofs.emit_token.Goals as goal
 
 pub returns-then-token-eq-WHITESPACE : goal.returns-then-token-eq-WHITESPACE
-unfolding emit_token seen
+unfolding emit_token
 returns-then-token-eq-WHITESPACE c = acted 1 _ (omega arith) (rw c.if-token-eq-WHITESPACE.true) no_acts
 
-pub after_text-requires : goal.after_text-requires
-after_text-requires c = let k = text-fits c.requires.0 c.token_text-text.ensures in (omega (arith, k, c.lead_blanks-blanks.ensures.1, c.requires.0.room.length), omega (arith, c.put_text-j.ensures.left, trimmed-le c.token_text-text.result.now))
-
 pub returns : goal.returns
-returns c = put-token c.requires.0 c.token_text-text.ensures c.lead_blanks-blanks.ensures c.after_text.ensures c.if-token-eq-WHITESPACE.false c.casing_of.ensures c.put_text-j.ensures
+returns c =
+    let t = c.args.token in
+    acted 1 _ (omega arith) (token-acts t.kind t.text.now c.if-token-eq-WHITESPACE.false ∙ ap (λ (g : Casing). write_by (in_case g t.text.now)) (sym c.of.ensures)) c.write.ensures

@@ -1,11 +1,7 @@
 -- `emit_trivia` meets its contract.
 use native.Mathlib.Omega.{arith}
-use borrow.Author.Tests.{eq-eqb, ne_eqb}
 use Rattle.tokens.proofs.Runs.{acted, noted}
 use Rattle.tokens.proofs.emit_trivia.Goals as goal
 
-pub returns-then-kind-eq-WHITESPACE : goal.returns-then-kind-eq-WHITESPACE
-returns-then-kind-eq-WHITESPACE c = record { all = λ source token e. acted 3 _ (omega arith) (rw (eq-eqb _ _ c.if-kind-eq-WHITESPACE.true)) (noted c.args.text.now c.note_skipped_whitespace.ensures) }
-
-pub returns : goal.returns
-returns c = record { all = λ source token e. acted 3 _ (omega arith) (rw (ne_eqb _ _ c.if-kind-eq-WHITESPACE.false)) (c.write_comment.ensures.all source token e) }
+pub returns-then-token-eq-WHITESPACE : goal.returns-then-token-eq-WHITESPACE
+returns-then-token-eq-WHITESPACE c = acted 3 _ (omega arith) (rw c.if-token-eq-WHITESPACE.true) (noted _ c.note_skipped_whitespace.ensures)

@@ -1,14 +1,26 @@
 -- `is_line_comment` meets its contract.
-use mathlib.Core.Path.{◌∙◌, sym}
-use borrow.Author.Tests.{ne_eqb}
-use Rattle.tokens.proofs.Runs.{line_at, line-last, line-short}
+use Prim.Native.Nat.{ℕ}
+use mathlib.Core.Bool.{Bool, true, false, and-false, and-true}
+use mathlib.Core.Path.{◌≡◌, refl, sym, ◌∙◌}
+use mathlib.Core.List.{List, [], ◌∷◌}
+use lib.Dec.{eqb}
+use borrow.Author.Tests.{eqb-true, eqb-false, eq-eqb, ne_eqb}
+use Rattle.std.specs.List.{starts_with}
+use Rattle.layout.specs.Tokens.{is_line_comment}
 use Rattle.tokens.proofs.is_line_comment.Goals as goal
 
-pub returns-then-text-lt2 : goal.returns-then-text-lt2
-returns-then-text-lt2 c = sym (line-short c.args.text.now c.if-text-lt2.true)
+turned : (a b : ℕ) → eqb a b ≡ eqb b a
+turned a b = go (eqb a b) refl
+  where
+    go : (t : Bool) → eqb a b ≡ t → t ≡ eqb b a
+    go true e = sym (eq-eqb b a (sym (eqb-true a b e)))
+    go false e = sym (ne_eqb b a (λ q. eqb-false a b e (sym q)))
 
-pub returns-then-text-ne45 : goal.returns-then-text-ne45
-returns-then-text-ne45 c = sym (line_at c.args.text.now c.if-text-lt2.false ∙ simp (ne_eqb _ _ c.if-text-ne45.true))
+two_hyphens : (b : List ℕ) → starts_with eqb b (45 ∷ 45 ∷ []) ≡ is_line_comment b
+unfolding is_line_comment
+two_hyphens [] = refl
+two_hyphens (x ∷ []) = and-false _
+two_hyphens (x ∷ y ∷ b) = rw (turned 45 x, turned 45 y, and-true (eqb y 45))
 
 pub returns : goal.returns
-returns c = line-last c.args.text.now c.if-text-lt2.false c.if-text-ne45.false
+returns c = c.starts_with.ensures.value ∙ two_hyphens c.args.text.now

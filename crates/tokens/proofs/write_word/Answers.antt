@@ -1,11 +1,12 @@
 -- `write_word` meets its contract.
 use native.Mathlib.Omega.{arith}
+use mathlib.Core.Bool.{true}
 use Rattle.utf8.proofs.Trimming.{trimmed-le}
-use Rattle.tokens.proofs.Runs.{put-keyword, text-fits}
+use Rattle.tokens.proofs.Runs.{put-acted}
 use Rattle.tokens.proofs.write_word.Goals as goal
 
 pub after_text-requires : goal.after_text-requires
-after_text-requires c = let k = text-fits c.requires.0 c.token_text-text.ensures in (omega (arith, k, c.lead_blanks-blanks.ensures.1, c.requires.0.room.length), omega (arith, c.put_any-j.ensures.left, trimmed-le c.token_text-text.result.now))
+after_text-requires c = (omega (arith, c.args.token.short, c.lead_blanks-blanks.ensures.1, c.requires.length), omega (arith, c.put_in_case-trimmed.ensures.0, trimmed-le c.args.token.text.now))
 
 pub returns : goal.returns
-returns c = put-keyword c.requires.0 c.token_text-text.ensures c.lead_blanks-blanks.ensures c.after_text.ensures c.put_any-j.ensures
+returns c = put-acted c.args.token.text.now (omega (arith, c.args.token.short)) _ c.lead_blanks-blanks.ensures true (record { left = c.put_in_case-trimmed.ensures.0; written = c.put_in_case-trimmed.ensures.1 }) c.after_text.ensures

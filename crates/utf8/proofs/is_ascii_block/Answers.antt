@@ -1,18 +1,18 @@
--- `is_ascii_block` meets its contract: where the 32 bytes are there, `is_ascii` tells.
-use Prim.Native.Nat.{◌+◌, ◌-◌}
+-- `is_ascii_block` meets its contract.
 use native.Mathlib.Omega.{arith}
 use mathlib.Core.Path.{◌≡◌, sym, ap, ◌∙◌}
-use mathlib.Core.Bool.{false≢true}
-use lib.ListN.{take, drop}
+use Prim.Native.Nat.{◌-◌}
+use lib.ListN.{length, take, drop, length-drop}
+use lib.Seq.{take_all}
 use Rattle.utf8.specs.Table.{is_ascii}
 use Rattle.utf8.proofs.is_ascii_block.Goals as goal
 
-pub returns-then-text-at-lt-BLOCK : goal.returns-then-text-at-lt-BLOCK
-returns-then-text-at-lt-BLOCK c = λ e. absurd (false≢true e)
-
-pub returns : goal.returns
-returns c =
-    let text = c.args.text.now in
-    let at = c.args.at in
-    let n : 32 ≡ at + 32 - at = omega arith in
-    λ e. record { inside = omega arith; ascii = ap (λ k. is_ascii (take k (drop at text))) n ∙ sym c.is_ascii.ensures ∙ e }
+pub returns-in-Some : goal.returns-in-Some
+returns-in-Some c = λ h.
+    let rest = drop c.args.at c.args.text.now in
+    let k = c.in-Some.ensures.cases in
+    let all : take (length c.args.text.now - c.args.at) rest ≡ rest = take_all _ rest (omega (arith, length-drop c.args.at c.args.text.now)) in
+    record {
+      inside = omega (arith, k.enough, ap length all, length-drop c.args.at c.args.text.now);
+      ascii = ap (λ t. is_ascii (take 32 t)) (sym all) ∙ ap is_ascii (sym k.same) ∙ sym c.is_ascii.ensures ∙ h;
+    }

@@ -9,8 +9,10 @@ use Rattle.utf8.proofs.LastWhiteSpace.{solid_before}
 use Rattle.utf8.proofs.Trimming.{stop}
 use Rattle.utf8.proofs.trimmed_length.Goals as goal
 
-pub returns-then-in_range : goal.returns-then-in_range
-returns-then-in_range c =
+pub returns-in-Some-33-to-127 : goal.returns-in-Some-33-to-127
+returns-in-Some-33-to-127 c =
     let a = c.args in
     let n = length a.text.now in
-    sym (ap trimmed_length (sym (take-length a.text.now)) ∙ stop a.text.now n 0 (le_refl n) (solid_before a.text.now n (le_refl n) (omega arith) (sym c.in_range.ensures ∙ c.if-in_range.true)) refl)
+    let last = c.in-Some-33-to-127.ensures.item.3 in
+    let e = last.1 0 in
+    sym (ap trimmed_length (sym (take-length a.text.now)) ∙ stop a.text.now n 0 (le_refl n) (solid_before a.text.now n (le_refl n) last.0 (omega arith) (omega arith)) refl)

@@ -1,32 +1,27 @@
 -- `white_before` meets its contract.
 use native.Mathlib.Omega.{arith}
-use mathlib.Core.Path.{sym, ◌∙◌}
-use mathlib.Core.Bool.{true, false}
-use Rattle.utf8.proofs.LastWhiteSpace.{solid_before, ascii-before, none_before, pair-before, triple_before}
+use mathlib.Core.Path.{◌≡◌, refl, sym, ◌∙◌}
+use mathlib.Core.Bool.{Bool, true, false, cond}
+use mir.Val.{bool_byte}
+use Rattle.utf8.proofs.LastWhiteSpace.{ascii-before, none_before, pair-before, triple_before}
 use Rattle.utf8.proofs.white_before.Goals as goal
+use Rattle.utf8.proofs.white_before.Goals.{else-n-ge2-via-then-n-ge2+else-is_white_pair as no_pair, else-n-ge2-via-else-n-ge2 as one_byte, else-n-ge3-via-then-n-ge3+else-is_white_triple as no_triple, else-n-ge3-via-else-n-ge3 as two_bytes}
 
-pub returns-then-in_range : goal.returns-then-in_range
-returns-then-in_range c = solid_before _ _ c.requires.1 c.requires.0 (sym c.in_range.ensures ∙ c.if-in_range.true)
-
-pub returns-then-is_white_byte : goal.returns-then-is_white_byte
-returns-then-is_white_byte c = ascii-before _ _ c.requires.1 c.requires.0 c.if-c-lt128.true true (sym c.is_white_byte.ensures ∙ c.if-is_white_byte.true)
+as_number : (b : Bool) → bool_byte b ≡ cond b 1 0
+as_number true = refl
+as_number false = refl
 
 pub returns-then-c-lt128 : goal.returns-then-c-lt128
-returns-then-c-lt128 c = ascii-before _ _ c.requires.1 c.requires.0 c.if-c-lt128.true false (sym c.is_white_byte.ensures ∙ c.if-is_white_byte.false)
-
-pub returns-then-n-lt2 : goal.returns-then-n-lt2
-returns-then-n-lt2 c = none_before _ _ c.requires.1 c.if-c-lt128.false (λ h. absurd (omega arith)) (λ h. absurd (omega arith))
+returns-then-c-lt128 c = c.from.ensures ∙ as_number c.is_white_byte.result ∙ ascii-before _ _ c.requires.1 c.requires.0 c.if-c-lt128.true _ (sym c.is_white_byte.ensures)
 
 pub returns-then-is_white_pair : goal.returns-then-is_white_pair
-returns-then-is_white_pair c = pair-before _ _ c.requires.1 c.if-n-lt2.false (sym c.is_white_pair.ensures ∙ c.if-is_white_pair.true)
-
-pub returns-then-n-lt3 : goal.returns-then-n-lt3
-returns-then-n-lt3 c = none_before _ _ c.requires.1 c.if-c-lt128.false (λ h. sym c.is_white_pair.ensures ∙ c.if-is_white_pair.false) (λ h. absurd (omega arith))
+returns-then-is_white_pair c = pair-before _ _ c.requires.1 c.if-n-ge2.true (sym c.is_white_pair.ensures ∙ c.if-is_white_pair.true)
 
 pub returns-then-is_white_triple : goal.returns-then-is_white_triple
-returns-then-is_white_triple c = triple_before _ _ c.requires.1 c.if-n-lt3.false (sym c.is_white_triple.ensures ∙ c.if-is_white_triple.true)
+returns-then-is_white_triple c = triple_before _ _ c.requires.1 c.if-n-ge3.true (sym c.is_white_triple.ensures ∙ c.if-is_white_triple.true)
 
 pub returns : goal.returns
 returns c =
-    none_before _ _ c.requires.1 c.if-c-lt128.false (λ h. sym c.is_white_pair.ensures ∙ c.if-is_white_pair.false)
-    (λ h. sym c.is_white_triple.ensures ∙ c.if-is_white_triple.false)
+    none_before _ _ c.requires.1 c.if-c-lt128.false
+    (λ h. elim c.else-n-ge2.branch [ no_pair w ↦ sym w.is_white_pair.ensures ∙ w.if-is_white_pair.false | one_byte w ↦ absurd (omega arith) ])
+    (λ h. elim c.else-n-ge3.branch [ no_triple w ↦ sym w.is_white_triple.ensures ∙ w.if-is_white_triple.false | two_bytes w ↦ absurd (omega arith) ])

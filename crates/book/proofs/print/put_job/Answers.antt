@@ -1,18 +1,12 @@
--- `put_job` meets its contract, by the cases of the outcome.
-use Rattle.desk_job.proofs.Writing.{within, wrote_then}
+-- `put_job` meets its contract, by the cases of what is told.
+use Rattle.desk_job.proofs.Writing.{puts_then}
 use Rattle.book.specs.Report.{job_line}
 use Rattle.book.proofs.print.put_job.Goals as goal
 
-pub put_pair-requires : goal.put_pair-requires
-put_pair-requires c = within _ _ _ c.put_decimal-a.ensures
-
-pub put_pair-requires-in-LaidOut : goal.put_pair-requires-in-LaidOut
-put_pair-requires-in-LaidOut c = within _ _ _ c.put_decimal-a.ensures
-
-pub returns-in-Refused : goal.returns-in-Refused
+pub returns-in-Ok : goal.returns-in-Ok
 unfolding job_line
-returns-in-Refused c = rw c.in-Refused.is (wrote_then _ _ _ _ c.put_decimal-a.ensures c.put_pair.ensures)
+returns-in-Ok c = rw c.in-Ok.is (puts_then c.put_decimal.ensures c.put_pair.ensures)
 
-pub returns-in-LaidOut : goal.returns-in-LaidOut
+pub returns-in-Err : goal.returns-in-Err
 unfolding job_line
-returns-in-LaidOut c = rw c.in-LaidOut.is (wrote_then _ _ _ _ c.put_decimal-a.ensures c.put_pair-in-LaidOut.ensures)
+returns-in-Err c = rw c.in-Err.is (puts_then c.put_decimal.ensures c.put_pair-in-Err.ensures)

@@ -7,11 +7,11 @@ use Rattle.utf8.proofs.Trimming.{trimmed-le}
 use Rattle.context.proofs.Writes.{advanced-blanks}
 use Rattle.context.proofs.Position.after.Goals as goal
 
-pub trimmed_after-requires : goal.trimmed_after-requires
-trimmed_after-requires c = omega (arith, trimmed-le c.args.text.now)
+pub after_text-requires : goal.after_text-requires
+after_text-requires c = (omega arith, omega (arith, trimmed-le c.args.text.now))
 
 pub returns : goal.returns
 returns c =
     let a = c.args in
-    advanced-blanks a.blanks a.text.now a.self _ _ refl
-    (c.trimmed_after.ensures ∙ ap (trimmed_after (a.self.length + a.blanks) a.self.trimmed) c.trimmed_from_end.ensures)
+    c.after_text.ensures
+    ∙ advanced-blanks a.blanks a.text.now a.self _ _ refl (ap (trimmed_after (a.self.length + a.blanks) a.self.trimmed) c.trimmed_from_end.ensures)

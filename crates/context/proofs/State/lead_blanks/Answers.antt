@@ -42,4 +42,4 @@ returns-then-self c = (at-start c.args.config c.args.self c.if-self.true, mul-le
 pub returns-else-self : goal.returns-else-self
 returns-else-self c =
     let a = c.args in
-    (within a.config a.self c.if-self.false, one a.self.needs_space)
+    rw c.from-blank.ensures (within a.config a.self c.if-self.false, one a.self.needs_space)

@@ -2,31 +2,15 @@
 use mathlib.Core.Path.{refl, sym, ◌∙◌}
 use mathlib.Core.List.{map}
 use Prim.Native.Nat.{◌<◌}
-use native.Mathlib.Nat.{min-le_left, min-le_right}
+use native.Mathlib.Nat.{min-le_left}
 use native.Mathlib.Omega.{arith}
 use lib.ListN.{length, length-map, length-set, get_or-map}
 use Rattle.context.proofs.Splicing.{splice-nil, loop_step, loop_end}
 use Rattle.context.specs.Cells.{to_case}
 use Rattle.context.proofs.buffer.copy_in_case.Goals as goal
 
-pub least-end-requires : goal.least-end-requires
-least-end-requires c = tt
-
 pub loop-i-init : goal.loop-i-init
-loop-i-init c = (sym (splice-nil 0 _), refl, omega arith, c.least-end.ensures)
-
-pub bounds-text-i : goal.bounds-text-i
-bounds-text-i c =
-    let a = c.args in
-    omega (arith, min-le_left (length a.text.now) (length a.out.now))
-
-pub to_case-requires : goal.to_case-requires
-to_case-requires c = tt
-
-pub bounds-out-i : goal.bounds-out-i
-bounds-out-i c =
-    let a = c.args in
-    omega (arith, min-le_right (length a.text.now) (length a.out.now))
+loop-i-init c = (sym (splice-nil 0 _), refl)
 
 pub loop-i-preserved : goal.loop-i-preserved
 loop-i-preserved c =
@@ -37,11 +21,9 @@ loop-i-preserved c =
     let more : c.loop-i.i < length p = omega arith in (
       loop_step (map f p) a.out.now c.loop-i.out c.loop-i.i c.to_case.result (f 0) c.loop-i.invariant.0 (rw length-map more) (get_or-map f p c.loop-i.i 0 ∙ sym c.to_case.ensures),
       length-set c.loop-i.out c.loop-i.i c.to_case.result ∙ c.loop-i.invariant.1,
-      omega arith,
-      c.loop-i.invariant.3,
     )
 
 pub returns : goal.returns
 returns c =
     let a = c.args in
-    loop_end (map (to_case a.uppercase) a.text.now) a.out.now c.loop-i.out c.loop-i.i c.loop-i.invariant.0 (rw length-map (omega arith))
+    loop_end (map (to_case a.uppercase) a.text.now) a.out.now c.loop-i.out _ c.loop-i.invariant.0 (rw length-map (omega arith))

@@ -1,10 +1,6 @@
 -- `replay_list` meets its contract: after each turn the definition from the next record on, with what is counted so far, is that of the list.
-use Prim.Native.Nat.{◌-◌}
 use Rattle.replay_list.proofs.Replaying.{Reached}
 use Rattle.replay_list.proofs.replay.replay_list.Given as goal
 
-abbrev pub invariant-loop-tally : goal.invariant-loop-tally
-invariant-loop-tally l = Reached l.more l.list l.records l.tally l.at
-
-abbrev pub decreases-loop-tally : goal.decreases-loop-tally
-decreases-loop-tally l = l.records - l.tally.records
+abbrev pub invariant-loop-at : goal.invariant-loop-at
+invariant-loop-at l = Reached l.more l.list l.records l.at l.tally l.rest

@@ -1,129 +1,82 @@
 -- `check` meets its contract. The loop's invariant is `Checking`, the measure what is left of the tape; each exit and each pass is one law of `CheckSteps`.
+use Prim.Native.Nat.{ℕ, ◌-◌, ◌*◌, ◌<◌}
 use native.Mathlib.Omega.{arith}
-use mathlib.Core.Path.{sym, ◌∙◌}
-use lib.ListN.{length-set}
-use Rattle.tape.proofs.KnownCommands.{at-close, at_open, at-token, at_cut, at-unknown, open_low}
-use Rattle.tape.proofs.CheckSteps.{start, broken, stray-close, stray-token, second-root, faulty-token, faulty-open, next-close, next-token, next-open, end-open, no_root, end-root}
+use mathlib.Core.Path.{sym, ap, subst, ◌∙◌}
+use mathlib.Core.List.{List}
+use lib.ListN.{length}
+use borrow.Author.Tests.{eqb-true, eqb-false}
+use Rattle.std.specs.Prelude.{Option, IfSome, slice_get}
+use Rattle.std.proofs.lemmas.List.{length-reverse}
+use Rattle.std.proofs.lemmas.Result.{err_from_is_err_and}
+use Rattle.tape.proofs.KnownCommands.{open_low}
+use Rattle.tape.proofs.CheckSteps.{stray-close, stray-token, second-root, next-close-last, next-token, next-open-last, broken-told, token-told, open-told, placed_ok, none_open, some_open, no_innermost, last-innermost, innermost_fits, end-open, no_root, end-root}
 use Rattle.tape.proofs.check.check.Goals as goal
-use Rattle.tape.proofs.check.check.Goals.{else-command-ne2, else-depth-eq0-3, then-command-ne2+else-command-ne1, then-depth-eq0-3+else-at-gt0}
+use Rattle.tape.proofs.check.check.Goals.{else-is_empty-2-via-then-is_empty-2+else-at-gt0, else-is_empty-2-via-else-is_empty-2, then-not-is_empty-via-then-not-is_empty, then-not-is_empty-via-else-not-is_empty+then-is_empty-3}
 
-pub loop-at-init : goal.loop-at-init
-loop-at-init c = start _ _ _
+pub returns-in_err-command_at : goal.returns-in_err-command_at
+returns-in_err-command_at c =
+    let p = err_from_is_err_and c.from_residual.result c.from_residual.ensures.1 in
+    rw (p.1, p.2) (broken-told _ _ c.loop-at.invariant c.in_err-command_at.ensures.place c.in_err-command_at.ensures.sort _)
 
-pub shape_of-facts-then-depth-eq0 : goal.shape_of-facts-then-depth-eq0
-shape_of-facts-then-depth-eq0 c = c.loop-at.invariant.same
+pub returns-in_default : goal.returns-in_default
+returns-in_default c =
+    stray-close _ _ c.loop-at.invariant (no_innermost _ (sym (last-innermost c.loop-at.open.items) ∙ sym c.pop.ensures.value ∙ c.in_default.is)) (rw c.in-Close.is at c.in_ok-command_at.ensures.sort) _
 
-pub returns-then-depth-eq0 : goal.returns-then-depth-eq0
-returns-then-depth-eq0 c = stray-close _ _ c.loop-at.invariant c.if-depth-eq0.true (at-close _ _ c.loop-at-test.true c.if-command-eq3.true) _
+pub loop-at-preserved-in-Close : goal.loop-at-preserved-in-Close
+loop-at-preserved-in-Close c = next-close-last _ _ _ _ _ c.loop-at.invariant c.in-Some.ensures.items (rw c.in-Close.is at c.in_ok-command_at.ensures.sort)
 
-pub loop-at-preserved-then-command-eq3 : goal.loop-at-preserved-then-command-eq3
-loop-at-preserved-then-command-eq3 c = next-close _ _ c.loop-at.invariant c.if-depth-eq0.false (at-close _ _ c.loop-at-test.true c.if-command-eq3.true)
+pub returns-then-is_empty : goal.returns-then-is_empty
+returns-then-is_empty c = stray-token _ _ c.loop-at.invariant (none_open _ c.is_empty.ensures c.if-is_empty.true) (rw c.in-Token.is at c.in_ok-command_at.ensures.sort) _
 
-pub shape_of-facts-then-command-ne1 : goal.shape_of-facts-then-command-ne1
-shape_of-facts-then-command-ne1 c = c.loop-at.invariant.same
+pub returns-in_err-check_token-in-Token : goal.returns-in_err-check_token-in-Token
+returns-in_err-check_token-in-Token c =
+    let p = err_from_is_err_and c.from_residual-in_err-check_token-in-Token.result c.from_residual-in_err-check_token-in-Token.ensures.1 in
+    rw (p.1, p.2)
+    (token-told _ _ c.loop-at.invariant (some_open _ c.is_empty.ensures c.if-is_empty.false) (rw c.in-Token.is at c.in_ok-command_at.ensures.sort)
+    (rw c.in-Token.is at c.in_ok-command_at.ensures.place) c.in_err-check_token-in-Token.ensures _)
 
-pub returns-then-command-ne1 : goal.returns-then-command-ne1
-returns-then-command-ne1 c = broken _ _ c.loop-at.invariant (at-unknown _ _ c.loop-at-test.true c.if-command-ne1.true c.if-command-ne2.true c.if-command-eq3.false) _
-
-pub shape_of-facts-then-tape-at : goal.shape_of-facts-then-tape-at
-shape_of-facts-then-tape-at c = c.loop-at.invariant.same
-
-pub returns-then-tape-at : goal.returns-then-tape-at
-returns-then-tape-at c =
-    broken _ _ c.loop-at.invariant
-    (at_cut _ _ c.loop-at-test.true c.if-tape-at.true ((elim c.if-command-ne2.branch [ then-command-ne2+else-command-ne1 w ↦ omega arith | else-command-ne2 w ↦ omega arith ])) ((elim c.if-command-ne2.branch [ then-command-ne2+else-command-ne1 w ↦ omega arith | else-command-ne2 w ↦ omega arith ]))) _
-
-pub shape_of-facts-then-depth-eq0-2 : goal.shape_of-facts-then-depth-eq0-2
-shape_of-facts-then-depth-eq0-2 c = c.loop-at.invariant.same
-
-pub returns-then-depth-eq0-2 : goal.returns-then-depth-eq0-2
-returns-then-depth-eq0-2 c = stray-token _ _ c.loop-at.invariant c.if-depth-eq0-2.true (at-token _ _ c.if-tape-at.false c.if-command-eq2.true) _
-
-pub check_token-found-requires : goal.check_token-found-requires
-check_token-found-requires c = c.requires.0
-
-pub shape_of-facts-in-Faulty : goal.shape_of-facts-in-Faulty
-shape_of-facts-in-Faulty c = c.loop-at.invariant.same
-
-pub returns-in-Faulty : goal.returns-in-Faulty
-returns-in-Faulty c =
-    faulty-token _ _ c.loop-at.invariant c.if-depth-eq0-2.false (at-token _ _ c.if-tape-at.false c.if-command-eq2.true) c.head_at-head.ensures
-    (sym c.check_token-found.ensures ∙ c.in-Faulty.is) _
-
-pub loop-at-preserved-then-command-eq2 : goal.loop-at-preserved-then-command-eq2
-loop-at-preserved-then-command-eq2 c =
-    next-token _ _ c.loop-at.invariant c.if-depth-eq0-2.false (at-token _ _ c.if-tape-at.false c.if-command-eq2.true) c.head_at-head.ensures
-    (sym c.check_token-found.ensures ∙ c.in_default.is)
-
-pub shape_of-facts-then-at-gt0 : goal.shape_of-facts-then-at-gt0
-shape_of-facts-then-at-gt0 c = c.loop-at.invariant.same
+pub loop-at-preserved-in-Token : goal.loop-at-preserved-in-Token
+loop-at-preserved-in-Token c =
+    next-token _ _ c.loop-at.invariant (some_open _ c.is_empty.ensures c.if-is_empty.false) (rw c.in-Token.is at c.in_ok-command_at.ensures.sort)
+    (rw c.in-Token.is at c.in_ok-command_at.ensures.place) (placed_ok _ _ c.in_ok-check_token-in-Token.ensures)
 
 pub returns-then-at-gt0 : goal.returns-then-at-gt0
-returns-then-at-gt0 c = second-root _ _ c.loop-at.invariant c.if-depth-eq0-3.true c.if-at-gt0.true (at_open _ _ c.if-tape-at.false ((elim c.if-command-ne2.branch [ then-command-ne2+else-command-ne1 w ↦ omega arith | else-command-ne2 w ↦ absurd (c.if-command-eq2.false w.if-command-ne2.false) ]))) _
+returns-then-at-gt0 c =
+    second-root _ _ c.loop-at.invariant (none_open _ c.is_empty-in-Open.ensures c.if-is_empty-2.true) c.if-at-gt0.true (rw c.in-Open.is at c.in_ok-command_at.ensures.sort) _
 
-pub check_open-found-requires : goal.check_open-found-requires
-check_open-found-requires c = c.requires.0
+pub returns-in_err-check_open-in-Open : goal.returns-in_err-check_open-in-Open
+returns-in_err-check_open-in-Open c =
+    let p = err_from_is_err_and c.from_residual-in_err-check_open-in-Open.result c.from_residual-in_err-check_open-in-Open.ensures.1 in
+    rw (p.1, p.2)
+    (open-told _ _ c.loop-at.invariant (elim c.else-is_empty-2.branch [ else-is_empty-2-via-then-is_empty-2+else-at-gt0 w ↦ λ _. omega arith | else-is_empty-2-via-else-is_empty-2 w ↦ λ z. absurd (some_open _ c.is_empty-in-Open.ensures w.if-is_empty-2.false z) ])
+    (rw c.in-Open.is at c.in_ok-command_at.ensures.sort) (rw c.in-Open.is at c.in_ok-command_at.ensures.place) (c.len.ensures.value ∙ sym (length-reverse _))
+    c.in_err-check_open-in-Open.ensures _)
 
-pub shape_of-facts-in-Faulty-found : goal.shape_of-facts-in-Faulty-found
-shape_of-facts-in-Faulty-found c = c.loop-at.invariant.same
+pub note_open-requires : goal.note_open-requires
+note_open-requires c =
+    let room : c.loop-at.at < 11 * length c.loop-at.facts = omega (arith, c.loop-at.invariant.same, c.requires.1, c.loop-at-test.true) in
+    let around = (c.copied.ensures ∙ c.last.ensures.value ∙ ap (λ (xs : List ℕ). slice_get xs (length xs - 1)) c.as_slice.ensures.value ∙ last-innermost c.loop-at.open.items) in
+    (omega (arith, room), subst (λ (o : Option ℕ). IfSome o (λ q. q < length c.loop-at.facts)) (sym around) (innermost_fits _ _ _ c.loop-at.invariant.behind room))
 
-pub returns-in-Faulty-found : goal.returns-in-Faulty-found
-returns-in-Faulty-found c =
-    faulty-open _ _ c.loop-at.invariant ((elim c.if-depth-eq0-3.branch [ then-depth-eq0-3+else-at-gt0 w ↦ λ _. omega arith | else-depth-eq0-3 w ↦ λ z. absurd (w.if-depth-eq0-3.false z) ]))
-    (at_open _ _ c.if-tape-at.false ((elim c.if-command-ne2.branch [ then-command-ne2+else-command-ne1 w ↦ omega arith | else-command-ne2 w ↦ absurd (c.if-command-eq2.false w.if-command-ne2.false) ]))) c.head_at-head.ensures
-    (sym c.check_open-found.ensures ∙ c.in-Faulty-found.is) _
-
-pub offset_bounds-parents-depth : goal.offset_bounds-parents-depth
-offset_bounds-parents-depth c = omega (arith, c.loop-at.invariant.low)
-
-pub bounds-parents-depth : goal.bounds-parents-depth
-bounds-parents-depth c = omega (arith, c.loop-at.invariant.low)
-
-pub overflow_cast-parent : goal.overflow_cast-parent
-overflow_cast-parent c = omega (arith, c.loop-at.invariant.behind c.loop-at.depth, c.requires.1, c.loop-at-test.true)
-
-pub bounds-facts-parent : goal.bounds-facts-parent
-bounds-facts-parent c = omega (arith, c.loop-at.invariant.behind c.loop-at.depth, c.loop-at.invariant.same, c.requires.2, c.if-tape-at.false)
-
-pub bounds-facts-parent-else-command-eq2 : goal.bounds-facts-parent-else-command-eq2
-bounds-facts-parent-else-command-eq2 c = omega (arith, c.loop-at.invariant.behind c.loop-at.depth, c.loop-at.invariant.same, c.requires.2, c.if-tape-at.false)
-
-pub bounds-facts-here : goal.bounds-facts-here
-bounds-facts-here c = simp length-set (omega (arith, c.loop-at.invariant.same, c.requires.2, c.if-tape-at.false))
-
-pub overflow_add-depth : goal.overflow_add-depth
-overflow_add-depth c = omega (arith, c.loop-at.invariant.low)
-
-pub overflow_cast-parents : goal.overflow_cast-parents
-overflow_cast-parents c = omega (arith, c.requires.1, c.if-tape-at.false)
-
-pub offset_bounds-parents-depth-else-command-eq2 : goal.offset_bounds-parents-depth-else-command-eq2
-offset_bounds-parents-depth-else-command-eq2 c = omega (arith, c.loop-at.invariant.low)
-
-pub bounds-parents-depth-else-command-eq2 : goal.bounds-parents-depth-else-command-eq2
-bounds-parents-depth-else-command-eq2 c = omega (arith, open_low _ _ c.head_at-head.result (sym c.check_open-found.ensures ∙ c.in_default-found.is))
+pub push-requires : goal.push-requires
+push-requires c =
+    let low : length c.loop-at.open.items < 64 = omega (arith, open_low _ _ c.in-Open.node (placed_ok _ _ c.in_ok-check_open-in-Open.ensures), c.len.ensures.value) in
+    (omega arith, low)
 
 pub loop-at-preserved : goal.loop-at-preserved
 loop-at-preserved c =
-    rw (c.with_child.ensures, c.opened.ensures)
-    (next-open _ _ c.loop-at.invariant ((elim c.if-depth-eq0-3.branch [ then-depth-eq0-3+else-at-gt0 w ↦ λ _. omega arith | else-depth-eq0-3 w ↦ λ z. absurd (w.if-depth-eq0-3.false z) ]))
-    (at_open _ _ c.if-tape-at.false ((elim c.if-command-ne2.branch [ then-command-ne2+else-command-ne1 w ↦ omega arith | else-command-ne2 w ↦ absurd (c.if-command-eq2.false w.if-command-ne2.false) ]))) c.head_at-head.ensures
-    (sym c.check_open-found.ensures ∙ c.in_default-found.is))
+    next-open-last _ _ _ _ c.loop-at.invariant (elim c.else-is_empty-2.branch [ else-is_empty-2-via-then-is_empty-2+else-at-gt0 w ↦ λ _. omega arith | else-is_empty-2-via-else-is_empty-2 w ↦ λ z. absurd (some_open _ c.is_empty-in-Open.ensures w.if-is_empty-2.false z) ])
+    (rw c.in-Open.is at c.in_ok-command_at.ensures.sort) (rw c.in-Open.is at c.in_ok-command_at.ensures.place) (c.len.ensures.value ∙ sym (length-reverse _))
+    (placed_ok _ _ c.in_ok-check_open-in-Open.ensures) (c.copied.ensures ∙ c.last.ensures.value ∙ ap (λ (xs : List ℕ). slice_get xs (length xs - 1)) c.as_slice.ensures.value ∙ last-innermost c.loop-at.open.items) c.note_open.ensures c.push.ensures.items
 
-pub shape_of-facts-then-depth-gt0 : goal.shape_of-facts-then-depth-gt0
-shape_of-facts-then-depth-gt0 c = c.loop-at.invariant.same
-
-pub returns-then-depth-gt0 : goal.returns-then-depth-gt0
-returns-then-depth-gt0 c = end-open _ _ c.loop-at.invariant c.loop-at-test.false (λ z. omega arith) _
-
-pub shape_of-facts-then-tape-eq0 : goal.shape_of-facts-then-tape-eq0
-shape_of-facts-then-tape-eq0 c = c.loop-at.invariant.same
-
-pub returns-then-tape-eq0 : goal.returns-then-tape-eq0
-returns-then-tape-eq0 c = no_root _ _ c.if-tape-eq0.true _
-
-pub shape_of-facts : goal.shape_of-facts
-shape_of-facts c = c.loop-at.invariant.same
+pub returns-then-not-is_empty : goal.returns-then-not-is_empty
+returns-then-not-is_empty c =
+    elim c.then-not-is_empty.branch [
+      | then-not-is_empty-via-then-not-is_empty w ↦ end-open _ _ c.loop-at.invariant c.loop-at-test.false (some_open _ c.is_empty-2.ensures w.if-not-is_empty.true) _
+      | then-not-is_empty-via-else-not-is_empty+then-is_empty-3 w ↦ no_root _ _ (eqb-true _ 0 (sym w.is_empty-else-not-is_empty.ensures ∙ w.if-is_empty-3.true)) _
+    ]
 
 pub returns : goal.returns
-returns c = end-root _ _ c.loop-at.invariant c.loop-at-test.false c.requires.2 (omega arith) (λ z. c.if-tape-eq0.false (omega arith))
+returns c =
+    let some = eqb-false _ 0 (sym c.is_empty-else-not-is_empty.ensures ∙ c.if-is_empty-3.false) in
+    end-root _ _ c.loop-at.invariant c.loop-at-test.false c.requires.1 (none_open _ c.is_empty-2.ensures c.if-not-is_empty.false) (λ z. some (omega arith))

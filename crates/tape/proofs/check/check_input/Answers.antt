@@ -8,18 +8,21 @@ pub returns-then-text-gt262144 : goal.returns-then-text-gt262144
 unfolding read_input
 returns-then-text-gt262144 c = rw (lt-ltb _ _ c.if-text-gt262144.true) (refl, tt)
 
-pub returns-in-At : goal.returns-in-At
+pub returns-in-Some : goal.returns-in-Some
 unfolding read_input
-returns-in-At c = rw (le-ltb _ _ c.if-text-gt262144.false, sym c.ill_formed_at-ill_formed.ensures ∙ c.in-At.is) (refl, tt)
+returns-in-Some c = rw (le-ltb _ _ c.if-text-gt262144.false, sym c.ill_formed_at-ill_formed.ensures ∙ c.in-Some.is) (refl, tt)
 
 pub returns-then-tape-gt262144 : goal.returns-then-tape-gt262144
 unfolding read_input
 returns-then-tape-gt262144 c = rw (le-ltb _ _ c.if-text-gt262144.false, sym c.ill_formed_at-ill_formed.ensures ∙ c.in_default.is, lt-ltb _ _ c.if-tape-gt262144.true) (refl, tt)
 
-pub check-requires : goal.check-requires
-check-requires c =
+pub invariant_of-check : goal.invariant_of-check
+invariant_of-check c =
     let well = sym c.ill_formed_at-ill_formed.ensures ∙ c.in_default.is in
-    (record { well_formed = well; start = c.ascii_start-ascii.ensures }, c.if-tape-gt262144.false, c.requires c.if-tape-gt262144.false)
+    record { known = record { well_formed = well; start = c.ascii_start-ascii.ensures } }
+
+pub check-requires : goal.check-requires
+check-requires c = (c.if-tape-gt262144.false, c.requires c.if-tape-gt262144.false)
 
 pub returns : goal.returns
 unfolding read_input

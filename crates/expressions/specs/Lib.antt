@@ -1,0 +1,2 @@
+-- What arms that several routines share do.
+pub mod SharedArms

@@ -1,0 +1,226 @@
+// What each routine does with its children, by the routine: its local variables at first; the arms of a token; what goes before and after a
+// child node; what becomes of the local variables then; its end. `multi` is what a list clause looks ahead for: whether it holds no list and
+// several nodes. `several` is whether the child node is its list and holds several items. No other routine asks for either.
+ghost use Rattle.std.specs.Prelude.{◌≡◌, ◌*◌, ◌<◌, Bool, length};
+ghost use Rattle.context.specs.Store.{Room};
+ghost use Rattle.tape.specs.NodeFacts.{facts_at};
+ghost use Rattle.token_map.specs.Signed.{Signed};
+ghost use Rattle.tokens.specs.TokenPromises.{ArmDone, Spaced, SpacedUnwritten};
+ghost use Rattle.formatter.specs.KnownArms.{counted, known_arms, noted_multi};
+
+use clauses::{
+    file_before, file_token, join_clause_token, list_clause_after, list_clause_before,
+    list_clause_end, list_clause_local, list_clause_token, multi_item, query_list_before,
+    query_list_token, select_clause_after, select_clause_before, select_clause_token,
+    select_statement_before, select_statement_token, settings_clause_after, settings_clause_before,
+    several_items, simple_clause_token, union_clause_before, union_clause_local,
+    union_clause_token, with_clause_after, with_clause_before,
+};
+use context::FormatterContext;
+use expressions::{
+    alter_command_list_token, binary_expression_token, brace_list_token, bracket_list_token,
+    case_expression_before, case_expression_token, comma_list_token, data_type_token,
+    function_call_token, inline_comma_list_token, inline_tight_parens_token, inline_token,
+    paren_list_token, passthrough_token, subquery_token, unary_expression_token, when_clause_token,
+};
+use layout::{Local, Routine};
+use tape::syntax_kind;
+use token_map::Signs;
+use tokens::{Arm, Settings, Token, emit_other, space_after, space_if};
+
+pub(crate) fn begin(routine: Routine) -> Local
+    ensures { (multi : Bool) → result ≡ (known_arms routine multi).begin }
+{
+    match routine {
+        Routine::QueryList | Routine::SelectStatement => Local::flagged(true),
+        _ => Local::flagged(false),
+    }
+}
+
+// Whether a list clause holds no list and several nodes, by what the check has noted of it.
+pub(crate) fn multi(facts: &[u8], at: usize, routine: Routine) -> bool
+    requires { at < 11 * length facts.now }
+    ensures { result ≡ noted_multi routine (facts_at facts.now at) }
+{
+    match routine {
+        Routine::ListClause(list) => multi_item(facts, at, list),
+        _ => false,
+    }
+}
+
+#[inline(always)]
+pub(crate) fn token(
+    settings: &Settings,
+    out: &mut [u8],
+    routine: Routine,
+    multi: bool,
+    c: FormatterContext,
+    local: Local,
+    t: Token,
+) -> Arm
+    requires { Room 4 c }
+    ensures { ArmDone settings.now t.entry (known_arms routine multi).at_token local c out.old result out.new }
+{
+    let context = match routine {
+        Routine::File => file_token(settings, out, c, t),
+        Routine::QueryList => query_list_token(settings, out, c, t),
+        Routine::SelectStatement => select_statement_token(settings, out, c, t),
+        Routine::SelectClause | Routine::SettingsClause | Routine::WithClause => {
+            select_clause_token(settings, out, c, t)
+        }
+        Routine::SimpleClause => return simple_clause_token(settings, out, c, local, t),
+        Routine::ListClause(list) => list_clause_token(settings, out, c, multi, t),
+        Routine::JoinClause => return join_clause_token(settings, out, c, local, t),
+        Routine::Inline => return inline_token(settings, out, c, local, t),
+        Routine::CommaList => return comma_list_token(settings, out, c, local, t),
+        Routine::InlineCommaList => inline_comma_list_token(settings, out, c, t),
+        Routine::BinaryExpression => binary_expression_token(settings, out, c, t),
+        Routine::UnaryExpression => unary_expression_token(settings, out, c, t),
+        Routine::FunctionCall => function_call_token(settings, out, c, t),
+        Routine::CaseExpression => case_expression_token(settings, out, c, t),
+        Routine::WhenClause => when_clause_token(settings, out, c, t),
+        Routine::Subquery => subquery_token(settings, out, c, t),
+        Routine::ParenList => paren_list_token(settings, out, c, t),
+        Routine::BracketList => bracket_list_token(settings, out, c, t),
+        Routine::InlineNoSpaces => emit_other(settings, out, c, t),
+        Routine::BraceList => brace_list_token(settings, out, c, t),
+        Routine::DataType => data_type_token(settings, out, c, t),
+        Routine::InlineTightParens => {
+            return inline_tight_parens_token(settings, out, c, local, t);
+        }
+        Routine::AlterCommandList => alter_command_list_token(settings, out, c, t),
+        Routine::UnionClause => union_clause_token(settings, out, c, local, t),
+        Routine::Passthrough => passthrough_token(settings, out, c, t),
+    };
+    Arm { context, local }
+}
+
+// How the routine writes its tokens, for the token map.
+pub(crate) fn signs(routine: Routine) -> Signs
+    ensures { (multi : Bool) → Signed result (known_arms routine multi) }
+{
+    match routine {
+        Routine::File | Routine::QueryList => Signs::Semicolon,
+        Routine::SelectStatement => Signs::NoSemicolon,
+        Routine::ListClause(list) => Signs::Comma,
+        Routine::CommaList | Routine::InlineCommaList | Routine::AlterCommandList => Signs::Comma,
+        Routine::UnaryExpression => Signs::Minus,
+        Routine::FunctionCall | Routine::Subquery => Signs::RoundBrackets,
+        Routine::ParenList | Routine::DataType => Signs::CommaRoundBrackets,
+        Routine::BracketList => Signs::CommaSquareBrackets,
+        Routine::BraceList => Signs::CommaColonCurlyBraces,
+        _ => Signs::Nothing,
+    }
+}
+
+// Before the child node that opens at `at`: the context, and what the local variables are after the node.
+#[inline(always)]
+pub(crate) fn before(
+    facts: &[u8],
+    at: usize,
+    out: &mut [u8],
+    routine: Routine,
+    multi: bool,
+    c: FormatterContext,
+    local: Local,
+    kind: u16,
+) -> Arm
+    requires { Room 2 c × (at < 11 * length facts.now) }
+    ensures before { Spaced 2 ((known_arms routine multi).at_node local kind (counted (facts_at facts.now at))).1 c out.old result.context out.new }
+    ensures kept { result.local ≡ ((known_arms routine multi).at_node local kind (counted (facts_at facts.now at))).0 }
+{
+    match routine {
+        Routine::File => Arm {
+            context: file_before(out, c, local),
+            local: Local::flagged(true),
+        },
+        Routine::QueryList => Arm {
+            context: query_list_before(out, c, local),
+            local: Local::flagged(false),
+        },
+        Routine::SelectStatement => Arm {
+            context: select_statement_before(out, c, local),
+            local: Local::flagged(false),
+        },
+        Routine::SelectClause => Arm {
+            context: select_clause_before(out, c, kind),
+            local,
+        },
+        Routine::SimpleClause | Routine::JoinClause => Arm {
+            context: space_if(c, local.flag),
+            local: Local::flagged(true),
+        },
+        Routine::ListClause(list) => {
+            let several = several_items(facts, at, list, kind);
+            Arm {
+                context: list_clause_before(out, c, list, multi, local, kind, several),
+                local: list_clause_local(list, multi, local, kind),
+            }
+        }
+        Routine::SettingsClause => Arm {
+            context: settings_clause_before(out, c, kind),
+            local,
+        },
+        Routine::WithClause => Arm {
+            context: with_clause_before(out, c),
+            local,
+        },
+        Routine::CommaList => Arm {
+            context: space_if(c, !local.flag),
+            local: Local::flagged(false),
+        },
+        Routine::CaseExpression => Arm {
+            context: case_expression_before(out, c, kind),
+            local,
+        },
+        Routine::InlineTightParens | Routine::Inline => Arm {
+            context: space_if(c, space_after(local.prev)),
+            local: Local::after(syntax_kind::BARE_WORD),
+        },
+        Routine::UnionClause => Arm {
+            context: union_clause_before(out, c, local, kind),
+            local: union_clause_local(local, kind),
+        },
+        _ => Arm { context: c, local },
+    }
+}
+
+#[inline(always)]
+pub(crate) fn after(
+    facts: &[u8],
+    at: usize,
+    routine: Routine,
+    c: FormatterContext,
+    local: Local,
+    kind: u16,
+) -> FormatterContext
+    requires { at < 11 * length facts.now }
+    ensures { (multi : Bool) → SpacedUnwritten 0 ((known_arms routine multi).at_node local kind (counted (facts_at facts.now at))).2 c result }
+{
+    match routine {
+        Routine::SelectClause => select_clause_after(c, kind),
+        Routine::ListClause(list) => list_clause_after(
+            c,
+            list,
+            kind,
+            several_items(facts, at, list, kind),
+        ),
+        Routine::SettingsClause => settings_clause_after(c, kind),
+        Routine::WithClause => with_clause_after(c),
+        _ => c,
+    }
+}
+
+pub(crate) fn end(
+    routine: Routine,
+    multi: bool,
+    c: FormatterContext,
+    local: Local,
+) -> FormatterContext
+    ensures { SpacedUnwritten 0 ((known_arms routine multi).at_end local) c result }
+{
+    match routine {
+        Routine::ListClause(list) => list_clause_end(c, multi, local),
+        _ => c,
+    }
+}
