@@ -6,7 +6,7 @@ ghost use Rattle.std.specs.Prelude.{◌≡◌, ltb, length};
 ghost use Rattle.keywords.specs.Words.{capitals, same, word_of};
 ghost use Rattle.layout.specs.Layout.{original};
 ghost use Rattle.layout.specs.MapCall.{Mapped, mapped};
-ghost use Rattle.layout.specs.Outcome.{Result, laid_out, outcome};
+ghost use Rattle.layout.specs.Outcome.{Result, answer_of, laid_out, outcome};
 ghost use Rattle.book.specs.Report.{Called, reported};
 ghost use Rattle.desk_job.specs.Job.{printed};
 ghost use Rattle.desk_job.specs.Written.{Written, written};
@@ -19,21 +19,33 @@ use book::{Reported, Tally, report_from};
 use desk_job::print_job;
 use formatter::{layout, layout_map};
 use keywords::{Word, is_word, walk, word_of};
-use layout::Answer;
+use layout::{Answer, Refused};
 use qdesk::{qdesk_layout, qdesk_layout_map, qdesk_report, qdesk_word};
 use two_books::report_both;
 use two_calls::{layout_both, layout_map_both, layout_twice};
 
 // Demand 1: bad input is refused with its number and place, nothing is written, and nothing else is refused.
-pub fn demand_1(text: &[u8], tape: &[u8], width: u64, case: u64, out: &mut [u8]) -> Answer
-    ensures { Demand1 width case text.now tape.now out.old result out.new }
+pub fn demand_1(
+    text: &[u8],
+    tape: &[u8],
+    width: u64,
+    case: u64,
+    out: &mut [u8],
+) -> Result<usize, Refused>
+    ensures { Demand1 width case text.now tape.now out.old (answer_of result) out.new }
 {
     layout(text, tape, width, case, out)
 }
 
 // Demand 2: the bytes written are those of the definition that follows the source, and later bytes stay as they were.
-pub fn demand_2(text: &[u8], tape: &[u8], width: u64, case: u64, out: &mut [u8]) -> Answer
-    ensures { Demand2 width case text.now tape.now out.old result out.new }
+pub fn demand_2(
+    text: &[u8],
+    tape: &[u8],
+    width: u64,
+    case: u64,
+    out: &mut [u8],
+) -> Result<usize, Refused>
+    ensures { Demand2 width case text.now tape.now out.old (answer_of result) out.new }
 {
     layout(text, tape, width, case, out)
 }
@@ -47,8 +59,8 @@ pub fn demand_3(
     case: u64,
     out_a: &mut [u8],
     out_b: &mut [u8],
-) -> (Answer, Answer)
-    ensures { Demand3 width case a.now b.now tape.now out_a.old out_b.old result out_a.new out_b.new }
+) -> (Result<usize, Refused>, Result<usize, Refused>)
+    ensures { Demand3 width case a.now b.now tape.now out_a.old out_b.old (answer_of result.0, answer_of result.1) out_a.new out_b.new }
 {
     layout_both(a, b, tape, width, case, out_a, out_b)
 }
@@ -82,8 +94,8 @@ pub fn request_3(
     case: u64,
     out: &mut [u8],
     map: &mut [u64],
-) -> Answer
-    ensures { TokenPlaces width case text.now tape.now out.old map.old result out.new map.new }
+) -> Result<usize, Refused>
+    ensures { TokenPlaces width case text.now tape.now out.old map.old (answer_of result) out.new map.new }
 {
     layout_map(text, tape, width, case, out, map)
 }
@@ -99,8 +111,8 @@ pub fn request_3_masked(
     out_b: &mut [u8],
     map_a: &mut [u64],
     map_b: &mut [u64],
-) -> (Answer, Answer)
-    ensures { MapsMasked width case a.now b.now tape.now out_a.old out_b.old map_a.old map_b.old result out_a.new out_b.new map_a.new map_b.new }
+) -> (Result<usize, Refused>, Result<usize, Refused>)
+    ensures { MapsMasked width case a.now b.now tape.now out_a.old out_b.old map_a.old map_b.old (answer_of result.0, answer_of result.1) out_a.new out_b.new map_a.new map_b.new }
 {
     layout_map_both(a, b, tape, width, case, out_a, out_b, map_a, map_b)
 }
@@ -134,8 +146,8 @@ pub fn request_5(
     case: u64,
     out_a: &mut [u8],
     out_b: &mut [u8],
-) -> (Answer, Answer)
-    ensures { OneCall width case text.now tape.now out_a.old out_b.old result out_a.new out_b.new }
+) -> (Result<usize, Refused>, Result<usize, Refused>)
+    ensures { OneCall width case text.now tape.now out_a.old out_b.old (answer_of result.0, answer_of result.1) out_a.new out_b.new }
 {
     layout_twice(text, tape, width, case, out_a, out_b)
 }

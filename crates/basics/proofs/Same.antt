@@ -5,6 +5,7 @@ use mathlib.Core.List.{List, [], ◌∷◌}
 use Prim.Native.Nat.{ℕ, suc, ◌+◌, ◌<◌}
 use native.Mathlib.Numerals.{add-one}
 use borrow.Author.Tests.{eqb-true}
+use Rattle.std.proofs.lemmas.Bool.{and_parts}
 use lib.Dec.{T, eqb}
 use lib.ListN.{length, drop, get_or}
 use lib.Pointwise.{pointwise}
@@ -34,17 +35,13 @@ pub same_step : (xs ys : List ℕ) (i : ℕ) → i < length xs → i < length ys
 unfolding same
 same_step xs ys i h k = rw (add-one, drop-cons xs i 0 h, drop-cons ys i 0 k)
 
-pub and_true : (a b : Bool) → (a && b) ≡ true → (a ≡ true) × (b ≡ true)
-and_true true b h = (refl, h)
-and_true false b h = let z : ◌≡◌ {A = Bool} false true = h in (z, absurd (false≢true z))
-
 pub same-equal : (xs ys : List ℕ) → same xs ys ≡ true → xs ≡ ys
 unfolding same
 same-equal [] [] h = refl
 same-equal [] (y ∷ ys) h = absurd (false≢true h)
 same-equal (x ∷ xs) [] h = absurd (false≢true h)
 same-equal (x ∷ xs) (y ∷ ys) h =
-    let p = and_true (eqb x y) (same xs ys) h in
+    let p = and_parts (eqb x y) (same xs ys) h in
     let q = eqb-true x y p.0 in
     let r = same-equal xs ys p.1 in
     cc

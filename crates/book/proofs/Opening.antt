@@ -7,28 +7,20 @@ use native.Mathlib.Omega.{arith}
 use lib.ListN.{length, get_or}
 use lib.Dec.{leb, eqb}
 use borrow.Author.Tests.{leb-true, le-leb, lt-leb, le-ltb}
+use Rattle.std.proofs.lemmas.Bool.{and_parts}
 use Rattle.std.specs.Prelude.{Ok, Err}
 use Rattle.book.specs.declared.open.BookFault.TheVariants.{NotWhole, TooMany}
 use Rattle.book.specs.Book.{job_end, is_whole, walk, opened}
-
-pub first-true : (a b : Bool) → (a && b) ≡ true → a ≡ true
-first-true true b h = refl
-first-true false b h = h
-
-pub second-true : (a b : Bool) → (a && b) ≡ true → b ≡ true
-second-true true b h = h
-second-true false true h = refl
-second-true false false h = h
 
 -- a command that stands whole
 module _ (book : List ℕ) (at : ℕ) (h : is_whole book at ≡ true) where
   pub head-within : at + 5 ≤ length book
   unfolding is_whole
-  head-within = leb-true (at + 5) (length book) (first-true _ _ h)
+  head-within = leb-true (at + 5) (length book) (and_parts _ _ h).0
 
   pub job_within : job_end book at ≤ length book
   unfolding is_whole
-  job_within = leb-true (job_end book at) (length book) (second-true (eqb (get_or book at 0) 32) _ (second-true (leb (at + 5) (length book)) _ h))
+  job_within = leb-true (job_end book at) (length book) (and_parts (eqb (get_or book at 0) 32) _ (and_parts (leb (at + 5) (length book)) _ h).1).1
 
 pub job_after : (book : List ℕ) (at : ℕ) → at + 5 ≤ job_end book at
 unfolding job_end

@@ -17,7 +17,7 @@ use Rattle.book.specs.Book.{job_end, job_at, is_whole}
 use Rattle.book.specs.Report.{job_line}
 use Rattle.book.specs.Steps.{all_whole, Counted, Stepped}
 use Rattle.book.proofs.Telling.{told-bytes, told-lines}
-use Rattle.book.proofs.Opening.{first-true, second-true}
+use Rattle.std.proofs.lemmas.Bool.{and_parts}
 
 -- what a job adds, number by number
 module _ (t : Tally) where
@@ -44,12 +44,12 @@ module _ (t : Tally) where
 pub first-whole : (k : ℕ) (book : List ℕ) (at : ℕ) → 0 < k → all_whole k book at ≡ true → is_whole book at ≡ true
 unfolding all_whole
 first-whole zero book at l h = absurd (omega (arith, l))
-first-whole (suc k) book at l h = first-true _ _ h
+first-whole (suc k) book at l h = (and_parts _ _ h).0
 
 pub rest_whole : (k : ℕ) (book : List ℕ) (at : ℕ) → 0 < k → all_whole k book at ≡ true → all_whole (k - 1) book (job_end book at) ≡ true
 unfolding all_whole
 rest_whole zero book at l h = absurd (omega (arith, l))
-rest_whole (suc k) book at l h = rw (sub-one) (second-true (is_whole book at) _ h)
+rest_whole (suc k) book at l h = rw (sub-one) (and_parts (is_whole book at) _ h).1
 
 -- a tally of few jobs has room for one more, and is then that of one more
 module _ (most : ℕ) (t : Tally) (h : Counted most t) (job : List ℕ) where

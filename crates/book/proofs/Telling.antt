@@ -5,6 +5,7 @@ use mathlib.Core.List.{List, [], ◌∷◌, ◌++◌}
 use Prim.Native.Nat.{ℕ, suc, ◌+◌, ◌≤◌}
 use native.Mathlib.Omega.{arith}
 use lib.ListN.{length, take, drop, length-append}
+use lib.Seq.{take-append_seam}
 use lib.Dec.{eqb}
 use Rattle.context.specs.Cells.{count}
 use Rattle.layout.specs.declared.Answer.{Answer}
@@ -47,10 +48,6 @@ told-lines job = few_lines (answered_job job) (job_fits job)
 
 -- ── from the answer to what is told
 
-front : (bs rest : List ℕ) → take (length bs) (bs ++ rest) ≡ bs
-front [] rest = refl
-front (b ∷ bs) rest = ap (λ (r : List ℕ). b ∷ r) (front bs rest)
-
 module _ (r : Answer) (work out : List ℕ) where
   pub told-refusal : (a : Answered) → ◌≡◌ {A = Result} (record { answer = r; space = out }) (leaves a work) → (r.number ≡ 0 → ⊥)
       → ◌≡◌ {A = Telling} (record { told = Err (record { number = r.number; place = r.value }); work = out }) (telling a work)
@@ -63,7 +60,7 @@ module _ (r : Answer) (work out : List ℕ) where
   unfolding leaves told_of telling
   told_text room (refused n p) f h z m e = let k : r.number ≡ n = ap (λ (x : Result). x.answer.number) h in absurd (omega (arith, k, z, f))
   told_text room (text bs) f h z m e =
-      let c = e ∙ ap (λ (x : Result). count 10 (take x.answer.value x.space)) h ∙ ap (count 10) (front bs (drop (length bs) work)) in
+      let c = e ∙ ap (λ (x : Result). count 10 (take x.answer.value x.space)) h ∙ ap (count 10) (take-append_seam bs (drop (length bs) work)) in
       λ i. record { told = Ok (record { bytes = (h i).answer.value; lines = c i }); work = (h i).space }
 
   -- what is laid out ends within the space

@@ -1,7 +1,8 @@
 -- What a report tells of a job: the answer of the desk's program, whose output buffer has 65,536 bytes.
 use Rattle.std.specs.Prelude.{false, List, ℕ, length, Result, Ok, Err}
 use Rattle.context.specs.Cells.{count}
-use Rattle.desk_job.specs.Job.{Answered, refused, text, answered, leaves}
+use Rattle.desk_job.specs.declared.JobRefused.{JobRefused}
+use Rattle.desk_job.specs.Job.{Answered, refused, text, answered, refusal_number, refusal_place, leaves}
 use Rattle.book.specs.declared.told.LaidOut.{LaidOut}
 use Rattle.book.specs.declared.told.Refusal.{Refusal}
 
@@ -13,6 +14,10 @@ Told = Result LaidOut Refusal
 unfoldable pub told_of : Answered → Told
 told_of (refused n p) = Err (record { number = n; place = p })
 told_of (text bs) = Ok (record { bytes = length bs; lines = count 10 bs })
+
+-- the number and the place that are told of a refusal
+abbrev pub refusal_of : JobRefused → Refusal
+refusal_of r = record { number = refusal_number r; place = refusal_place r }
 
 -- a job of a book has an end, so that nothing follows it
 unfoldable pub answered_job : List ℕ → Answered

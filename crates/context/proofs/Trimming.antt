@@ -12,10 +12,6 @@ pub after_none : (j : ℕ) → trimmed_after 0 0 j ≡ j
 after_none zero = refl
 after_none (suc m) = zero-add (suc m)
 
-pub after-some : (n k j : ℕ) → (j ≡ 0 → ⊥) → n + j ≡ trimmed_after n k j
-after-some n k zero h = absurd (h refl)
-after-some n k (suc m) h = refl
-
 -- three lists in a row
 pub after-after : (l k n i j : ℕ) → trimmed_after l k (trimmed_after n i j) ≡ trimmed_after (l + n) (trimmed_after l k i) j
 after-after l k n i zero = refl

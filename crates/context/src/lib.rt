@@ -121,6 +121,7 @@ impl Position {
 
 // A method that writes asks for room, so that no sum wraps, and for a width and a text within the limits that the entry tests.
 impl FormatterContext {
+    // No derived Default: at the beginning a line starts.
     pub fn new() -> FormatterContext
         ensures { result ≡ new }
     {
@@ -224,7 +225,7 @@ impl FormatterContext {
         self
     }
 
-    // The mark, and the context without it.
+    // The mark, and the context without it. This and the next are two names of the source, for one field each.
     #[tactic(auto, unfolding(crate::specs::Context::take_pending_newline))]
     pub fn take_pending_newline(mut self) -> (bool, FormatterContext)
         ensures { Took (take_pending_newline self.state) self result }

@@ -15,11 +15,14 @@ use Rattle.tape.specs.declared.Fault.{Fault}
 use Rattle.tape.specs.declared.Fault.TheVariants.{IndentWidth, CaseByte, TextTooLong, IllFormed, TapeTooLong, UnknownCommand, CutCommand, UnknownKind, KindNotCarried, SpanOutside, TooDeep, NotOneRoot, InsideCharacter, WordNotAscii}
 use Rattle.tape.specs.Faults.{number}
 use Rattle.layout.specs.declared.Answer.{Answer}
+use Rattle.layout.specs.declared.Refused.TheVariants.{Input, OutputSpace, MapSpace}
 use Rattle.layout.specs.Layout.{original}
 use Rattle.layout.specs.Outcome.{Outcome, refusal, laid, Result, fitted, laid_out, outcome}
 use Rattle.std.specs.Prelude.{Ok, Err, Result as Checked}
-use Rattle.desk_job.specs.declared.Header.{Header}
-use Rattle.desk_job.specs.Job.{Answered, refused, text, answered_outcome, answered_job, leaves, read_header, accepted, refused_line, printed_answer}
+use Rattle.desk_job.specs.declared.Header.{Header as HeaderNumbers}
+use Rattle.desk_job.specs.declared.JobRefused.{JobRefused}
+use Rattle.desk_job.specs.declared.JobRefused.TheVariants.{Header, Layout}
+use Rattle.desk_job.specs.Job.{Answered, refused, text, answered_outcome, answered_job, leaves, read_header, accepted, refusal_number, refused_line, printed_answer}
 use Rattle.desk_job.proofs.Writing.{Wrote, wrote}
 
 -- no refusal has the number 0
@@ -38,6 +41,12 @@ positive TooDeep = omega arith
 positive NotOneRoot = omega arith
 positive InsideCharacter = omega arith
 positive WordNotAscii = omega arith
+
+pub some_number : (r : JobRefused) → refusal_number r ≡ 0 → ⊥
+some_number (Header p) z = absurd (omega (arith, z))
+some_number (Layout (Input r)) z = absurd (omega (arith, z, positive r.fault))
+some_number (Layout (OutputSpace n)) z = absurd (omega (arith, z))
+some_number (Layout (MapSpace n)) z = absurd (omega (arith, z))
 
 pub splice_front : (bs xs : List ℕ) → length bs ≤ length xs → bs ++ drop (length bs) xs ≡ splice 0 bs xs
 unfolding splice
@@ -87,7 +96,7 @@ unfolding answered_outcome
 outcome_fits (refusal f p) room = positive f
 outcome_fits (laid cs) room = laid-fits (leb (length cs) room) cs room refl
 
-pub answer-fits : (h : Checked Header ℕ) (job : List ℕ) (room : ℕ) → Fits (answered_job h job room) room
+pub answer-fits : (h : Checked HeaderNumbers ℕ) (job : List ℕ) (room : ℕ) → Fits (answered_job h job room) room
 unfolding answered_job
 answer-fits (Err p) job room = omega arith
 answer-fits (Ok h) job room =

@@ -5,8 +5,11 @@ use Rattle.keywords.specs.Words.{bytes}
 use Rattle.tape.specs.Faults.{number}
 use Rattle.tape.specs.Tape.{u32_at}
 use Rattle.layout.specs.Layout.{original}
-use Rattle.layout.specs.Outcome.{Outcome, refusal, laid, Result as CallResult, answer, outcome}
+use Rattle.layout.specs.declared.Answer.{Answer}
+use Rattle.layout.specs.Outcome.{Outcome, refusal, laid, Result as CallResult, answer, refused_number, refused_value, outcome}
 use Rattle.desk_job.specs.declared.Header.{Header}
+use Rattle.desk_job.specs.declared.JobRefused.{JobRefused}
+use Rattle.desk_job.specs.declared.JobRefused.TheVariants.{Header as BadHeader, Layout}
 
 -- the command stands at `at`, whole up to `end`
 unfoldable pub has_command : List ℕ → ℕ → ℕ → ℕ → Bool
@@ -49,6 +52,20 @@ answered_job (Ok h) job room =
 -- the answer to a job, with an output buffer of `room` bytes
 abbrev pub answered : Bool → List ℕ → ℕ → Answered
 answered more job room = answered_job (read_header more job) job room
+
+-- 14 and the place in the header, or the two numbers of what `layout` refuses
+abbrev pub refusal_number : JobRefused → ℕ
+refusal_number (BadHeader p) = 14
+refusal_number (Layout r) = refused_number r
+
+abbrev pub refusal_place : JobRefused → ℕ
+refusal_place (BadHeader p) = p
+refusal_place (Layout r) = refused_value r
+
+-- what the program answers for a job, as two numbers: 0 and the length, or a refusal's number and place
+abbrev pub job_answer : Result ℕ JobRefused → Answer
+job_answer (Ok n) = answer 0 n
+job_answer (Err r) = answer (refusal_number r) (refusal_place r)
 
 -- the same as two numbers, as `layout` has them, and the output buffer afterwards
 unfoldable pub leaves : Answered → List ℕ → CallResult

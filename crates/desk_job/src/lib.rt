@@ -5,11 +5,12 @@ pub mod write;
 
 ghost use Rattle.std.specs.Prelude.{◌≡◌, ◌<◌, ◌≤◌, true, false, length, MatchResult};
 ghost use Rattle.layout.specs.Outcome.{Result as CallResult};
-ghost use Rattle.desk_job.specs.Job.{has_command, text_end, read_header, answered, leaves, refused_line, printed};
+ghost use Rattle.desk_job.specs.declared.JobRefused.TheVariants.{Layout};
+ghost use Rattle.desk_job.specs.Job.{has_command, text_end, read_header, answered, refusal_number, refusal_place, job_answer, leaves, refused_line, printed};
 ghost use Rattle.desk_job.specs.Written.{Written, written};
 
 use formatter::layout;
-use layout::Answer;
+use layout::Refused;
 use tape::commands::u32_at;
 use write::Writer;
 
@@ -19,6 +20,43 @@ pub struct Header {
     pub width: u64,
     pub case: u64,
     pub end: usize,
+}
+
+// Why a job is refused: for its header, at a place; or as `layout` refuses what it holds.
+#[derive(Clone, Copy, Debug, PartialEq, Eq)]
+pub enum JobRefused {
+    Header(u64),
+    Layout(Refused),
+}
+
+impl From<Refused> for JobRefused {
+    ghost from_gives = { λ refused answer. answer ≡ Layout refused };
+
+    fn from(refused: Refused) -> JobRefused {
+        JobRefused::Layout(refused)
+    }
+}
+
+impl JobRefused {
+    // The refusal's number.
+    pub fn number(self) -> u64
+        ensures { result ≡ refusal_number self }
+    {
+        match self {
+            JobRefused::Header(_) => 14,
+            JobRefused::Layout(refused) => refused.number(),
+        }
+    }
+
+    // The place, or the needed length where that is refused.
+    pub fn place(self) -> u64
+        ensures { result ≡ refusal_place self }
+    {
+        match self {
+            JobRefused::Header(place) => place,
+            JobRefused::Layout(refused) => refused.value(),
+        }
+    }
 }
 
 // The command has to stand at `at`, whole up to `end`, and is refused there. The place lies before the end, so the test of the end is one of the place.
@@ -61,22 +99,22 @@ fn read_header(job: &[u8], more: bool) -> Result<Header, u64>
     })
 }
 
-// How the program answers a job: 0 and the length of its layout, which then stands in `out`; else 14, or what `layout` refuses, and the place.
-pub fn answer_job(job: &[u8], more: bool, out: &mut [u8]) -> Answer
-    ensures { ◌≡◌ {A = CallResult} (record { answer = result; space = out.new }) (leaves (answered more job.now (length out.old)) out.old) }
+// How the program answers a job: the length of its layout, which then stands in `out`; or why it is refused.
+pub fn answer_job(job: &[u8], more: bool, out: &mut [u8]) -> Result<usize, JobRefused>
+    ensures { ◌≡◌ {A = CallResult} (record { answer = job_answer result; space = out.new }) (leaves (answered more job.now (length out.old)) out.old) }
 {
     match read_header(job, more) {
-        Err(place) => Answer {
-            number: 14,
-            value: place,
-        },
-        Ok(header) => layout(
-            &job[9..header.end],
-            &job[header.end..],
-            header.width,
-            header.case,
-            out,
-        ),
+        Err(place) => Err(JobRefused::Header(place)),
+        Ok(header) => {
+            let length = layout(
+                &job[9..header.end],
+                &job[header.end..],
+                header.width,
+                header.case,
+                out,
+            )?;
+            Ok(length)
+        }
     }
 }
 
@@ -93,9 +131,8 @@ pub fn print_refusal(number: u64, place: u64, out: &mut [u8]) -> usize
 pub fn print_job(job: &[u8], more: bool, out: &mut [u8]) -> usize
     ensures { ◌≡◌ {A = Written} (record { end = result; space = out.new }) (written 0 (printed more job.now (length out.old)) out.old) }
 {
-    let answer = answer_job(job, more, out);
-    if answer.number == 0 {
-        return answer.value as usize;
+    match answer_job(job, more, out) {
+        Ok(length) => length,
+        Err(refused) => print_refusal(refused.number(), refused.place(), out),
     }
-    print_refusal(answer.number, answer.value, out)
 }

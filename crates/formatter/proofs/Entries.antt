@@ -21,23 +21,22 @@ use Rattle.context.proofs.Trimming.{after_none}
 use Rattle.tape.specs.declared.Head.{Head}
 use Rattle.tape.specs.declared.Passed.{Passed}
 use Rattle.std.specs.Prelude.{Result as Answered, Ok, Err}
-use Rattle.tape.specs.declared.Fault.{Fault}
 use Rattle.tape.specs.declared.Refusal.{Refusal}
 use Rattle.tape.specs.Tree.{Tree, tokens}
 use Rattle.tape.specs.NodeFacts.{Noted, NotedOf}
 use Rattle.tape.specs.Tape.{Read, refused, got, read_tree, head_at, verdict}
 use Rattle.tape.specs.Call.{read_call}
-use Rattle.tape.specs.Faults.{number}
 use Rattle.tape.specs.SpelledAt.{AcceptedCall, NodeAt, Skipped}
 use Rattle.tape.proofs.Acceptance.{accepted-call}
 use Rattle.layout.specs.declared.Answer.{Answer}
+use Rattle.layout.specs.declared.Refused.TheVariants.{Input}
 use Rattle.layout.specs.FormatNode.{format_node}
 use Rattle.layout.specs.Calls.{calls}
 use Rattle.layout.specs.Layout.{original, pieces_of, format}
 use Rattle.layout.specs.Run.{run}
 use Rattle.layout.specs.TokenMap.{places_from, no_spot, entry, token_map}
 use Rattle.layout.specs.MapCall.{flat, numbers_of, numbers, Mapped, map_fitted, mapped_as, mapped}
-use Rattle.layout.specs.Outcome.{Outcome, refusal, laid, of_read, config_of, outcome, Result, fitted, laid_out}
+use Rattle.layout.specs.Outcome.{Outcome, refusal, laid, of_read, config_of, outcome, Result, answer_of, fitted, laid_out}
 use Rattle.layout.specs.SpanStarts.{SpansStart}
 use Rattle.layout.proofs.EachCall.{each-call}
 use Rattle.layout.proofs.TokenMaps.{tokens-size, places_count, map-count}
@@ -355,20 +354,17 @@ module _ (width case : ℕ) (text tape : List ℕ) where
 
       go : (x : Read Tree) → Err r ≡ verdict x → of_read x (format original (config_of width case) text) ≡ refusal r.fault r.at
       go (refused g q) u = ap refusal_of (sym u)
-      go (got t q) u = absurd (let z : ◌≡◌ {A = ℕ} 0 1 = cc in omega arith)
+      go (got t q) u = cc
 
-  pub refused-layout : {r : Refusal} {n : ℕ} (xs : List ℕ) → n ≡ number r.fault → Err r ≡ verdict (read_call width case text tape)
-      → ◌≡◌ {A = Result} (record { answer = record { number = n; value = r.at }; space = xs }) (laid_out (outcome original width case text tape) xs)
+  pub refused-layout : {r : Refusal} (xs : List ℕ) → Err r ≡ verdict (read_call width case text tape)
+      → ◌≡◌ {A = Result} (record { answer = answer_of (Err (Input r)); space = xs }) (laid_out (outcome original width case text tape) xs)
   unfolding laid_out
-  refused-layout {r} {n} xs k e =
-      ap (λ (m : ℕ). record { answer = record { number = m; value = r.at }; space = xs }) k ∙ sym (ap (λ (o : Outcome). laid_out o xs) (refused-is r e))
+  refused-layout {r} xs e = sym (ap (λ (o : Outcome). laid_out o xs) (refused-is r e))
 
-  pub refused-map : {r : Refusal} {n : ℕ} (xs ms : List ℕ) → n ≡ number r.fault → Err r ≡ verdict (read_call width case text tape)
-      → ◌≡◌ {A = Mapped} (record { answer = record { number = n; value = r.at }; space = xs; map = ms }) (mapped width case text tape xs ms)
+  pub refused-map : {r : Refusal} (xs ms : List ℕ) → Err r ≡ verdict (read_call width case text tape)
+      → ◌≡◌ {A = Mapped} (record { answer = answer_of (Err (Input r)); space = xs; map = ms }) (mapped width case text tape xs ms)
   unfolding mapped
-  refused-map {r} {n} xs ms k e =
-      ap (λ (m : ℕ). record { answer = record { number = m; value = r.at }; space = xs; map = ms }) k
-      ∙ sym (ap (λ (o : Outcome). mapped_as o (numbers width case text tape) xs ms) (refused-is r e))
+  refused-map {r} xs ms e = sym (ap (λ (o : Outcome). mapped_as o (numbers width case text tape) xs ms) (refused-is r e))
 
   module _ (e : Ok tt ≡ verdict (read_call width case text tape)) where
     call : AcceptedCall width case text tape

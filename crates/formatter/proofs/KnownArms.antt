@@ -1,7 +1,7 @@
 -- The arms of a routine, once it is known what it looks ahead for: what the laws of the loop and the functions of `arms` need of them.
 use Prim.Native.Nat.{ℕ}
 use mathlib.Core.Path.{◌≡◌, refl, sym, ap, ◌∙◌}
-use mathlib.Core.Bool.{Bool, true, false, cond, ◌&&◌}
+use mathlib.Core.Bool.{Bool, true, false, ◌&&◌}
 use mathlib.Core.Logic.{inl, inr, ◌⊎◌}
 use mathlib.Core.List.{[]}
 use lib.Dec.{eqb, ltb}
@@ -15,8 +15,8 @@ use Rattle.layout.specs.Routines.{flagged, list_clause_node, inline_node, format
 use Rattle.token_map.specs.Signed.{Signed}
 use Rattle.token_map.specs.declared.Signs.TheVariants as signs
 use Rattle.token_map.proofs.SignedRoutines.{select_signed, simple_signed, settings_signed, with_signed, join_signed, inline_signed, binary_signed, case-signed, when_signed, no_spaces_signed, tight_paren_signed, union_signed, pass_signed}
-use Rattle.formatter.specs.KnownArms.{counted, known_arms, noted_multi}
-use Rattle.formatter.proofs.RoutineLaws.{case-after, union_after, is-list, multi_noted, list-known, list-node, list_node}
+use Rattle.formatter.specs.KnownArms.{counted, known_arms, noted_multi, noted_several}
+use Rattle.formatter.proofs.RoutineLaws.{case-after, union_after, is-list, multi_noted, list-known, list-node, list_node, list_node-same}
 
 pub begins_first : {r : Routine} → (r ≡ TheVariants.QueryList) ⊎ (r ≡ TheVariants.SelectStatement) → (multi : Bool) → flagged true ≡ (known_arms r multi).begin
 unfolding known_arms arms_of format_query_list format_select_statement
@@ -209,6 +209,37 @@ looks_at_nothing TheVariants.AlterCommandList _ f = refl
 looks_at_nothing TheVariants.UnionClause _ f = refl
 looks_at_nothing TheVariants.Passthrough _ f = refl
 
+-- nor around a child node
+pub asks_nothing : (r : Routine) → ((list : ℕ) → r ≡ TheVariants.ListClause list → ⊥) → (k f : ℕ) → false ≡ noted_several r k f
+unfolding noted_several
+asks_nothing TheVariants.File _ k f = refl
+asks_nothing TheVariants.QueryList _ k f = refl
+asks_nothing TheVariants.SelectStatement _ k f = refl
+asks_nothing TheVariants.SelectClause _ k f = refl
+asks_nothing TheVariants.SimpleClause _ k f = refl
+asks_nothing (TheVariants.ListClause list) e k f = absurd (e list refl)
+asks_nothing TheVariants.SettingsClause _ k f = refl
+asks_nothing TheVariants.WithClause _ k f = refl
+asks_nothing TheVariants.JoinClause _ k f = refl
+asks_nothing TheVariants.Inline _ k f = refl
+asks_nothing TheVariants.CommaList _ k f = refl
+asks_nothing TheVariants.InlineCommaList _ k f = refl
+asks_nothing TheVariants.BinaryExpression _ k f = refl
+asks_nothing TheVariants.UnaryExpression _ k f = refl
+asks_nothing TheVariants.FunctionCall _ k f = refl
+asks_nothing TheVariants.CaseExpression _ k f = refl
+asks_nothing TheVariants.WhenClause _ k f = refl
+asks_nothing TheVariants.Subquery _ k f = refl
+asks_nothing TheVariants.ParenList _ k f = refl
+asks_nothing TheVariants.BracketList _ k f = refl
+asks_nothing TheVariants.InlineNoSpaces _ k f = refl
+asks_nothing TheVariants.BraceList _ k f = refl
+asks_nothing TheVariants.DataType _ k f = refl
+asks_nothing TheVariants.InlineTightParens _ k f = refl
+asks_nothing TheVariants.AlterCommandList _ k f = refl
+asks_nothing TheVariants.UnionClause _ k f = refl
+asks_nothing TheVariants.Passthrough _ k f = refl
+
 -- the routine of a node, by what the check has noted of it
 pub known : (r : Routine) (kind : ℕ) {f k : ℕ} {kids : Children} → r ≡ routine_of kind → NodeFacts f k kids → arms_of r kids ≡ known_arms r (noted_multi r f)
 unfolding known_arms noted_multi arms_of
@@ -240,21 +271,18 @@ known TheVariants.AlterCommandList kind e n = refl
 known TheVariants.UnionClause kind e n = refl
 known TheVariants.Passthrough kind e n = refl
 
-pub several_counted : (b : Bool) → b ≡ ltb 1 (cond b 2 0)
+several_counted : (b : Bool) → b ≡ ltb 1 (counted b)
 several_counted true = refl
 several_counted false = refl
 
-pub listed_node : (list : ℕ) (multi : Bool) (l : Local) (k f : ℕ) (several : Bool) → several ≡ (eqb k list && notes_several f)
-    → list_clause_node list multi l k (counted f) ≡ list_node list multi l k several
-listed_node list multi l k f several e =
-    list-node list multi l k (counted f) several (e ∙ ap (λ (b : Bool). eqb k list && b) (several_counted (notes_several f)))
+pub listed_node : (list : ℕ) (multi : Bool) (l : Local) (k : ℕ) (several : Bool) → list_clause_node list multi l k (counted several) ≡ list_node list multi l k several
+listed_node list multi l k several = list-node list multi l k (counted several) several (several_counted several)
 
 -- no routine asks for more than whether a child holds several items
-pub counted-same : (r : Routine) (multi : Bool) (l : Local) (k f n : ℕ) → notes_several f ≡ ltb 1 n → (known_arms r multi).at_node l k n ≡ (known_arms r multi).at_node l k (counted f)
-unfolding known_arms arms_of format_file format_query_list format_select_statement format_select_clause format_simple_clause list_clause_arms format_settings_clause format_with_clause format_join_clause format_inline format_comma_list format_inline_comma_list format_binary_expression format_unary_expression format_function_call format_case_expression format_when_clause format_subquery format_paren_list format_bracket_list format_inline_no_spaces format_brace_list format_data_type format_inline_tight_parens format_alter_command_list format_union_clause format_passthrough list_clause_node inline_node
+pub counted-same : (r : Routine) (multi : Bool) (l : Local) (k f n : ℕ) → notes_several f ≡ ltb 1 n → (known_arms r multi).at_node l k n ≡ (known_arms r multi).at_node l k (counted (noted_several r k f))
+unfolding noted_several known_arms arms_of format_file format_query_list format_select_statement format_select_clause format_simple_clause list_clause_arms format_settings_clause format_with_clause format_join_clause format_inline format_comma_list format_inline_comma_list format_binary_expression format_unary_expression format_function_call format_case_expression format_when_clause format_subquery format_paren_list format_bracket_list format_inline_no_spaces format_brace_list format_data_type format_inline_tight_parens format_alter_command_list format_union_clause format_passthrough list_clause_node inline_node
 counted-same (TheVariants.ListClause list) multi l k f n e =
-    list-node list multi l k n (eqb k list && notes_several f) (ap (λ (b : Bool). eqb k list && b) e)
-    ∙ sym (list-node list multi l k (counted f) (eqb k list && notes_several f) (ap (λ (b : Bool). eqb k list && b) (several_counted (notes_several f))))
+    list-node list multi l k n (notes_several f) e ∙ list_node-same list multi l k (notes_several f) ∙ sym (listed_node list multi l k (eqb k list && notes_several f))
 counted-same TheVariants.File multi l k f n e = refl
 counted-same TheVariants.QueryList multi l k f n e = refl
 counted-same TheVariants.SelectStatement multi l k f n e = refl

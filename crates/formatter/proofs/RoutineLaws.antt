@@ -122,7 +122,7 @@ list_node list multi l k several = (
   cond (eqb k list && several) (dedent ∷ []) [],
 )
 
-pub list-node : (list : ℕ) (multi : Bool) (l : Local) (k n : ℕ) (several : Bool) → several ≡ (eqb k list && ltb 1 n)
+pub list-node : (list : ℕ) (multi : Bool) (l : Local) (k n : ℕ) (several : Bool) → several ≡ ltb 1 n
     → list_clause_node list multi l k n ≡ list_node list multi l k several
 unfolding list_clause_node
 list-node list multi l k n several e = rw e (go (eqb k list) (ltb 1 n) (not l.flag && multi))
@@ -131,13 +131,23 @@ list-node list multi l k n several e = rw e (go (eqb k list) (ltb 1 n) (not l.fl
         → cond {A = Local × List Spacing × List Spacing} p (cond q (l, newline ∷ indent ∷ [], dedent ∷ []) (l, [], [])) (cond r (flagged true, newline ∷ indent ∷ [], []) (l, [], []))
         ≡ (
           (cond {A = Local × List Spacing × List Spacing} p (l, [], []) (cond r (flagged true, newline ∷ indent ∷ [], []) (l, [], []))).0,
-          cond (cond p (p && q) r) (newline ∷ indent ∷ []) [],
-          cond (p && (p && q)) (dedent ∷ []) [],
+          cond (cond p q r) (newline ∷ indent ∷ []) [],
+          cond (p && q) (dedent ∷ []) [],
         )
     go true true r = refl
     go true false r = refl
     go false q true = refl
     go false q false = refl
+
+-- what stands around another node does not depend on that
+pub list_node-same : (list : ℕ) (multi : Bool) (l : Local) (k : ℕ) (several : Bool) → list_node list multi l k several ≡ list_node list multi l k (eqb k list && several)
+list_node-same list multi l k several = go (eqb k list) (list_clause_node list multi l k 0).0 (not l.flag && multi)
+  where
+    go : (p : Bool) (x : Local) (r : Bool)
+        → ◌≡◌ {A = Local × List Spacing × List Spacing} (x, cond (cond p several r) (newline ∷ indent ∷ []) [], cond (p && several) (dedent ∷ []) [])
+        (x, cond (cond p (p && several) r) (newline ∷ indent ∷ []) [], cond (p && (p && several)) (dedent ∷ []) [])
+    go true x r = refl
+    go false x r = refl
 
 pub union_after : (l : Local) (k : ℕ) → [] ≡ (format_union_clause.at_node l k 0).2
 unfolding format_union_clause

@@ -1,6 +1,6 @@
 -- The laws by which the routines and the dispatch meet their promises, one for each kind of need.
 use mathlib.Core.Path.{◌≡◌, refl, sym, ap, subst, ◌∙◌}
-use mathlib.Core.Bool.{Bool, true, false, cond, ◌||◌}
+use mathlib.Core.Bool.{Bool, true, false, cond, not, ◌&&◌, ◌||◌}
 use mathlib.Core.List.{List, ◌++◌, map}
 use Prim.Native.Nat.{ℕ, ◌+◌, ◌-◌, ◌*◌, ◌≤◌, ◌<◌}
 use native.Mathlib.Omega.{arith}
@@ -17,7 +17,7 @@ use Rattle.tape.specs.Kinds.{Error, QueryList}
 use Rattle.tape.specs.Tree.{Tree, Children, done, token, node, size, height, has_error_child, count_list_items, several_list_items, copied, EachNode}
 use Rattle.tape.specs.Tape.{head_at}
 use Rattle.tape.specs.SpelledAt.{SpelledAt, NodeAt, Skipped}
-use Rattle.tape.specs.NodeFacts.{facts_at, notes_error, notes_several, NodeFacts, NotedNode}
+use Rattle.tape.specs.NodeFacts.{facts_at, notes_several, NodeFacts, NotedNode}
 use Rattle.tape.proofs.Trees.{some_size, spelled-inside, spelled-byte, spelled-close, spelled-token, spelled-node, spelled-one}
 use Rattle.layout.specs.declared.Local.{Local}
 use Rattle.layout.specs.declared.Routine.{Routine}
@@ -35,8 +35,9 @@ use Rattle.token_map.specs.Signed.{Signed}
 use Rattle.token_map.proofs.Placing.{seat-of_run, note-right}
 use Rattle.tokens.specs.TokenPromises.{Ran, Spaced, Acted}
 use Rattle.formatter.specs.declared.Walk.{Walk}
+use Rattle.formatter.specs.KnownArms.{noted_copied}
 use Rattle.formatter.specs.RoutinePromises.{Grew, NodeReady, RoutineDone, NodeDone, seat}
-use Rattle.formatter.proofs.Copied.{copied-noted, copied-list, copied-clean}
+use Rattle.formatter.proofs.Copied.{copied-noted}
 
 -- ── the calls of a row of children
 
@@ -332,17 +333,11 @@ Decided source tape i kind b = (kids : Children) → SpelledAt (length source) t
 
 -- by what the check has noted, and the kind that the caller read
 module _ {source tape facts : List ℕ} {config : FormatConfig} {left at kind : ℕ} {c : FormatterContext} (p : NodeReady source tape facts config left at c) (q : kind ≡ (head_at tape at).kind) where
-  noted-error : {r : Bool} → r ≡ notes_error (facts_at facts at) → (kids : Children) → SpelledAt (length source) tape (at + 11) kids → r ≡ (eqb kind Error || has_error_child kids)
-  noted-error e kids z = e ∙ (node-noted p kids z).error ∙ ap (λ (x : ℕ). eqb x Error || has_error_child kids) (sym q)
-
-  pub decided_copied : {r : Bool} → r ≡ notes_error (facts_at facts at) → r ≡ true → (kind ≡ QueryList → ⊥) → Decided source tape at kind true
-  decided_copied e t n kids z = copied-noted kind kids (sym (noted-error e kids z) ∙ t) n
-
-  pub decided_list : kind ≡ QueryList → Decided source tape at kind false
-  decided_list e kids z = copied-list kind kids e
-
-  pub decided_clean : {r : Bool} → r ≡ notes_error (facts_at facts at) → r ≡ false → Decided source tape at kind false
-  decided_clean e t kids z = copied-clean kind kids (sym (noted-error e kids z) ∙ t)
+  pub decided : {r b : Bool} → r ≡ noted_copied kind (facts_at facts at) → r ≡ b → Decided source tape at kind b
+  decided e t kids z =
+      sym t ∙ e
+      ∙ ap (λ (x : Bool). x && not (eqb kind QueryList)) ((node-noted p kids z).error ∙ ap (λ (x : ℕ). eqb x Error || has_error_child kids) (sym q))
+      ∙ copied-noted kind kids
 
 -- a node is copied or goes to its routine, by the kind that the caller read
 by_kind : (config : FormatConfig) (source : Text) (h : Head) (kids : Children) (w : Store) {kind : ℕ} {b : Bool} → kind ≡ h.kind → b ≡ copied kind kids
@@ -382,7 +377,7 @@ node-copied {source} {tape} {config} {at = at} {c = c} {xs = xs} {ms = ms} p q e
       };
     }
 
-pub node_by : {source tape : List ℕ} {config : FormatConfig} {at kind : ℕ} {c : FormatterContext} {xs ys ms ns : List ℕ} {w : Walk} (r : Routine)
+node_by : {source tape : List ℕ} {config : FormatConfig} {at kind : ℕ} {c : FormatterContext} {xs ys ms ns : List ℕ} {w : Walk} (r : Routine)
     → kind ≡ (head_at tape at).kind → Decided source tape at kind false → r ≡ routine_of kind
     → RoutineDone source tape config at (arms_of r) c xs ms w ys ns → NodeDone source tape config at c xs ms w ys ns
 unfolding format_node
@@ -405,3 +400,9 @@ node_by {source} {tape} {config} {at} {kind} {c} {xs} {ms = ms} r q o e d =
                 ∙ by_kind_places config source (head_at tape at) kids (seat c) ms q (o kids z);
           };
     }
+
+-- the dispatch found r for the kind, which is s, and that the node is not copied
+pub routine_done : {source tape facts : List ℕ} {config : FormatConfig} {left at kind : ℕ} {c : FormatterContext} {r s : Routine} {copies : Bool} {xs ys ms ns : List ℕ} {w : Walk}
+    → NodeReady source tape facts config left at c → kind ≡ (head_at tape at).kind → r ≡ routine_of kind → r ≡ s → copies ≡ noted_copied kind (facts_at facts at) → copies ≡ false
+    → RoutineDone source tape config at (arms_of s) c xs ms w ys ns → NodeDone source tape config at c xs ms w ys ns
+routine_done p q o e n f d = node_by _ q (decided p q n f) (sym e ∙ o) d

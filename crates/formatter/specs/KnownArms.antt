@@ -1,7 +1,8 @@
--- The arms of a routine once it is known what it looks ahead for, and what the check's notes say of that.
-use Rattle.std.specs.Prelude.{ℕ, Bool, false, cond, not, ◌&&◌}
+-- The arms of a routine once it is known what it looks ahead for, and what the check's notes say of that and of copying.
+use Rattle.std.specs.Prelude.{ℕ, Bool, false, cond, not, ◌&&◌, eqb}
 use Rattle.tape.specs.Tree.{done}
-use Rattle.tape.specs.NodeFacts.{notes_several, notes_list}
+use Rattle.tape.specs.Kinds.{QueryList}
+use Rattle.tape.specs.NodeFacts.{notes_error, notes_several, notes_list}
 use Rattle.layout.specs.declared.Routine.{Routine}
 use Rattle.layout.specs.declared.Routine.TheVariants.{ListClause}
 use Rattle.layout.specs.Arms.{Arms}
@@ -18,6 +19,15 @@ unfoldable pub noted_multi : Routine → ℕ → Bool
 noted_multi (ListClause list) f = notes_several f && not (notes_list list f)
 noted_multi r f = false
 
--- a number of items for what is noted of a child: no routine asks for more than whether there are several
-abbrev pub counted : ℕ → ℕ
-counted f = cond (notes_several f) 2 0
+-- whether a child node of the kind is the list of a list clause and holds several items, by what is noted of the child; no other routine asks for it
+unfoldable pub noted_several : Routine → ℕ → ℕ → Bool
+noted_several (ListClause list) kind f = eqb kind list && notes_several f
+noted_several r kind f = false
+
+-- a number of items for that: no routine asks for more than whether there are several
+abbrev pub counted : Bool → ℕ
+counted several = cond several 2 0
+
+-- whether a node of the kind is copied as typed, by what is noted of it
+abbrev pub noted_copied : ℕ → ℕ → Bool
+noted_copied kind f = notes_error f && not (eqb kind QueryList)

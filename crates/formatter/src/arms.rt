@@ -6,7 +6,7 @@ ghost use Rattle.context.specs.Store.{Room};
 ghost use Rattle.tape.specs.NodeFacts.{facts_at};
 ghost use Rattle.token_map.specs.Signed.{Signed};
 ghost use Rattle.tokens.specs.TokenPromises.{ArmDone, Spaced, SpacedUnwritten};
-ghost use Rattle.formatter.specs.KnownArms.{counted, known_arms, noted_multi};
+ghost use Rattle.formatter.specs.KnownArms.{counted, known_arms, noted_multi, noted_several};
 
 use clauses::{
     file_before, file_token, join_clause_token, list_clause_after, list_clause_before,
@@ -28,6 +28,7 @@ use tape::syntax_kind;
 use token_map::Signs;
 use tokens::{Arm, Settings, Token, emit_other, space_after, space_if};
 
+#[inline(always)]
 pub(crate) fn begin(routine: Routine) -> Local
     ensures { (multi : Bool) → result ≡ (known_arms routine multi).begin }
 {
@@ -38,12 +39,26 @@ pub(crate) fn begin(routine: Routine) -> Local
 }
 
 // Whether a list clause holds no list and several nodes, by what the check has noted of it.
+#[inline(always)]
 pub(crate) fn multi(facts: &[u8], at: usize, routine: Routine) -> bool
     requires { at < 11 * length facts.now }
     ensures { result ≡ noted_multi routine (facts_at facts.now at) }
 {
     match routine {
         Routine::ListClause(list) => multi_item(facts, at, list),
+        _ => false,
+    }
+}
+
+// Whether the child node that opens at `at` is the list of a list clause and holds several items, by what the check has noted of it.
+#[inline(always)]
+#[inline(always)]
+pub(crate) fn several(facts: &[u8], at: usize, routine: Routine, kind: u16) -> bool
+    requires { at < 11 * length facts.now }
+    ensures { result ≡ noted_several routine kind (facts_at facts.now at) }
+{
+    match routine {
+        Routine::ListClause(list) => several_items(facts, at, list, kind),
         _ => false,
     }
 }
@@ -96,6 +111,7 @@ pub(crate) fn token(
 }
 
 // How the routine writes its tokens, for the token map.
+#[inline(always)]
 pub(crate) fn signs(routine: Routine) -> Signs
     ensures { (multi : Bool) → Signed result (known_arms routine multi) }
 {
@@ -113,21 +129,20 @@ pub(crate) fn signs(routine: Routine) -> Signs
     }
 }
 
-// Before the child node that opens at `at`: the context, and what the local variables are after the node.
+// Before a child node of the kind: the context, and what the local variables are after the node.
 #[inline(always)]
 pub(crate) fn before(
-    facts: &[u8],
-    at: usize,
     out: &mut [u8],
     routine: Routine,
     multi: bool,
+    several: bool,
     c: FormatterContext,
     local: Local,
     kind: u16,
 ) -> Arm
-    requires { Room 2 c × (at < 11 * length facts.now) }
-    ensures before { Spaced 2 ((known_arms routine multi).at_node local kind (counted (facts_at facts.now at))).1 c out.old result.context out.new }
-    ensures kept { result.local ≡ ((known_arms routine multi).at_node local kind (counted (facts_at facts.now at))).0 }
+    requires { Room 2 c }
+    ensures before { Spaced 2 ((known_arms routine multi).at_node local kind (counted several)).1 c out.old result.context out.new }
+    ensures kept { result.local ≡ ((known_arms routine multi).at_node local kind (counted several)).0 }
 {
     match routine {
         Routine::File => Arm {
@@ -150,13 +165,10 @@ pub(crate) fn before(
             context: space_if(c, local.flag),
             local: Local::flagged(true),
         },
-        Routine::ListClause(list) => {
-            let several = several_items(facts, at, list, kind);
-            Arm {
-                context: list_clause_before(out, c, list, multi, local, kind, several),
-                local: list_clause_local(list, multi, local, kind),
-            }
-        }
+        Routine::ListClause(list) => Arm {
+            context: list_clause_before(out, c, list, multi, local, kind, several),
+            local: list_clause_local(list, multi, local, kind),
+        },
         Routine::SettingsClause => Arm {
             context: settings_clause_before(out, c, kind),
             local,
@@ -187,30 +199,24 @@ pub(crate) fn before(
 
 #[inline(always)]
 pub(crate) fn after(
-    facts: &[u8],
-    at: usize,
     routine: Routine,
+    several: bool,
     c: FormatterContext,
     local: Local,
     kind: u16,
 ) -> FormatterContext
-    requires { at < 11 * length facts.now }
-    ensures { (multi : Bool) → SpacedUnwritten 0 ((known_arms routine multi).at_node local kind (counted (facts_at facts.now at))).2 c result }
+    ensures { (multi : Bool) → SpacedUnwritten 0 ((known_arms routine multi).at_node local kind (counted several)).2 c result }
 {
     match routine {
         Routine::SelectClause => select_clause_after(c, kind),
-        Routine::ListClause(list) => list_clause_after(
-            c,
-            list,
-            kind,
-            several_items(facts, at, list, kind),
-        ),
+        Routine::ListClause(list) => list_clause_after(c, list, kind, several),
         Routine::SettingsClause => settings_clause_after(c, kind),
         Routine::WithClause => with_clause_after(c),
         _ => c,
     }
 }
 
+#[inline(always)]
 pub(crate) fn end(
     routine: Routine,
     multi: bool,

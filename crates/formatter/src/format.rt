@@ -1,17 +1,19 @@
 // format_node.rs: the loop over the children of a node, and the dispatch. They form one cycle of calls over the tape: with each call of
 // `node` a level less is left, and each pass of the loop moves on along the tape. `map` is where the places of tokens are noted; a plain layout
 // lends one of no numbers.
-ghost use Rattle.std.specs.Prelude.{◌≡◌};
+ghost use Rattle.std.specs.Prelude.{◌≡◌, ◌*◌, ◌<◌, length};
+ghost use Rattle.tape.specs.NodeFacts.{facts_at};
 ghost use Rattle.tape.specs.Tape.{head_at};
 ghost use Rattle.layout.specs.FormatNode.{arms_of, routine_of};
+ghost use Rattle.formatter.specs.KnownArms.{noted_copied};
 ghost use Rattle.formatter.specs.RoutinePromises.{NodeDone, NodeReady, RoutineDone};
 
 use crate::Walk;
-use crate::arms::{after, before, begin, end, multi, signs, token};
+use crate::arms::{after, before, begin, end, multi, several, signs, token};
 use context::FormatterContext;
 use dispatch::routine_of;
 use layout::Routine;
-use tape::commands::head_at;
+use tape::commands::{CLOSE, TOKEN, head_at};
 use tape::facts::has_error;
 use tape::scan::skip;
 use tape::syntax_kind;
@@ -39,9 +41,9 @@ fn children(
     let mut i = at + 11;
     let mut ctx = c;
     let mut local = begin(routine);
-    while tape[i] != 3 {
+    while tape[i] != CLOSE {
         let h = head_at(tape, i);
-        if tape[i] == 2 {
+        if tape[i] == TOKEN {
             let t = Token::at(source, h);
             let a = token(settings, out, routine, multi, ctx, local, t);
             ctx = a.context;
@@ -49,7 +51,8 @@ fn children(
             note_token(map, source, h, ctx.position, signs(routine));
             i += 11;
         } else {
-            let a = before(facts, i, out, routine, multi, ctx, local, h.kind);
+            let several = several(facts, i, routine, h.kind);
+            let a = before(out, routine, multi, several, ctx, local, h.kind);
             let w = node(
                 source,
                 settings,
@@ -62,7 +65,7 @@ fn children(
                 h.kind,
                 a.context,
             );
-            ctx = after(facts, i, routine, w.context, local, h.kind);
+            ctx = after(routine, several, w.context, local, h.kind);
             local = a.local;
             i = w.at;
         }
@@ -71,6 +74,15 @@ fn children(
         at: i + 1,
         context: end(routine, multi, ctx, local),
     }
+}
+
+// Whether a node of the kind that opens at `at` is copied as typed: an Error node, or one that has an Error node as child and is no QueryList.
+#[inline(always)]
+fn is_copied(facts: &[u8], at: usize, kind: u16) -> bool
+    requires { at < 11 * length facts.now }
+    ensures { result ≡ noted_copied kind (facts_at facts.now at) }
+{
+    has_error(facts, at) && kind != syntax_kind::QUERY_LIST
 }
 
 // format_node. The caller has read the node's kind.
@@ -90,17 +102,15 @@ pub(crate) fn node(
     requires { NodeReady source.now tape.now facts.now settings.now.config left at c × (kind ≡ (head_at tape.now at).kind) }
     ensures { NodeDone source.now tape.now settings.now.config at c out.old map.old result out.new map.new }
 {
-    if has_error(facts, at) {
-        if kind != syntax_kind::QUERY_LIST {
-            let h = head_at(tape, at);
-            let end = skip(tape, at);
-            note_none(map, end.tokens);
-            let ctx = format_error_verbatim(source, out, c, h);
-            return Walk {
-                at: end.at,
-                context: ctx,
-            };
-        }
+    if is_copied(facts, at, kind) {
+        let h = head_at(tape, at);
+        let end = skip(tape, at);
+        note_none(map, end.tokens);
+        let ctx = format_error_verbatim(source, out, c, h);
+        return Walk {
+            at: end.at,
+            context: ctx,
+        };
     }
     // A call for each routine, with the routine as a constant, so that the compiler makes a loop of its own for each: one that asks in each pass which
     // routine it is takes 15 % more instructions.

@@ -1,6 +1,6 @@
 -- The bytes of a word in capitals.
-use mathlib.Core.Path.{◌≡◌, refl, ap₂}
-use mathlib.Core.List.{List, [], ◌∷◌, map}
+use mathlib.Core.Path.{◌≡◌, refl}
+use mathlib.Core.List.{List, [], ◌∷◌}
 use Prim.Native.Nat.{ℕ, zero, suc, ◌<◌}
 use native.Mathlib.Nat.{le_of_suc-le-suc, not-suc-le-zero}
 use native.Mathlib.Omega.{arith}
@@ -19,7 +19,3 @@ capitals-at (b ∷ w) (suc i) h = capitals-at w i (le_of_suc-le-suc h)
 pub upper_lem : (b : ℕ) → to_ascii_uppercase b ≡ to_uppercase b
 unfolding to_uppercase
 upper_lem b = grind (arith, nat_tests)
-
-pub capitals_lem : (w : List ℕ) → map to_ascii_uppercase w ≡ capitals w
-capitals_lem [] = refl
-capitals_lem (b ∷ w) = ap₂ (λ x xs. x ∷ xs) (upper_lem b) (capitals_lem w)

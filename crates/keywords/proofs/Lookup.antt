@@ -1,7 +1,6 @@
 -- The one entry that the index leads to is the only one that can be equal to a word.
 use mathlib.Core.Path.{◌≡◌, refl, sym, ap, ◌∙◌, subst}
 use mathlib.Core.Bool.{Bool, true, false, cond, ◌&&◌, false≢true}
-use mathlib.Core.Logic.{◌⊎◌, inl, inr}
 use mathlib.Core.List.{List, [], ◌∷◌, map}
 use Prim.Native.Nat.{ℕ, zero, suc, ◌+◌, ◌-◌, ◌/◌, ◌%◌, ◌≤◌, ◌<◌}
 use native.Mathlib.Nat.{le_of_suc-le-suc, not-suc-le-zero}
@@ -9,135 +8,138 @@ use native.Mathlib.Omega.{arith}
 use borrow.Author.Tests.{eq-eqb, le-leb}
 use lib.Dec.{T, eqb, leb, eqb→eq, leb→le}
 use lib.ListN.{length, get_or, length-map}
-use Rattle.keywords.specs.Names.{names}
+use Rattle.std.specs.Prelude.{Option, Some, None, option_and_then}
+use Rattle.std.specs.Bool.{then_some}
+use Rattle.std.specs.List.{range_with_len}
+use Rattle.std.proofs.lemmas.Option.{none-some, option_and_then_some, same_Some}
+use Rattle.std.proofs.lemmas.List.FromFn.{get_or-map-range_with_len}
 use Rattle.basics.specs.Case.{to_uppercase}
 use Rattle.basics.specs.Match.{match}
+use Rattle.basics.proofs.Same.{both, same-equal}
+use Rattle.keywords.specs.declared.index.Entry as code
+use Rattle.keywords.specs.declared.index.TheConstants.{ENTRIES}
+use Rattle.keywords.specs.Names.{names}
 use Rattle.keywords.specs.Words.{capitals, words, same, place_of}
 use Rattle.keywords.specs.Table.{capital, entry, entries, words-rule}
-use Rattle.keywords.specs.Index as spec
-use Rattle.keywords.specs.Index.{shifts, letter_at, key, index, no_entry, entry_of, candidate, unpacked, numbers, may_be_listed, offset, Stands}
-use Rattle.std.specs.Prelude.{Option, Some, None}
-use Rattle.basics.proofs.Same.{both, same-equal}
+use Rattle.keywords.specs.Index.{letter_at, key, index, entry_of, candidate, offset, Stands}
 use Rattle.keywords.proofs.Capitals.{capitals-at}
 use Rattle.keywords.proofs.Places.{Entry, placed_entry, entry-placed, same_self}
 
--- ── the index as numbers
+-- ── the array
 
-module _ {A B : Type 0} (f : A → B) (k : ℕ) where
-  match-map : (t : List (ℕ × A)) (d : A) → f (match k t d) ≡ match k (map (λ (e : ℕ × A). (e.0, f e.1)) t) (f d)
-  match-map [] d = refl
-  match-map (e ∷ es) d = go (eqb k e.0) (match-map es d)
-    where
-      go : (b : Bool) → f (match k es d) ≡ match k (map (λ (e : ℕ × A). (e.0, f e.1)) es) (f d)
-          → f (cond b e.1 (match k es d)) ≡ cond b (f e.1) (match k (map (λ (e : ℕ × A). (e.0, f e.1)) es) (f d))
-      go true h = refl
-      go false h = h
+-- it has the entry of each key: one computed test
+entries-indexed : ENTRIES ≡ map entry_of (range_with_len 0 256)
+unfolding names words key index entry_of
+entries-indexed = refl
 
--- each number gives its entry back: one computed test
-numbers-back : map (λ (e : ℕ × ℕ). (e.0, unpacked e.1)) numbers ≡ index 0 0 words
-unfolding names words shifts key index numbers
-numbers-back = refl
-
-unpacked-entry : (k : ℕ) → unpacked (match k numbers 0) ≡ entry_of k
-unfolding entry_of
-unpacked-entry k = match-map unpacked k numbers 0 ∙ ap (λ (t : List (ℕ × spec.Entry)). match k t no_entry) numbers-back
+entry-at : (k : ℕ) (d : Option code.Entry) → k < 256 → get_or ENTRIES k d ≡ entry_of k
+entry-at k d h = ap (λ (t : List (Option code.Entry)). get_or t k d) entries-indexed ∙ get_or-map-range_with_len entry_of 0 256 k k d h (omega arith)
 
 -- ── what the index leads to is an entry of the list
 
 -- an entry of the index is that of a place from i on
-record From (i n : ℕ) (es : List (List ℕ)) (r : spec.Entry) : Type 0 where
+record From (i n : ℕ) (es : List (List ℕ)) (r : code.Entry) : Type 0 where
   further : ℕ
   inside : further < length es
   place : r.place ≡ i + further
   begins : r.at ≡ n + offset further es
 
-found_from : (k i n : ℕ) (es : List (List ℕ)) → (match k (index i n es) no_entry ≡ no_entry) ⊎ From i n es (match k (index i n es) no_entry)
+found_from : (k i n : ℕ) (es : List (List ℕ)) (r : code.Entry) → match k (index i n es) None ≡ Some r → From i n es r
 unfolding index offset
-found_from k i n [] = inl refl
-found_from k i n (e ∷ es) = go (eqb k (key e)) (found_from k (suc i) (n + suc (length e)) es)
+found_from k i n [] r h = absurd (none-some r h)
+found_from k i n (e ∷ es) r h = go (eqb k (key e)) (found_from k (suc i) (n + suc (length e)) es r) h
   where
-    go : (b : Bool) → (match k (index (suc i) (n + suc (length e)) es) no_entry ≡ no_entry) ⊎ From (suc i) (n + suc (length e)) es (match k (index (suc i) (n + suc (length e)) es) no_entry)
-        → (cond b (record { place = i; at = n; first = letter_at e 0 }) (match k (index (suc i) (n + suc (length e)) es) no_entry) ≡ no_entry)
-        ⊎ From i n (e ∷ es) (cond b (record { place = i; at = n; first = letter_at e 0 }) (match k (index (suc i) (n + suc (length e)) es) no_entry))
-    go true x = inr (record { further = 0; inside = omega arith; place = omega arith; begins = omega arith })
-    go false (inl z) = inl z
-    go false (inr x) =
-        inr (record { further = suc x.further; inside = omega (arith, x.inside); place = omega (arith, x.place); begins = omega (arith, x.begins) })
+    go : (b : Bool) → (match k (index (suc i) (n + suc (length e)) es) None ≡ Some r → From (suc i) (n + suc (length e)) es r)
+        → cond b (Some (record { place = i; at = n; first = letter_at e 0 })) (match k (index (suc i) (n + suc (length e)) es) None) ≡ Some r → From i n (e ∷ es) r
+    go true f u = rw (← same_Some _ _ u) (record { further = 0; inside = omega arith; place = omega arith; begins = omega arith })
+    go false f u =
+        let x = f u in
+        record { further = suc x.further; inside = omega (arith, x.inside); place = omega (arith, x.place); begins = omega (arith, x.begins) }
 
-words-some : 0 < length words
-unfolding words names
-words-some = omega arith
-
-first-offset : offset 0 words ≡ 0
-unfolding offset words names
-first-offset = refl
-
-pub none-stands : Stands no_entry
-none-stands = record { inside = words-some; begins = sym first-offset }
-
-stands : (k : ℕ) → Stands (entry_of k)
+stands : (k : ℕ) (r : code.Entry) → entry_of k ≡ Some r → Stands r
 unfolding entry_of
-stands k = go (match k (index 0 0 words) no_entry) (found_from k 0 0 words)
-  where
-    go : (r : spec.Entry) → (r ≡ no_entry) ⊎ From 0 0 words r → Stands r
-    go r (inl z) = rw z none-stands
-    go r (inr x) =
-        let p : r.place ≡ x.further = omega (arith, x.place) in
-        record { inside = omega (arith, p, x.inside); begins = rw p (omega (arith, x.begins)) }
+stands k r h =
+    let x = found_from k 0 0 words r h in
+    let p : r.place ≡ x.further = omega (arith, x.place) in
+    record { inside = omega (arith, p, x.inside); begins = rw p (omega (arith, x.begins)) }
 
--- so is the one with a number of the index, and the one with the number 0
-pub candidate-stands : (w : List ℕ) → Stands (unpacked (candidate w))
-candidate-stands w = go (may_be_listed w)
+-- so is a word's candidate, and the word is no longer than an entry
+pub record Candidate (w : List ℕ) (r : code.Entry) : Type 0 where
+  pub short : length w ≤ 12
+  pub stands : Stands r
+
+pub candidate-stands : (w : List ℕ) (r : code.Entry) → candidate w ≡ Some r → Candidate w r
+candidate-stands w r h = go (leb 2 (length w)) (leb (length w) 12) refl h
   where
-    go : (b : Bool) → Stands (unpacked (cond b (match (key w) numbers 0) 0))
-    go true = subst Stands (sym (unpacked-entry (key w))) (stands (key w))
-    go false = none-stands
+    first : code.Entry → Option code.Entry
+    first e = then_some (eqb e.first (letter_at w 0)) e
+
+    is_first : (b : Bool) (e : code.Entry) → then_some b e ≡ Some r → e ≡ r
+    is_first true e u = same_Some e r u
+    is_first false e u = absurd (none-some r u)
+
+    go : (a b : Bool) → leb (length w) 12 ≡ b → cond (a && b) (option_and_then first (entry_of (key w))) None ≡ Some r → Candidate w r
+    go true true s u =
+        option_and_then_some first (entry_of (key w)) r u (λ e q v.
+        record { short = leb→le (length w) 12 (rw s tt); stands = stands (key w) r (q ∙ ap Some (is_first (eqb e.first (letter_at w 0)) e v)) })
+    go true false s u = absurd (none-some r u)
+    go false b s u = absurd (none-some r u)
+
+-- it is what stands in the array at the word's key, if that begins with the word's first letter
+pub candidate-is : (w : List ℕ) (k : ℕ) (d o : Option code.Entry) → k ≡ key w → k < 256 → get_or ENTRIES k d ≡ o → 2 ≤ length w → length w ≤ 12
+    → option_and_then (λ (e : code.Entry). then_some (eqb e.first (letter_at w 0)) e) o ≡ candidate w
+candidate-is w k d o q h g l s =
+    let r : entry_of (key w) ≡ o = ap (λ (j : ℕ). entry_of j) (sym q) ∙ sym (entry-at k d h) ∙ g in
+    rw (le-leb 2 (length w) l, le-leb (length w) 12 s, r) refl
 
 -- ── each entry is led to
 
--- the index leads to the entry at each place, so that none stands there twice, and the number of its first letter is not 0
-abbrev led : ℕ → List ℕ → spec.Entry → Bool
-led i e r = eqb r.place i && (eqb r.first (letter_at e 0) && leb 1 r.first)
+-- the index leads to the entry at each place, so that none stands there twice
+abbrev led : ℕ → List ℕ → Option code.Entry → Bool
+led i e None = false
+led i e (Some r) = eqb r.place i && eqb r.first (letter_at e 0)
 
-leads : ℕ → List (List ℕ) → List (ℕ × spec.Entry) → Bool
+leads : ℕ → List (List ℕ) → List (ℕ × Option code.Entry) → Bool
 leads i [] t = true
-leads i (e ∷ es) t = led i e (match (key e) t no_entry) && leads (suc i) es t
+leads i (e ∷ es) t = led i e (match (key e) t None) && leads (suc i) es t
 
 -- of all entries: one computed test
 words-lead : T (leads 0 words (index 0 0 words))
-unfolding names words shifts key index leads
+unfolding names words key index leads
 words-lead = tt
 
-record Known (w : List ℕ) (i : ℕ) (r : spec.Entry) : Type 0 where
+record Known (w : List ℕ) (i : ℕ) (o : Option code.Entry) : Type 0 where
   long : 2 ≤ length w
   short : length w ≤ 12
-  place : r.place ≡ i
-  begins : r.first ≡ letter_at w 0
-  some : 1 ≤ r.first
+  entry : code.Entry
+  is : o ≡ Some entry
+  place : entry.place ≡ i
+  begins : entry.first ≡ letter_at w 0
 
-known : (e : List ℕ) (i : ℕ) (r : spec.Entry) → T (entry e) → T (led i e r) → Known e i r
-known e i r t u =
+known : (e : List ℕ) (i : ℕ) (o : Option code.Entry) → T (entry e) → T (led i e o) → Known e i o
+known e i None t u = absurd u
+known e i (Some r) t u =
     let l = both (leb 2 (length e)) (leb (length e) 12) (both (leb 2 (length e) && leb (length e) 12) (capital e) t).0 in
-    let x = both (eqb r.place i) (eqb r.first (letter_at e 0) && leb 1 r.first) u in
-    let y = both (eqb r.first (letter_at e 0)) (leb 1 r.first) x.1 in
+    let x = both (eqb r.place i) (eqb r.first (letter_at e 0)) u in
     record {
       long = leb→le 2 (length e) l.0;
       short = leb→le (length e) 12 l.1;
+      entry = r;
+      is = refl;
       place = eqb→eq r.place i x.0;
-      begins = eqb→eq r.first (letter_at e 0) y.0;
-      some = leb→le 1 r.first y.1;
+      begins = eqb→eq r.first (letter_at e 0) x.1;
     }
 
-known_at : (i : ℕ) (es : List (List ℕ)) (t : List (ℕ × spec.Entry)) (j : ℕ) → T (entries es) → T (leads i es t) → j < length es
-    → Known (get_or es j []) (i + j) (match (key (get_or es j [])) t no_entry)
+known_at : (i : ℕ) (es : List (List ℕ)) (t : List (ℕ × Option code.Entry)) (j : ℕ) → T (entries es) → T (leads i es t) → j < length es
+    → Known (get_or es j []) (i + j) (match (key (get_or es j [])) t None)
 unfolding leads
 known_at i [] t j r k h = absurd (not-suc-le-zero h)
 known_at i (e ∷ es) t zero r k h =
     let z : i ≡ i + 0 = omega arith in
-    let m = match (key e) t no_entry in
+    let m = match (key e) t None in
     subst (λ (n : ℕ). Known e n m) z (known e i m (both (entry e) (entries es) r).0 (both (led i e m) (leads (suc i) es t) k).0)
 known_at i (e ∷ es) t (suc j) r k h =
-    let u = (both (led i e (match (key e) t no_entry)) (leads (suc i) es t) k).1 in
+    let u = (both (led i e (match (key e) t None)) (leads (suc i) es t) k).1 in
     let v = known_at (suc i) es t j (both (entry e) (entries es) r).1 u (le_of_suc-le-suc h) in
     let s : suc i + j ≡ i + suc j = omega arith in
     rw (← s) v
@@ -149,7 +151,7 @@ entry_known w i x =
     let z : 0 + i ≡ i = omega arith in
     let t = index 0 0 words in
     let r = known_at 0 words t i words-rule words-lead x.inside in
-    subst (λ (v : List ℕ). Known v i (match (key v) t no_entry)) x.is (subst (λ (n : ℕ). Known (get_or words i []) n (match (key (get_or words i [])) t no_entry)) z r)
+    subst (λ (v : List ℕ). Known v i (match (key v) t None)) x.is (subst (λ (n : ℕ). Known (get_or words i []) n (match (key (get_or words i [])) t None)) z r)
 
 placed_known : (w : List ℕ) (i : ℕ) → place_of w words ≡ Some i → Known w i (entry_of (key w))
 placed_known w i h = entry_known w i (placed_entry w words i h)
@@ -183,31 +185,29 @@ capitals-known w i h =
     let k = placed_known (capitals w) i h in
     let l = length-map w to_uppercase in
     let long : 2 ≤ length w = omega (arith, l, k.long) in
-    let c = ap (λ (j : ℕ). entry_of j) (key-capitals w long) in
     record {
       long = long;
       short = omega (arith, l, k.short);
-      place = ap (λ (e : spec.Entry). e.place) (sym c) ∙ k.place;
-      begins = ap (λ (e : spec.Entry). e.first) (sym c) ∙ k.begins ∙ letter_capitals w 0 (omega arith);
-      some = subst (λ (e : spec.Entry). 1 ≤ e.first) c k.some;
+      entry = k.entry;
+      is = ap (λ (j : ℕ). entry_of j) (sym (key-capitals w long)) ∙ k.is;
+      place = k.place;
+      begins = k.begins ∙ letter_capitals w 0 (omega arith);
     }
 
 -- ── the candidate
 
 -- where there is one entry it is the candidate
 record Led (w : List ℕ) (i : ℕ) : Type 0 where
-  place : (unpacked (candidate w)).place ≡ i
-  some : candidate w ≡ 0 → ⊥
+  entry : code.Entry
+  is : candidate w ≡ Some entry
+  place : entry.place ≡ i
 
 known_led : (w : List ℕ) (i : ℕ) → Known w i (entry_of (key w)) → Led w i
 known_led w i k =
-    let u = unpacked-entry (key w) in
-    let f = ap (λ (e : spec.Entry). e.first) u in
-    let m : may_be_listed w ≡ true = rw (le-leb 2 (length w) k.long, le-leb (length w) 12 k.short) (eq-eqb _ _ (f ∙ k.begins)) in
-    let c : candidate w ≡ match (key w) numbers 0 = ap (λ (b : Bool). cond b (match (key w) numbers 0) 0) m in
     record {
-      place = ap (λ (n : ℕ). (unpacked n).place) c ∙ ap (λ (e : spec.Entry). e.place) u ∙ k.place;
-      some = λ z. let y = ap (λ (n : ℕ). n % 32) (sym z ∙ c) ∙ f in omega (arith, y, k.some);
+      entry = k.entry;
+      is = rw (le-leb 2 (length w) k.long, le-leb (length w) 12 k.short, k.is, eq-eqb _ _ k.begins) refl;
+      place = k.place;
     }
 
 -- what is left of a place once none can be
@@ -217,34 +217,32 @@ none None h = refl
 
 module _ (w : List ℕ) where
   -- bytes that are an entry of the list have its place
-  pub this_entry : (e : spec.Entry) → Stands e → same w (get_or words e.place []) ≡ true → place_of w words ≡ Some e.place
+  pub this_entry : (e : code.Entry) → Stands e → same w (get_or words e.place []) ≡ true → place_of w words ≡ Some e.place
   this_entry e s h =
       let x : Entry w words e.place = record { inside = s.inside; is = sym (same-equal w (get_or words e.place []) h) } in
       let y = entry-placed w words e.place x in
-      y.is ∙ ap Some (sym (placed_known w y.place y.is).place ∙ (entry_known w e.place x).place)
+      let k = placed_known w y.place y.is in
+      let l = entry_known w e.place x in
+      let z = ap (λ (r : code.Entry). r.place) (same_Some _ _ (sym k.is ∙ l.is)) in
+      y.is ∙ ap Some (sym k.place ∙ z ∙ l.place)
 
   -- bytes that are not their candidate have no place
-  pub other_entry : same w (get_or words (unpacked (candidate w)).place []) ≡ false → place_of w words ≡ None
-  other_entry h =
-      none (place_of w words) (λ i e.
-      let x = (known_led w i (placed_known w i e)).place in
-      let y = ap (λ (j : ℕ). get_or words j []) x ∙ (placed_entry w words i e).is in
+  other_entry : (e : code.Entry) → candidate w ≡ Some e → same w (get_or words e.place []) ≡ false → place_of w words ≡ None
+  other_entry e c h =
+      none (place_of w words) (λ i p.
+      let x = known_led w i (placed_known w i p) in
+      let z = ap (λ (r : code.Entry). r.place) (same_Some _ _ (sym c ∙ x.is)) ∙ x.place in
+      let y = ap (λ (j : ℕ). get_or words j []) z ∙ (placed_entry w words i p).is in
       false≢true (sym h ∙ ap (λ (v : List ℕ). same w v) y ∙ same_self w))
 
-  -- a word without a candidate has no place
-  pub nothing_is : candidate w ≡ 0 → place_of (capitals w) words ≡ None
-  nothing_is h = none (place_of (capitals w) words) (λ i e. (known_led w i (capitals-known w i e)).some h)
+  -- so the candidate decides
+  pub entry_or_none : (e : code.Entry) (b : Bool) → candidate w ≡ Some e → b ≡ same w (get_or words e.place []) → then_some b e.place ≡ place_of w words
+  entry_or_none e true c h = sym (this_entry e (candidate-stands w e c).stands (sym h))
+  entry_or_none e false c h = sym (other_entry e c (sym h))
 
-  -- one that has a candidate is no longer than an entry
-  pub candidate-short : (candidate w ≡ 0 → ⊥) → length w ≤ 12
-  candidate-short h = go (leb 2 (length w)) (leb (length w) 12) refl h
-    where
-      go : (a b : Bool) → leb (length w) 12 ≡ b → (cond (a && (b && eqb (match (key w) numbers 0 % 32) (letter_at w 0))) (match (key w) numbers 0) 0 ≡ 0 → ⊥) → length w ≤ 12
-      go a true e k = leb→le (length w) 12 (rw e tt)
-      go true false e k = absurd (k refl)
-      go false false e k = absurd (k refl)
+  -- bytes or a word without a candidate have no place
+  pub no_entry : candidate w ≡ None → place_of w words ≡ None
+  no_entry h = none (place_of w words) (λ i e. none-some _ (sym h ∙ (known_led w i (placed_known w i e)).is))
 
-  -- a word of 2 to 12 bytes has the entry with its key for its candidate, if that begins with its letter
-  pub candidate-is : (m : ℕ) → 2 ≤ length w → length w ≤ 12 → m ≡ match (key w) numbers 0 → (b : Bool) → eqb (m % 32) (letter_at w 0) ≡ b
-      → cond b m 0 ≡ candidate w
-  candidate-is m l s q b t = rw (le-leb 2 (length w) l, le-leb (length w) 12 s, ← q, t) refl
+  pub no_word : candidate w ≡ None → place_of (capitals w) words ≡ None
+  no_word h = none (place_of (capitals w) words) (λ i e. none-some _ (sym h ∙ (known_led w i (capitals-known w i e)).is))

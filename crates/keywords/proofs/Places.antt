@@ -1,6 +1,6 @@
 -- The place of a word in a list.
-use mathlib.Core.Path.{◌≡◌, refl, ap}
-use mathlib.Core.Bool.{Bool, true, false, cond, false≢true}
+use mathlib.Core.Path.{◌≡◌, refl}
+use mathlib.Core.Bool.{Bool, true, false, cond}
 use mathlib.Core.List.{List, [], ◌∷◌}
 use Prim.Native.Nat.{ℕ, zero, suc, ◌<◌}
 use native.Mathlib.Nat.{le_of_suc-le-suc, not-suc-le-zero}
@@ -10,6 +10,7 @@ use lib.ListN.{length, get_or}
 use Rattle.basics.proofs.Same.{same-equal}
 use Rattle.keywords.specs.Words.{same, next, place_of}
 use Rattle.std.specs.Prelude.{Option, Some, None}
+use Rattle.std.proofs.lemmas.Option.{none-some, same_Some}
 
 pub same_self : (w : List ℕ) → same w w ≡ true
 unfolding same
@@ -24,30 +25,16 @@ pub record Entry (w : List ℕ) (es : List (List ℕ)) (i : ℕ) : Type 0 where
 later : {w e : List ℕ} {es : List (List ℕ)} {i : ℕ} → Entry w es i → Entry w (e ∷ es) (suc i)
 later x = record { inside = omega (arith, x.inside); is = x.is }
 
-at_first : {i j : ℕ} → Some i ≡ Some j → i ≡ j
-at_first e = ap (λ (p : Option ℕ). number p) e
-  where
-    number : Option ℕ → ℕ
-    number (Some i) = i
-    number None = 0
-
-nowhere≢at : {i : ℕ} → None ≡ Some i → ⊥
-nowhere≢at e = false≢true (ap placed e)
-  where
-    placed : Option ℕ → Bool
-    placed (Some i) = true
-    placed None = false
-
 -- a word that has a place is the entry at that place
 pub placed_entry : (w : List ℕ) (es : List (List ℕ)) (i : ℕ) → place_of w es ≡ Some i → Entry w es i
 unfolding place_of
-placed_entry w [] i h = absurd (nowhere≢at h)
+placed_entry w [] i h = absurd (none-some i h)
 placed_entry w (e ∷ es) i h = go (same e w) refl (place_of w es) refl h (placed_entry w es)
   where
     go : (b : Bool) → same e w ≡ b → (p : Option ℕ) → place_of w es ≡ p → cond b (Some 0) (next p) ≡ Some i → ((j : ℕ) → place_of w es ≡ Some j → Entry w es j) → Entry w (e ∷ es) i
-    go true s p q u more = let z = at_first u in rw (← z) (record { inside = omega arith; is = same-equal e w s })
-    go false s (Some j) q u more = let z = at_first u in rw (← z) (later (more j q))
-    go false s None q u more = absurd (nowhere≢at u)
+    go true s p q u more = rw (← same_Some _ _ u) (record { inside = omega arith; is = same-equal e w s })
+    go false s (Some j) q u more = rw (← same_Some _ _ u) (later (more j q))
+    go false s None q u more = absurd (none-some i u)
 
 -- an entry has a place
 pub record Placed (w : List ℕ) (es : List (List ℕ)) : Type 0 where

@@ -1,12 +1,8 @@
 -- The walk over the list (request E4): the first entry that is equal to a length and bytes, whatever they are.
-use Rattle.std.specs.Prelude.{Bool, cond, ◌&&◌, List, ◌++◌, ℕ, leb, length, take, drop, replicate, Option, None}
-use Rattle.keywords.specs.Words.{capitals, same, place_of}
+use Rattle.std.specs.Prelude.{cond, List, ◌++◌, ℕ, leb, length, take, drop, replicate, Option, None}
+use Rattle.keywords.specs.Words.{capitals, place_of}
 
--- an entry is equal to a length and bytes: there are so many bytes, and so many of them are the entry
-abbrev pub is_equal : ℕ → List ℕ → List ℕ → Bool
-is_equal n bytes e = leb n (length bytes) && same (take n bytes) e
-
--- the place in a list of the first entry that is equal to a length and bytes
+-- the place in a list of the first entry that is equal to a length and bytes: there are so many bytes, and so many of them are the entry
 abbrev pub first_equal : ℕ → List ℕ → List (List ℕ) → Option ℕ
 first_equal n bytes list = cond (leb n (length bytes)) (place_of (take n bytes) list) None
 

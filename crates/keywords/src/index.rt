@@ -1,348 +1,321 @@
-// Which entry of the list can be equal to a word: a perfect hash over the list. The tables are matches, which lie in read-only memory and are
-// never copied; scripts/keyword_tables.py writes their arms.
-ghost use Rattle.std.specs.Prelude.{◌≡◌, ◌%◌, ◌≤◌, ◌<◌, length};
-ghost use Rattle.basics.specs.Match.{match};
+// Which entry of the list can be equal to a word: a perfect hash over the list. scripts/keyword_tables.py writes the two arrays.
+ghost use Rattle.std.specs.Prelude.{◌≡◌, ◌%◌, ◌≤◌, length};
 ghost use Rattle.keywords.specs.Index as spec;
-ghost use Rattle.keywords.specs.Index.{key, numbers, shifts};
+ghost use Rattle.keywords.specs.Index.{key};
 
 use crate::LONGEST;
 
+// An entry of the list: its place, where its length stands in the table, and the number of its first letter. A static holds no struct with a ghost
+// field, so what takes an entry asks for `Stands`.
+#[derive(Clone, Copy)]
+pub(crate) struct Entry {
+    pub(crate) place: u8,
+    pub(crate) at: u16,
+    pub(crate) first: u8,
+}
+
+macro_rules! entry {
+    ($place:literal, $at:literal, $first:literal) => {
+        Some(Entry {
+            place: $place,
+            at: $at,
+            first: $first % 32,
+        })
+    };
+}
+
+// Hash and displace: each bucket of entries, the largest first, has the least shift that leads to keys which are still free.
+static SHIFTS: [u8; 64] = [
+    1, 0, 0, 0, 0, 45, 0, 0, 0, 22, 16, 0, 0, 59, 0, 0, 124, 82, 105, 170, 109, 39, 121, 14, 57,
+    138, 3, 8, 0, 69, 93, 0, 4, 91, 78, 15, 7, 1, 127, 132, 2, 135, 59, 90, 125, 144, 162, 49, 143,
+    7, 6, 3, 200, 37, 0, 0, 3, 31, 0, 0, 98, 0, 0, 0,
+];
+
+// The entries by their keys.
+static ENTRIES: [Option<Entry>; 256] = [
+    entry!(68, 384, b'T'), // TRUNCATE
+    None,
+    entry!(9, 53, b'W'), // WITH
+    entry!(8, 46, b'O'), // OFFSET
+    None,
+    entry!(102, 631, b'P'), // PARTITION
+    None,
+    None,
+    entry!(201, 1365, b'S'), // SYNTAX
+    entry!(100, 615, b'I'), // INTERVAL
+    None,
+    entry!(80, 474, b'M'), // MATERIALIZED
+    entry!(196, 1329, b'P'), // PRECEDING
+    entry!(106, 661, b'E'), // EMPTY
+    None,
+    None,
+    entry!(19, 99, b'C'), // CASE
+    None,
+    None,
+    entry!(75, 434, b'T'), // TABLE
+    None,
+    entry!(174, 1166, b'R'), // RESTORE
+    entry!(74, 427, b'U'), // UNDROP
+    entry!(65, 363, b'D'), // DETACH
+    entry!(77, 445, b'D'), // DATABASE
+    entry!(57, 315, b'I'), // INTO
+    entry!(55, 298, b'I'), // INTERSECT
+    entry!(79, 465, b'F'), // FUNCTION
+    None,
+    None,
+    None,
+    entry!(24, 123, b'C'), // CAST
+    entry!(58, 320, b'V'), // VALUES
+    entry!(127, 822, b'D'), // DATABASES
+    None,
+    None,
+    entry!(146, 980, b'C'), // CACHE
+    None,
+    None,
+    entry!(85, 513, b'D'), // DEFAULT
+    entry!(59, 327, b'D'), // DELETE
+    None,
+    None,
+    entry!(180, 1208, b'D'), // DELETED
+    entry!(164, 1094, b'M'), // MUTATION
+    None,
+    entry!(37, 194, b'G'), // GLOBAL
+    entry!(123, 792, b'P'), // PLAN
+    entry!(190, 1282, b'H'), // HIERARCHICAL
+    None,
+    entry!(185, 1245, b'H'), // HASHED
+    entry!(129, 840, b'D'), // DICTIONARIES
+    None,
+    None,
+    entry!(62, 345, b'C'), // CREATE
+    entry!(61, 341, b'S'), // SET
+    entry!(172, 1147, b'T'), // TRANSACTION
+    entry!(171, 1138, b'R'), // ROLLBACK
+    entry!(6, 33, b'H'), // HAVING
+    entry!(73, 418, b'E'), // EXCHANGE
+    entry!(32, 166, b'L'), // LEFT
+    entry!(175, 1174, b'L'), // LOCAL
+    entry!(21, 109, b'T'), // THEN
+    entry!(188, 1265, b'D'), // DIRECT
+    entry!(214, 1458, b'I'), // IDENTIFIED
+    entry!(138, 917, b'M'), // MERGES
+    entry!(168, 1119, b'C'), // CHECK
+    entry!(86, 521, b'C'), // CODEC
+    entry!(111, 698, b'P'), // PROJECTION
+    entry!(153, 1030, b'G'), // GRANT
+    entry!(99, 609, b'F'), // FALSE
+    None,
+    None,
+    entry!(202, 1372, b'T'), // TREE
+    entry!(90, 547, b'K'), // KEY
+    entry!(151, 1017, b'M'), // MODELS
+    entry!(173, 1159, b'B'), // BACKUP
+    entry!(94, 576, b'S'), // SETTINGS
+    entry!(15, 81, b'L'), // LIKE
+    entry!(67, 377, b'R'), // RENAME
+    entry!(140, 932, b'R'), // REPLICAS
+    entry!(115, 731, b'C'), // CLEAR
+    entry!(155, 1043, b'U'), // USER
+    entry!(207, 1403, b'M'), // MATERIALIZE
+    entry!(145, 975, b'L'), // LOGS
+    None,
+    entry!(142, 953, b'S'), // SENDING
+    entry!(192, 1302, b'O'), // OVER
+    None,
+    entry!(3, 18, b'O'), // ORDER
+    entry!(25, 128, b'D'), // DISTINCT
+    entry!(113, 720, b'A'), // ADD
+    entry!(30, 155, b'J'), // JOIN
+    entry!(163, 1088, b'Q'), // QUERY
+    entry!(150, 1008, b'C'), // COMPILED
+    entry!(177, 1187, b'U'), // UNFREEZE
+    entry!(211, 1434, b'S'), // STEP
+    None,
+    entry!(162, 1083, b'K'), // KILL
+    entry!(39, 205, b'S'), // SEMI
+    None,
+    entry!(114, 724, b'M'), // MODIFY
+    entry!(158, 1059, b'P'), // POLICY
+    entry!(44, 234, b'F'), // FINAL
+    entry!(182, 1223, b'L'), // LAYOUT
+    None,
+    None,
+    entry!(7, 40, b'L'), // LIMIT
+    None,
+    entry!(125, 806, b'E'), // ESTIMATE
+    entry!(191, 1295, b'W'), // WINDOW
+    None,
+    entry!(121, 779, b'D'), // DESCRIBE
+    entry!(81, 487, b'T'), // TEMPORARY
+    None,
+    entry!(88, 531, b'C'), // COMMENT
+    entry!(206, 1398, b'P'), // PART
+    entry!(49, 261, b'L'), // LAST
+    entry!(132, 875, b'P'), // PRIVILEGES
+    entry!(157, 1053, b'Q'), // QUOTA
+    entry!(104, 649, b'T'), // TO
+    entry!(178, 1196, b'F'), // FETCH
+    entry!(143, 961, b'F'), // FETCHES
+    entry!(170, 1131, b'C'), // COMMIT
+    entry!(117, 742, b'G'), // GRANULARITY
+    entry!(133, 886, b'G'), // GRANTS
+    entry!(11, 61, b'O'), // ON
+    entry!(91, 551, b'A'), // ALIAS
+    entry!(18, 95, b'N'), // NOT
+    entry!(69, 393, b'S'), // SHOW
+    entry!(82, 497, b'I'), // IF
+    entry!(48, 255, b'F'), // FIRST
+    entry!(167, 1114, b'T'), // TEST
+    entry!(84, 508, b'L'), // LIVE
+    entry!(187, 1257, b'C'), // COMPLEX
+    entry!(5, 27, b'G'), // GROUP
+    entry!(2, 12, b'W'), // WHERE
+    entry!(103, 641, b'C'), // CLUSTER
+    entry!(165, 1103, b'S'), // SYNC
+    entry!(216, 1474, b'K'), // KEYED
+    entry!(135, 900, b'F'), // FLUSH
+    entry!(110, 692, b'I'), // INDEX
+    entry!(118, 754, b'T'), // TYPE
+    entry!(16, 86, b'I'), // ILIKE
+    entry!(36, 188, b'C'), // CROSS
+    entry!(0, 0, b'S'), // SELECT
+    entry!(136, 906, b'S'), // STOP
+    entry!(101, 624, b'E'), // ENGINE
+    entry!(134, 893, b'R'), // RELOAD
+    entry!(154, 1036, b'R'), // REVOKE
+    entry!(212, 1439, b'I'), // INTERPOLATE
+    entry!(71, 402, b'O'), // OPTIMIZE
+    entry!(198, 1349, b'C'), // CURRENT
+    entry!(98, 604, b'T'), // TRUE
+    entry!(128, 832, b'C'), // COLUMNS
+    entry!(26, 137, b'A'), // ALL
+    entry!(87, 527, b'T'), // TTL
+    entry!(109, 685, b'C'), // COLUMN
+    entry!(29, 152, b'O'), // OR
+    entry!(176, 1180, b'F'), // FREEZE
+    entry!(194, 1312, b'G'), // GROUPS
+    entry!(28, 148, b'A'), // AND
+    entry!(54, 291, b'E'), // EXCEPT
+    entry!(22, 114, b'E'), // ELSE
+    entry!(56, 308, b'I'), // INSERT
+    entry!(51, 273, b'R'), // ROLLUP
+    entry!(208, 1415, b'S'), // SETTING
+    entry!(149, 995, b'U'), // UNCOMPRESSED
+    entry!(195, 1319, b'U'), // UNBOUNDED
+    entry!(108, 679, b'A'), // AFTER
+    entry!(186, 1252, b'F'), // FLAT
+    entry!(197, 1339, b'F'), // FOLLOWING
+    entry!(148, 990, b'M'), // MARK
+    entry!(156, 1048, b'R'), // ROLE
+    entry!(10, 58, b'A'), // AS
+    entry!(35, 182, b'O'), // OUTER
+    entry!(179, 1202, b'A'), // APPLY
+    entry!(96, 592, b'S'), // SAMPLE
+    entry!(42, 220, b'N'), // NATURAL
+    entry!(50, 266, b'T'), // TOTALS
+    entry!(169, 1125, b'B'), // BEGIN
+    entry!(63, 352, b'A'), // ALTER
+    entry!(38, 201, b'A'), // ANY
+    entry!(204, 1386, b'E'), // ENGINES
+    entry!(23, 119, b'E'), // END
+    entry!(31, 160, b'I'), // INNER
+    entry!(60, 334, b'U'), // UPDATE
+    entry!(20, 104, b'W'), // WHEN
+    entry!(203, 1377, b'O'), // OVERRIDE
+    entry!(152, 1024, b'D'), // DISKS
+    entry!(43, 228, b'A'), // ARRAY
+    entry!(66, 370, b'A'), // ATTACH
+    entry!(189, 1272, b'I'), // INJECTIVE
+    entry!(76, 440, b'V'), // VIEW
+    entry!(14, 78, b'I'), // IN
+    entry!(45, 240, b'A'), // ASC
+    entry!(159, 1066, b'P'), // PROFILE
+    entry!(137, 911, b'S'), // START
+    entry!(161, 1078, b'N'), // NONE
+    entry!(47, 249, b'N'), // NULLS
+    entry!(33, 171, b'R'), // RIGHT
+    entry!(41, 215, b'A'), // ASOF
+    entry!(215, 1469, b'H'), // HOST
+    entry!(107, 667, b'P'), // PERMANENTLY
+    entry!(184, 1239, b'R'), // RANGE
+    entry!(166, 1108, b'A'), // ASYNC
+    entry!(126, 815, b'T'), // TABLES
+    entry!(97, 599, b'N'), // NULL
+    entry!(95, 585, b'F'), // FORMAT
+    entry!(199, 1357, b'D'), // DIV
+    entry!(141, 941, b'D'), // DISTRIBUTED
+    entry!(210, 1429, b'F'), // FILL
+    entry!(122, 788, b'A'), // AST
+    entry!(120, 771, b'E'), // EXPLAIN
+    entry!(116, 737, b'M'), // MOVE
+    entry!(181, 1216, b'S'), // SOURCE
+    entry!(4, 24, b'B'), // BY
+    entry!(46, 244, b'D'), // DESC
+    entry!(119, 759, b'D'), // DEDUPLICATE
+    entry!(40, 210, b'A'), // ANTI
+    entry!(130, 853, b'F'), // FUNCTIONS
+    entry!(160, 1074, b'R'), // ROW
+    entry!(53, 285, b'U'), // UNION
+    entry!(213, 1451, b'O'), // OPTION
+    entry!(93, 567, b'P'), // PREWHERE
+    entry!(12, 64, b'U'), // USING
+    entry!(124, 797, b'P'), // PIPELINE
+    entry!(52, 280, b'C'), // CUBE
+    entry!(205, 1394, b'F'), // FOR
+    entry!(70, 398, b'U'), // USE
+    entry!(112, 709, b'C'), // CONSTRAINT
+    entry!(27, 141, b'E'), // EXISTS
+    entry!(13, 70, b'B'), // BETWEEN
+    entry!(139, 924, b'R'), // REPLICA
+    entry!(17, 92, b'I'), // IS
+    entry!(34, 177, b'F'), // FULL
+    entry!(64, 358, b'D'), // DROP
+    entry!(83, 500, b'R'), // REPLACE
+    entry!(105, 652, b'P'), // POPULATE
+    None,
+    None,
+    entry!(147, 986, b'D'), // DNS
+    entry!(193, 1307, b'R'), // ROWS
+    entry!(78, 454, b'D'), // DICTIONARY
+    entry!(92, 557, b'E'), // EPHEMERAL
+    entry!(1, 7, b'F'), // FROM
+    None,
+    entry!(200, 1361, b'M'), // MOD
+    entry!(183, 1230, b'L'), // LIFETIME
+    entry!(131, 863, b'P'), // PROCESSLIST
+    entry!(144, 969, b'M'), // MOVES
+    entry!(89, 539, b'P'), // PRIMARY
+    entry!(209, 1423, b'R'), // RESET
+    entry!(72, 411, b'S'), // SYSTEM
+    None,
+    None,
+];
+
 // A letter's place in the alphabet, in either case.
-fn letter(b: u8) -> usize
-    ensures { (result ≡ b % 32) × (result < 32) }
+fn letter(b: u8) -> u8
+    ensures { result ≡ b % 32 }
 {
-    b as usize % 32
-}
-
-// Hash and displace: each bucket of entries, the largest first, has the least shift that leads to keys which are still free. Each of the 64 buckets
-// has an arm, one without entries too, so that no bound is to be tested.
-fn shift_of(bucket: usize) -> usize
-    ensures { (result ≡ match bucket shifts 0) × (result < 256) }
-{
-    match bucket {
-        0 => 2,
-        1 => 1,
-        2 => 1,
-        3 => 1,
-        4 => 1,
-        5 => 46,
-        6 => 1,
-        7 => 1,
-        8 => 1,
-        9 => 23,
-        10 => 17,
-        11 => 1,
-        12 => 1,
-        13 => 60,
-        14 => 1,
-        15 => 1,
-        16 => 125,
-        17 => 83,
-        18 => 106,
-        19 => 171,
-        20 => 110,
-        21 => 40,
-        22 => 122,
-        23 => 15,
-        24 => 58,
-        25 => 139,
-        26 => 4,
-        27 => 9,
-        28 => 1,
-        29 => 70,
-        30 => 94,
-        31 => 1,
-        32 => 5,
-        33 => 92,
-        34 => 79,
-        35 => 16,
-        36 => 8,
-        37 => 2,
-        38 => 128,
-        39 => 133,
-        40 => 3,
-        41 => 136,
-        42 => 60,
-        43 => 91,
-        44 => 126,
-        45 => 145,
-        46 => 163,
-        47 => 50,
-        48 => 144,
-        49 => 8,
-        50 => 7,
-        51 => 4,
-        52 => 201,
-        53 => 38,
-        54 => 1,
-        55 => 1,
-        56 => 4,
-        57 => 32,
-        58 => 1,
-        59 => 1,
-        60 => 99,
-        61 => 1,
-        62 => 1,
-        63 => 1,
-        _ => 0,
-    }
-}
-
-// Of each entry, by its key and in the source's order, 65,536 times its place, 32 times where it begins in the table, and its first letter's
-// number; 0 where no entry has the key.
-fn number_of(key: usize) -> usize
-    ensures { result ≡ match key numbers 0 }
-{
-    match key {
-        146 => 19, // SELECT
-        246 => 65766, // FROM
-        137 => 131479, // WHERE
-        90 => 197199, // ORDER
-        217 => 262914, // BY
-        136 => 328551, // GROUP
-        59 => 394280, // HAVING
-        108 => 460044, // LIMIT
-        4 => 525775, // OFFSET
-        3 => 591543, // WITH
-        175 => 657217, // AS
-        127 => 722863, // ON
-        226 => 788501, // USING
-        233 => 854210, // BETWEEN
-        195 => 920009, // IN
-        79 => 985644, // LIKE
-        144 => 1051337, // ILIKE
-        235 => 1117065, // IS
-        129 => 1182702, // NOT
-        17 => 1248355, // CASE
-        188 => 1314071, // WHEN
-        63 => 1379764, // THEN
-        164 => 1445445, // ELSE
-        185 => 1511141, // END
-        32 => 1576803, // CAST
-        91 => 1642500, // DISTINCT
-        156 => 1708321, // ALL
-        232 => 1773989, // EXISTS
-        162 => 1839745, // AND
-        159 => 1905423, // OR
-        93 => 1971050, // JOIN
-        186 => 2036745, // INNER
-        61 => 2102476, // LEFT
-        201 => 2168178, // RIGHT
-        236 => 2233894, // FULL
-        176 => 2299599, // OUTER
-        145 => 2365315, // CROSS
-        47 => 2431047, // GLOBAL
-        183 => 2496801, // ANY
-        100 => 2562483, // SEMI
-        220 => 2628161, // ANTI
-        202 => 2693857, // ASOF
-        179 => 2759566, // NATURAL
-        191 => 2825345, // ARRAY
-        104 => 2891078, // FINAL
-        196 => 2956801, // ASC
-        218 => 3022468, // DESC
-        200 => 3088174, // NULLS
-        132 => 3153894, // FIRST
-        118 => 3219628, // LAST
-        180 => 3285332, // TOTALS
-        166 => 3351090, // ROLLUP
-        228 => 3416835, // CUBE
-        223 => 3482549, // UNION
-        163 => 3548261, // EXCEPT
-        27 => 3614025, // INTERSECT
-        165 => 3679881, // INSERT
-        26 => 3745641, // INTO
-        33 => 3811350, // VALUES
-        41 => 3877092, // DELETE
-        187 => 3942869, // UPDATE
-        56 => 4008627, // SET
-        55 => 4074275, // CREATE
-        182 => 4140033, // ALTER
-        237 => 4205764, // DROP
-        24 => 4271460, // DETACH
-        192 => 4337217, // ATTACH
-        80 => 4402994, // RENAME
-        1 => 4468756, // TRUNCATE
-        130 => 4534579, // SHOW
-        230 => 4600277, // USE
-        152 => 4665935, // OPTIMIZE
-        254 => 4731763, // SYSTEM
-        60 => 4797509, // EXCHANGE
-        23 => 4863349, // UNDROP
-        20 => 4929108, // TABLE
-        194 => 4994838, // VIEW
-        25 => 5060516, // DATABASE
-        244 => 5126340, // DICTIONARY
-        28 => 5192230, // FUNCTION
-        12 => 5258061, // MATERIALIZED
-        114 => 5324020, // TEMPORARY
-        131 => 5389865, // IF
-        238 => 5455506, // REPLACE
-        134 => 5521292, // LIVE
-        40 => 5586980, // DEFAULT
-        68 => 5652771, // CODEC
-        157 => 5718516, // TTL
-        116 => 5784163, // COMMENT
-        252 => 5849968, // PRIMARY
-        75 => 5915755, // KEY
-        128 => 5981409, // ALIAS
-        245 => 6047141, // EPHEMERAL
-        225 => 6113008, // PREWHERE
-        78 => 6178835, // SETTINGS
-        209 => 6244646, // FORMAT
-        178 => 6310419, // SAMPLE
-        208 => 6376174, // NULL
-        154 => 6441876, // TRUE
-        71 => 6507558, // FALSE
-        10 => 6573289, // INTERVAL
-        148 => 6639109, // ENGINE
-        6 => 6704880, // PARTITION
-        138 => 6770723, // CLUSTER
-        121 => 6836532, // TO
-        239 => 6902160, // POPULATE
-        14 => 6967973, // EMPTY
-        204 => 7033712, // PERMANENTLY
-        170 => 7099617, // AFTER
-        158 => 7165347, // COLUMN
-        142 => 7231113, // INDEX
-        69 => 7296848, // PROJECTION
-        231 => 7362723, // CONSTRAINT
-        92 => 7428609, // ADD
-        102 => 7494285, // MODIFY
-        82 => 7560035, // CLEAR
-        215 => 7625773, // MOVE
-        125 => 7691463, // GRANULARITY
-        143 => 7757396, // TYPE
-        219 => 7823076, // DEDUPLICATE
-        214 => 7888997, // EXPLAIN
-        113 => 7954788, // DESCRIBE
-        213 => 8020609, // AST
-        48 => 8086288, // PLAN
-        227 => 8151984, // PIPELINE
-        110 => 8217797, // ESTIMATE
-        207 => 8283636, // TABLES
-        34 => 8349380, // DATABASES
-        155 => 8415235, // COLUMNS
-        52 => 8481028, // DICTIONARIES
-        221 => 8546982, // FUNCTIONS
-        250 => 8612848, // PROCESSLIST
-        119 => 8678768, // PRIVILEGES
-        126 => 8744647, // GRANTS
-        149 => 8810418, // RELOAD
-        141 => 8876166, // FLUSH
-        147 => 8941907, // STOP
-        198 => 9007603, // START
-        66 => 9073325, // MERGES
-        234 => 9139090, // REPLICA
-        81 => 9204882, // REPLICAS
-        211 => 9270692, // DISTRIBUTED
-        87 => 9336627, // SENDING
-        123 => 9402406, // FETCHES
-        251 => 9468205, // MOVES
-        85 => 9533932, // LOGS
-        37 => 9599619, // CACHE
-        242 => 9665348, // DNS
-        173 => 9731021, // MARK
-        168 => 9796725, // UNCOMPRESSED
-        95 => 9862659, // COMPILED
-        76 => 9928493, // MODELS
-        190 => 9994244, // DISKS
-        70 => 10059975, // GRANT
-        150 => 10125714, // REVOKE
-        83 => 10191477, // USER
-        174 => 10257170, // ROLE
-        120 => 10322865, // QUOTA
-        103 => 10388592, // POLICY
-        197 => 10454352, // PROFILE
-        222 => 10520146, // ROW
-        199 => 10585806, // NONE
-        99 => 10651499, // KILL
-        94 => 10717201, // QUERY
-        45 => 10782925, // MUTATION
-        139 => 10848755, // SYNC
-        206 => 10914433, // ASYNC
-        133 => 10980180, // TEST
-        67 => 11045859, // CHECK
-        181 => 11111586, // BEGIN
-        124 => 11177315, // COMMIT
-        58 => 11243090, // ROLLBACK
-        57 => 11308916, // TRANSACTION
-        77 => 11374818, // BACKUP
-        22 => 11440594, // RESTORE
-        62 => 11506380, // LOCAL
-        160 => 11572102, // FREEZE
-        96 => 11637877, // UNFREEZE
-        122 => 11703686, // FETCH
-        177 => 11769409, // APPLY
-        44 => 11835140, // DELETED
-        216 => 11900947, // SOURCE
-        105 => 11966700, // LAYOUT
-        249 => 12032460, // LIFETIME
-        205 => 12098290, // RANGE
-        51 => 12164008, // HASHED
-        171 => 12229766, // FLAT
-        135 => 12295459, // COMPLEX
-        64 => 12361252, // DIRECT
-        193 => 12427017, // INJECTIVE
-        49 => 12492872, // HIERARCHICAL
-        111 => 12558839, // WINDOW
-        88 => 12624591, // OVER
-        243 => 12690290, // ROWS
-        161 => 12755975, // GROUPS
-        169 => 12821749, // UNBOUNDED
-        13 => 12887600, // PRECEDING
-        172 => 12953446, // FOLLOWING
-        153 => 13019299, // CURRENT
-        210 => 13085092, // DIV
-        248 => 13150765, // MOD
-        9 => 13216435, // SYNTAX
-        74 => 13282196, // TREE
-        189 => 13347887, // OVERRIDE
-        184 => 13413701, // ENGINES
-        229 => 13479494, // FOR
-        117 => 13545168, // PART
-        84 => 13610861, // MATERIALIZE
-        167 => 13676787, // SETTING
-        253 => 13742578, // RESET
-        212 => 13808294, // FILL
-        97 => 13874003, // STEP
-        151 => 13939689, // INTERPOLATE
-        224 => 14005615, // OPTION
-        65 => 14071369, // IDENTIFIED
-        203 => 14137256, // HOST
-        140 => 14202955, // KEYED
-        _ => 0,
-    }
+    b % 32
 }
 
 // The key of a word of 2 to 12 bytes, from its length and four of its letters in either case.
-fn key_of(word: &[u8]) -> usize
+fn key_of(word: &[u8]) -> u8
     requires { (2 ≤ length word.now) × (length word.now ≤ 12) }
     ensures { result ≡ key word.now }
 {
     let n = word.len();
-    let half = n / 2;
-    let last = n - 1;
-    let bucket = (letter(word[0]) + 4 * n) % 64;
-    let hash = 2 * letter(word[1]) + 5 * letter(word[half]) + letter(word[last]);
-    (hash + shift_of(bucket)) % 256
+    let bucket = (usize::from(letter(word[0])) + 4 * n) % 64;
+    let hash = 2 * letter(word[1]) + 5 * letter(word[n / 2]) + letter(word[n - 1]);
+    hash.wrapping_add(SHIFTS[bucket])
 }
 
-// The number of the one entry that can be equal to a word, by the word's length and key and by its first letter, which turns most others away; 0
-// where none can. A number, and no enum, so that it comes back in a register.
-pub(crate) fn candidate(word: &[u8]) -> usize
+// The one entry that can be equal to a word, by the word's length and key and by its first letter, which turns most others away.
+pub(crate) fn candidate(word: &[u8]) -> Option<Entry>
     ensures { result ≡ spec.candidate word.now }
 {
-    let n = word.len();
-    if n < 2 {
-        return 0;
+    if word.len() < 2 || LONGEST < word.len() {
+        return None;
     }
-    if LONGEST < n {
-        return 0;
-    }
-    let number = number_of(key_of(&word[..]));
-    if number % 32 == letter(word[0]) {
-        return number;
-    }
-    0
+    let entry = ENTRIES[usize::from(key_of(word))]?;
+    (entry.first == letter(word[0])).then_some(entry)
 }

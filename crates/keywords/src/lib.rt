@@ -7,11 +7,11 @@ pub mod table;
 ghost use Rattle.std.specs.Prelude.{◌≡◌, [], ◌≤◌, get_or, length};
 ghost use Rattle.basics.specs.Case.{to_uppercase};
 ghost use Rattle.keywords.specs.Words.{capitals, same, word_of, words};
-ghost use Rattle.keywords.specs.Walk.{capital_letters, first_equal, is_equal};
-ghost use Rattle.keywords.specs.Index.{Stands, unpacked};
+ghost use Rattle.keywords.specs.Index.{Stands};
+ghost use Rattle.keywords.specs.Walk.{capital_letters, first_equal};
 
-use index::candidate;
-use table::Keywords;
+use index::{Entry, candidate};
+use table::table;
 
 // An entry has at most so many letters.
 pub(crate) const LONGEST: usize = 12;
@@ -51,82 +51,59 @@ fn capitals_of(word: &[u8]) -> [u8; LONGEST]
     letters
 }
 
-impl Keywords {
-    // Whether the entry with the number is equal to the length and the bytes.
-    fn is_entry(&self, number: usize, length: usize, bytes: &[u8]) -> bool
-        requires { Stands (unpacked number) }
-        ensures { result ≡ is_equal length bytes.now (get_or words (unpacked number).place []) }
-    {
-        let at = number / 32 % 2048;
-        if self.letters[at] as usize != length {
-            return false;
-        }
-        if bytes.len() < length {
-            return false;
-        }
-        let start = at + 1;
-        bytes[..length] == self.letters[start..start + length]
-    }
-
-    // The walk by a copy of the table. It looks first at the entry with the number, whichever that is, then at the one that the index leads to.
-    fn walk(&self, number: usize, length: usize, bytes: &[u8]) -> Option<usize>
-        requires { Stands (unpacked number) }
-        ensures { result ≡ first_equal length bytes.now words }
-    {
-        if self.is_entry(number, length, bytes) {
-            return Some(number / 65536);
-        }
-        if bytes.len() < length {
-            return None;
-        }
-        let other = candidate(&bytes[..length]);
-        if self.is_entry(other, length, bytes) {
-            return Some(other / 65536);
-        }
-        None
-    }
-
-    // The sort of a word for which there is a candidate. NULL, TRUE and FALSE stand beside each other in the list.
-    fn word_at(&self, number: usize, word: &[u8]) -> Word
-        requires { Stands (unpacked number) × (length word.now ≤ 12) }
-        ensures { result ≡ word_of word.now }
-    {
-        let letters = capitals_of(word);
-        match self.walk(number, word.len(), &letters) {
-            None => Word::Plain,
-            Some(i) => match i {
-                97..=99 => Word::Value(i),
-                _ => Word::Keyword(i),
-            },
-        }
-    }
-
-    // The sort of a word.
-    pub fn word_of(&self, word: &[u8]) -> Word
-        ensures { result ≡ word_of word.now }
-    {
-        let number = candidate(word);
-        if number == 0 {
-            return Word::Plain;
-        }
-        self.word_at(number, word)
-    }
+// Whether the entry is equal to the word.
+fn is_entry(entry: Entry, word: &[u8]) -> bool
+    requires { Stands entry }
+    ensures { result ≡ same word.now (get_or words entry.place []) }
+{
+    let table = table();
+    let at = usize::from(entry.at);
+    let start = at + 1;
+    word == &table[start..start + usize::from(table[at])]
 }
 
 // The walk: where the first entry stands that is equal to any length and bytes, to the first bytes as many as the length says.
 pub fn walk(length: usize, bytes: &[u8]) -> Option<usize>
     ensures { result ≡ first_equal length bytes.now words }
 {
-    Keywords::new().walk(0, length, bytes)
+    let word = bytes.get(..length)?;
+    let entry = candidate(word)?;
+    is_entry(entry, word).then_some(usize::from(entry.place))
 }
 
-// The sort of a word. The table is copied only for a word that can be on the list.
+// The same. It looks first at the entry, whichever that is.
+fn walk_from(entry: Entry, size: usize, bytes: &[u8]) -> Option<usize>
+    requires { Stands entry × (size ≤ length bytes.now) }
+    ensures { result ≡ first_equal size bytes.now words }
+{
+    if is_entry(entry, &bytes[..size]) {
+        return Some(usize::from(entry.place));
+    }
+    walk(size, bytes)
+}
+
+// The sort of a word for which there is a candidate. NULL, TRUE and FALSE stand beside each other in the list. On its own, so that `word_of`, which turns
+// most names away, goes where it is called.
+#[inline(never)]
+fn word_at(entry: Entry, word: &[u8]) -> Word
+    requires { Stands entry × (length word.now ≤ 12) }
+    ensures { result ≡ word_of word.now }
+{
+    match walk_from(entry, word.len(), &capitals_of(word)) {
+        None => Word::Plain,
+        Some(i) => match i {
+            97..=99 => Word::Value(i),
+            _ => Word::Keyword(i),
+        },
+    }
+}
+
+// The sort of a word.
 pub fn word_of(word: &[u8]) -> Word
     ensures { result ≡ word_of word.now }
 {
-    let number = candidate(word);
-    if number == 0 {
-        return Word::Plain;
+    match candidate(word) {
+        None => Word::Plain,
+        Some(entry) => word_at(entry, word),
     }
-    Keywords::new().word_at(number, word)
 }

@@ -5,7 +5,7 @@ ghost use Rattle.keywords.specs.Table as spec;
 pub const TABLE_LENGTH: usize = 1480;
 
 // In the source's order; of each entry its length, then its letters.
-const KEYWORDS: [u8; TABLE_LENGTH] = *b"\
+static KEYWORDS: [u8; TABLE_LENGTH] = *b"\
     \x06SELECT\
     \x04FROM\
     \x05WHERE\
@@ -224,15 +224,9 @@ const KEYWORDS: [u8; TABLE_LENGTH] = *b"\
     \x04HOST\
     \x05KEYED";
 
-// The table as it is lent. To lend a constant is to copy it: a layout copies the table once and lends the copy to every test of a word.
-#[derive(Drop)]
-pub struct Keywords {
-    pub(crate) letters: [u8; TABLE_LENGTH],
-    ghost is_table: { letters ≡ spec.table },
-}
-
-impl Keywords {
-    pub fn new() -> Self {
-        Keywords { letters: KEYWORDS }
-    }
+// The table is read where it lies: a constant would be copied to the stack wherever it is lent or indexed.
+pub fn table() -> &'static [u8; TABLE_LENGTH]
+    ensures { result.now ≡ spec.table }
+{
+    &KEYWORDS
 }

@@ -6,6 +6,7 @@ pub mod TokenMaps
 pub mod MaskedMaps
 pub mod TwoCalls
 pub mod OneLength
+pub mod AnswerNumbers
 pub mod MapCalls
 pub mod AsciiPairs
 pub mod MaskingTests

@@ -174,8 +174,8 @@ module _ (a b : Text) where
     where
       go : (o q : Origin) → o ≡ q → (Agree a b o → x.byte ≡ y.byte) → T (cell_like a b x y o q)
       go made made e f = rw (f tt) (eqb_refl y.byte)
-      go made (from q) e f = absurd (let z : ◌≡◌ {A = ℕ} 0 1 = cc in omega arith)
-      go (from p) made e f = absurd (let z : ◌≡◌ {A = ℕ} 0 1 = cc in omega arith)
+      go made (from q) e f = cc
+      go (from p) made e f = cc
       go (from p) (from q) e f =
           and_i (eqb p q) (not (eqb (get_or a p 0) (get_or b p 0)) || eqb x.byte y.byte) (same e) (bytes (eqb (get_or a p 0) (get_or b p 0)) refl)
         where

@@ -169,6 +169,6 @@ module _ (t : Text) where
 
   -- at each place
   pub comes_from : (cs : List Cell) → AllComeFrom t cs → (i p : ℕ) → (get_or cs i (fresh 0)).origin ≡ from p → to_lowercase (get_or cs i (fresh 0)).byte ≡ to_lowercase (get_or t p 0)
-  comes_from [] k i p e = absurd (let z : ◌≡◌ {A = ℕ} 0 1 = cc in omega arith)
+  comes_from [] k i p e = cc
   comes_from (c ∷ cs) k zero p e = subst (ComesFrom t c) e k.0
   comes_from (c ∷ cs) k (suc i) p e = comes_from cs k.1 i p e

@@ -1,5 +1,5 @@
 -- The call: what it answers, and what the output space holds afterwards. To measure is to call with an output space of 0 bytes.
-use Rattle.std.specs.Prelude.{ℕ, Bool, true, false, cond, ◌&&◌, ◌||◌, List, ◌++◌, length, drop, leb, eqb}
+use Rattle.std.specs.Prelude.{ℕ, Bool, true, false, cond, ◌&&◌, ◌||◌, List, ◌++◌, length, drop, leb, eqb, Result as Checked, Ok, Err}
 use Rattle.context.specs.Cells.{Text, Cell, bytes_of}
 use Rattle.context.specs.declared.FormatConfig.{FormatConfig}
 use Rattle.tape.specs.declared.Fault.{Fault}
@@ -8,6 +8,8 @@ use Rattle.tape.specs.Tree.{Tree}
 use Rattle.tape.specs.Tape.{Read, refused, got}
 use Rattle.tape.specs.Call.{read_call}
 use Rattle.layout.specs.declared.Answer.{Answer}
+use Rattle.layout.specs.declared.Refused.{Refused}
+use Rattle.layout.specs.declared.Refused.TheVariants.{Input, OutputSpace, MapSpace}
 use Rattle.layout.specs.Layout.{Version, format}
 
 -- refused, for what and where; or laid out
@@ -28,6 +30,22 @@ outcome v width case text tape = of_read (read_call width case text tape) (forma
 
 abbrev pub answer : ℕ → ℕ → Answer
 answer n v = record { number = n; value = v }
+
+-- the number and the second number of each refusal: the place, the needed length, or the count of numbers needed
+abbrev pub refused_number : Refused → ℕ
+refused_number (Input r) = number r.fault
+refused_number (OutputSpace n) = 13
+refused_number (MapSpace n) = 17
+
+abbrev pub refused_value : Refused → ℕ
+refused_value (Input r) = r.at
+refused_value (OutputSpace n) = n
+refused_value (MapSpace n) = n
+
+-- what a call answers, as two numbers; no two answers have the same ones (answer_of-injective, layout/proofs/AnswerNumbers)
+abbrev pub answer_of : Checked ℕ Refused → Answer
+answer_of (Ok n) = answer 0 n
+answer_of (Err r) = answer (refused_number r) (refused_value r)
 
 -- the answer is these two numbers
 abbrev pub answers : Answer → ℕ → ℕ → Bool

@@ -2,7 +2,12 @@
 #![tactic(auto)]
 
 ghost use Rattle.std.specs.Prelude.{◌≡◌};
+ghost use Rattle.layout.specs.declared.Refused.TheVariants.{Input};
+ghost use Rattle.layout.specs.Outcome.{answer_of, refused_number, refused_value};
 ghost use Rattle.layout.specs.Routines.{after, flagged};
+
+use tape::Refusal;
+use tape::check::number;
 
 // The local variables of a routine: its flag (which the source names differently in each) and prev_kind.
 #[derive(Clone, Copy)]
@@ -61,10 +66,69 @@ pub enum Routine {
     Passthrough,
 }
 
-// What both calls answer: 0 and a length, or a refusal's number and its second number.
+// Why a call is refused: for its settings, its text or its tape; for an output space that is too short, with the needed length; or for a map space
+// that is too short, with the count of numbers needed.
+#[derive(Clone, Copy, Debug, PartialEq, Eq)]
+pub enum Refused {
+    Input(Refusal),
+    OutputSpace(usize),
+    MapSpace(usize),
+}
+
+impl From<Refusal> for Refused {
+    ghost from_gives = { λ refusal refused. refused ≡ Input refusal };
+
+    fn from(refusal: Refusal) -> Refused {
+        Refused::Input(refusal)
+    }
+}
+
+impl Refused {
+    // The refusal's number: 1 to 12, 15 or 16; 13; or 17.
+    pub fn number(self) -> u64
+        ensures { result ≡ refused_number self }
+    {
+        match self {
+            Refused::Input(refusal) => number(refusal.fault),
+            Refused::OutputSpace(_) => 13,
+            Refused::MapSpace(_) => 17,
+        }
+    }
+
+    // The second number: the place, or what is needed.
+    pub fn value(self) -> u64
+        ensures { result ≡ refused_value self }
+    {
+        let value = match self {
+            Refused::Input(refusal) => refusal.at,
+            Refused::OutputSpace(length) => length,
+            Refused::MapSpace(count) => count,
+        };
+        value as u64
+    }
+}
+
+// What both calls answer, as two numbers: 0 and a length, or a refusal's number and its second number.
 #[repr(C)]
 #[derive(Clone, Copy, PartialEq, Eq)]
 pub struct Answer {
     pub number: u64,
     pub value: u64,
+}
+
+impl From<Result<usize, Refused>> for Answer {
+    ghost from_gives = { λ called answer. answer ≡ answer_of called };
+
+    fn from(called: Result<usize, Refused>) -> Answer {
+        match called {
+            Ok(length) => Answer {
+                number: 0,
+                value: length as u64,
+            },
+            Err(refused) => Answer {
+                number: refused.number(),
+                value: refused.value(),
+            },
+        }
+    }
 }

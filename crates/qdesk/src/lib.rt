@@ -18,7 +18,7 @@ use layout::Answer;
 pub fn qdesk_layout(text: &[u8], tape: &[u8], width: u64, case: u64, out: &mut [u8]) -> Answer
     ensures { ◌≡◌ {A = Result} (record { answer = result; space = out.new }) (laid_out (outcome original width case text.now tape.now) out.old) }
 {
-    layout(text, tape, width, case, out)
+    Answer::from(layout(text, tape, width, case, out))
 }
 
 pub fn qdesk_layout_map(
@@ -31,7 +31,7 @@ pub fn qdesk_layout_map(
 ) -> Answer
     ensures { ◌≡◌ {A = Mapped} (record { answer = result; space = out.new; map = map.new }) (mapped width case text.now tape.now out.old map.old) }
 {
-    layout_map(text, tape, width, case, out, map)
+    Answer::from(layout_map(text, tape, width, case, out, map))
 }
 
 pub fn qdesk_word(word: &[u8]) -> Answer

@@ -4,7 +4,7 @@ use mathlib.Core.Bool.{true, ◌&&◌}
 use Prim.Native.Nat.{◌+◌, ◌≤◌}
 use lib.Dec.{leb}
 use borrow.Author.Tests.{leb-true}
-use Rattle.basics.proofs.Same.{and_true}
+use Rattle.std.proofs.lemmas.Bool.{and_parts}
 use Rattle.replay_list.specs.declared.Run.{Run}
 use Rattle.replay_list.specs.declared.RecordHead.{RecordHead}
 use Rattle.replay_list.specs.Record.{run_fits, fitting, layout_length}
@@ -24,7 +24,7 @@ pub record Within (head : RecordHead) : Type 0 where
 pub run-within : (run : Run) → run_fits run ≡ true → RunWithin run
 unfolding run_fits
 run-within run h =
-    let q = and_true (leb run.stored 4096) (leb (run.stored + run.zeros) 262145) h in
+    let q = and_parts (leb run.stored 4096) (leb (run.stored + run.zeros) 262145) h in
     record { stored = leb-true _ _ q.0; whole = leb-true _ _ q.1 }
 
 pub within-limits : (head : RecordHead) → fitting head ≡ true → Within head
@@ -32,9 +32,9 @@ unfolding fitting
 within-limits head h =
     let t = run_fits head.text in
     let u = run_fits head.tape in
-    let p = and_true (t && u && leb head.space 4096) (leb (layout_length head) head.space) h in
-    let q = and_true (t && u) (leb head.space 4096) p.0 in
-    let s = and_true t u q.0 in
+    let p = and_parts (t && u && leb head.space 4096) (leb (layout_length head) head.space) h in
+    let q = and_parts (t && u) (leb head.space 4096) p.0 in
+    let s = and_parts t u q.0 in
     record {
       text-fits = s.0;
       tape-fits = s.1;

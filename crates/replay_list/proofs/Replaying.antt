@@ -9,7 +9,7 @@ use lib.ListN.{length, take, drop, replicate, length-drop, length-take}
 use lib.Dec.{leb, ltb, eqb}
 use lib.Seq.{take_all, take-append-add}
 use borrow.Author.Tests.{le-leb, lt-leb, lt-ltb, le-ltb, leb-true, eqb-true, eqb-false}
-use Rattle.basics.proofs.Same.{and_true}
+use Rattle.std.proofs.lemmas.Bool.{and_parts}
 use Rattle.layout.specs.Layout.{original}
 use Rattle.layout.specs.Outcome.{outcome}
 use Rattle.std.specs.Prelude.{Option, Some, None, Ok}
@@ -109,7 +109,7 @@ verdict-end bytes =
     let head = head_of bytes in
     end-if (leb 72 (length bytes)) _ (length bytes)
     (λ _. end-if (fitting head && leb (record_end head) (length bytes)) (Some (record { agreed = record_agrees bytes head; end = record_end head })) (length bytes)
-    (λ b. leb-true (record_end head) (length bytes) (and_true (fitting head) _ b).1))
+    (λ b. leb-true (record_end head) (length bytes) (and_parts (fitting head) _ b).1))
 
 pub compared_end : (bytes : List ℕ) (c : Compared) → Some c ≡ verdict bytes → c.end ≤ length bytes
 compared_end bytes c h = subst (λ (v : Option Compared). end_of v ≤ length bytes) (sym h) (verdict-end bytes)

@@ -40,9 +40,9 @@ pub(crate) fn calls_agree(
 ) -> bool
     ensures { result ≡ calls_agree (outcome original head.width head.case text.now tape.now) head.number head.value expected.now (length out.old) }
 {
-    let in_no_space = layout(text, tape, head.width, head.case, &mut []);
+    let in_no_space = Answer::from(layout(text, tape, head.width, head.case, &mut []));
     out.fill(255);
-    let answer = layout(text, tape, head.width, head.case, out);
+    let answer = Answer::from(layout(text, tape, head.width, head.case, out));
     let due_in_no_space = Answer {
         number: no_space_number(head),
         value: head.value,

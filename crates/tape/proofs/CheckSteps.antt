@@ -38,7 +38,7 @@ behind_cons i is m n h l k zero = h
 behind_cons i is m n h l k (suc j) = omega (arith, k j)
 
 no_open : {i : ℕ} {is : List ℕ} → ◌≡◌ {A = List ℕ} (i ∷ is) [] → ⊥
-no_open e = let z : ◌≡◌ {A = ℕ} 0 1 = cc in omega arith
+no_open e = cc
 
 -- after the root's close: the facts, where nothing follows
 abbrev pub end_notes : Command → ℕ → List ℕ → Read (List ℕ)
@@ -58,7 +58,7 @@ told_of (Ok u) = record { fault = NotOneRoot; at = 0 }
 told_of (Err r) = r
 
 no_err : {r : Refusal} {u : Unit {0}} → ◌≡◌ {A = Result (Unit {0}) Refusal} (Err r) (Ok u) → ⊥
-no_err e = let z : ◌≡◌ {A = ℕ} 0 1 = cc in omega arith
+no_err e = cc
 
 placed_err : {p : ℕ} (x : Result (Unit {0}) Fault) {r : Refusal} → Err r ≡ placed p x → (x ≡ Err r.fault) × (r.at ≡ p)
 unfolding told_of
@@ -89,7 +89,7 @@ last-innermost xs = go (reverse xs) xs (sym (reverse-reverse xs))
 
 pub no_innermost : (xs : List ℕ) → innermost xs ≡ None → length xs ≡ 0
 no_innermost [] e = refl
-no_innermost (x ∷ xs) e = absurd (let z : ◌≡◌ {A = ℕ} 0 1 = cc in omega arith)
+no_innermost (x ∷ xs) e = cc
 
 pub innermost_fits : (nodes : List ℕ) (p n : ℕ) → ((j : ℕ) → get_or nodes j 0 * 11 ≤ p) → p < 11 * n → IfSome (innermost nodes) (λ q. q < n)
 innermost_fits [] p n h l = tt
@@ -163,20 +163,10 @@ module _ (tests : SpanTests) (tape : List ℕ) where
     pub first : p ≡ 0 → (nodes ≡ []) × (fs ≡ fs₀)
     pub later : 0 < p → notes fs₀ ≡ rest nodes p fs
 
-  pub start : (fs₀ : List ℕ) → Checking fs₀ [] 0 fs₀
-  start fs₀ =
-      record {
-        low = omega arith;
-        same = refl;
-        behind = λ j. omega arith;
-        first = λ _. (refl, refl);
-        later = λ z. absurd (omega arith);
-      }
-
   -- ── what the answer is
 
   no_got : {f : Fault} {p q : ℕ} {fs : List ℕ} → ◌≡◌ {A = Read (List ℕ)} (got fs q) (refused f p) → ⊥
-  no_got e = let z : ◌≡◌ {A = ℕ} 0 1 = cc in omega arith
+  no_got e = cc
 
   same-refusal : {f g : Fault} {p q : ℕ} → ◌≡◌ {A = Read (List ℕ)} (refused f p) (refused g q) → refusal g q ≡ refusal f p
   same-refusal e = cc

@@ -29,10 +29,6 @@ command_passes closes = true
 
 -- ── a reading that goes on
 
-then_passes : {A B : Type 0} (r : Read A) (k : A → ℕ → Read B) → let_pass (and_then r k) ≡ true → let_pass r ≡ true
-then_passes (refused f p) k e = e
-then_passes (got a q) k e = refl
-
 then_alone : {A B : Type 0} (r r' : Read A) (k k' : A → ℕ → Read B) → let_pass (and_then r k) ≡ true → (let_pass r ≡ true → r ≡ r')
     → ((a : A) (q : ℕ) → let_pass (k a q) ≡ true → k a q ≡ k' a q) → and_then r k ≡ and_then r' k'
 then_alone (refused f p) r' k k' e h g = ap (λ x. and_then x k') (h e)

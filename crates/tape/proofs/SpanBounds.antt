@@ -9,6 +9,7 @@ use mathlib.Core.List.{List, []}
 use lib.ListN.{length, take, drop, get_or}
 use lib.Dec.{leb, ltb, eqb}
 use borrow.Author.Tests.{ltb-false, le-ltb, le-leb, leb-true, leb-false, eq-eqb, not-false}
+use Rattle.std.proofs.lemmas.Bool.{or_parts}
 use Rattle.basics.specs.Bytes.{token_text}
 use Rattle.utf8.specs.Table.{is_ascii, holds}
 use Rattle.utf8.specs.Pieces.{pieces, WellFormed, inside, is_trailing, Boundary, Starts}
@@ -28,10 +29,6 @@ not_or : (s t : Bool) → (not s && not t) ≡ not (s || t)
 not_or true t = refl
 not_or false t = refl
 
-neither : (s t : Bool) → s || t ≡ false → (s ≡ false) × (t ≡ false)
-neither true t e = absurd (true≢false e)
-neither false t e = (refl, e)
-
 module _ (text : List ℕ) (well : WellFormed text) where
   pub at_bounds : (h : Head) → (not (is_trailing (get_or text h.start 0)) && not (is_trailing (get_or text h.end 0))) ≡ not ((tests_of text).inside_character h)
   at_bounds h =
@@ -40,7 +37,7 @@ module _ (text : List ℕ) (well : WellFormed text) where
 
   bounds : (h : Head) → (tests_of text).inside_character h ≡ false → Boundary text h.start × Boundary text h.end
   bounds h e =
-      let b = neither (inside h.start (pieces text)) (inside h.end (pieces text)) e in
+      let b = or_parts (inside h.start (pieces text)) (inside h.end (pieces text)) e in
       (sym (inside-trailing text well h.start) ∙ b.0, sym (inside-trailing text well h.end) ∙ b.1)
 
   pub token-in_text : (h : Head) → TokenPasses (tests_of text) h → TokenInText text h
@@ -120,12 +117,6 @@ module _ {text : List ℕ} {h : Head} where
   pub token-starts : TokenInText text h → Starts (token_text text h.start h.end)
   token-starts t = span-starts text h.start h.end t.start
 
-  pub token-well : WellFormed text → TokenInText text h → WellFormed (token_text text h.start h.end)
-  token-well w t = span-well text h.start h.end t.ordered t.start t.end w
-
-  pub word_bytes : TokenInText text h → h.kind ≡ BareWord → (i : ℕ) → get_or (token_text text h.start h.end) i 0 ≤ 127
-  word_bytes t e = ascii-bytes (token_text text h.start h.end) (t.word e)
-
   pub node-starts : NodeInText text h → Starts (token_text text h.start h.end)
   unfolding is_trailing holds
   node-starts n = go (leb h.start h.end) refl
@@ -133,10 +124,3 @@ module _ {text : List ℕ} {h : Head} where
       go : (t : Bool) → leb h.start h.end ≡ t → Starts (token_text text h.start h.end)
       go true e = span-starts text h.start h.end (n.start (leb-true h.start h.end e))
       go false e = rw (no_span text h.start h.end (leb-false h.start h.end e))
-
-  pub node-well : WellFormed text → NodeInText text h → WellFormed (token_text text h.start h.end)
-  node-well w n = go (leb h.start h.end) refl
-    where
-      go : (t : Bool) → leb h.start h.end ≡ t → WellFormed (token_text text h.start h.end)
-      go true e = let le = leb-true h.start h.end e in span-well text h.start h.end le (n.start le) (n.end le) w
-      go false e = rw (no_span text h.start h.end (leb-false h.start h.end e)) (ill_none 0)

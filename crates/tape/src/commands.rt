@@ -7,6 +7,13 @@ ghost use Rattle.tape.specs.ReadCommands.{sort_of, ReadAt, cut_at, placed};
 use crate::{Fault, Head, Refusal, syntax_kind};
 use utf8::{is_ascii, is_boundary};
 
+// The first byte of a command. The check reads commands as an enum; a walk over a checked tape compares the byte alone, which is all that it waits for.
+pub const OPEN: u8 = 1;
+
+pub const TOKEN: u8 = 2;
+
+pub const CLOSE: u8 = 3;
+
 // A command as it is read: an open and a token with their operands.
 #[derive(Clone, Copy)]
 pub(crate) enum ReadCommand {
@@ -73,9 +80,9 @@ pub(crate) fn command_at(tape: &[u8], at: usize) -> Result<ReadCommand, Refusal>
     ensures place { ReadAt tape.now at result }
 {
     match tape[at] {
-        1 => Ok(ReadCommand::Open(whole_head(tape, at)?)),
-        2 => Ok(ReadCommand::Token(whole_head(tape, at)?)),
-        3 => Ok(ReadCommand::Close),
+        OPEN => Ok(ReadCommand::Open(whole_head(tape, at)?)),
+        TOKEN => Ok(ReadCommand::Token(whole_head(tape, at)?)),
+        CLOSE => Ok(ReadCommand::Close),
         _ => Err(Refusal {
             fault: Fault::UnknownCommand,
             at,

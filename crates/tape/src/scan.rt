@@ -2,6 +2,7 @@
 ghost use Rattle.tape.specs.SpelledAt.{NodeAt, Skipped};
 
 use crate::Passed;
+use crate::commands::{CLOSE, TOKEN};
 
 // The place after the close of the node that opens at `at`, and how many tokens are below the node. By places, and not over commands as they are read
 // elsewhere: what lies here is known, so that no operand and no refusal is needed. Tokens have a loop of their own, or each step would wait for a byte.
@@ -13,11 +14,11 @@ pub fn skip(tape: &[u8], at: usize) -> Passed
     let mut depth: usize = 1;
     let mut tokens: usize = 0;
     while 0 < depth {
-        while tape[i] == 2 {
+        while tape[i] == TOKEN {
             i += 11;
             tokens += 1;
         }
-        if tape[i] == 3 {
+        if tape[i] == CLOSE {
             depth -= 1;
             i += 1;
         } else {

@@ -1,4 +1,4 @@
-// The kinds of `SyntaxKind`, each at its place in the source, from 0.
+// The kinds of `SyntaxKind`, each at its place in the source, from 0. Constants and no enum: an enum takes at most 256 variants, and there are 258 kinds.
 pub const ERROR: u16 = 0;
 
 pub const FILE: u16 = 1;

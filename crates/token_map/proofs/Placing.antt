@@ -8,7 +8,7 @@ use mathlib.Core.List.{List, [], ◌∷◌, ◌++◌, map}
 use lib.ListN.{length, replicate, length-append, length-replicate, length-map}
 use lib.Dec.{eqb, eqb-suc-zero}
 use borrow.Author.Tests.{ne_eqb, eqb-true}
-use Rattle.basics.proofs.Same.{and_true}
+use Rattle.std.proofs.lemmas.Bool.{and_parts}
 use Rattle.utf8.specs.Trimming.{trimmed_length, trimmed_after, is_white_byte}
 use Rattle.utf8.proofs.Trimming.{trimmed-nothing, trimmed-one, trimmed-cons}
 use Rattle.context.specs.Cells.{Text, Cell, bytes_of, fresh, span_cells, cell_in_case, to_case, token_text}
@@ -104,9 +104,6 @@ module _ (config : FormatConfig) (cs : List Cell) (w : Store) where
   abbrev from : ℕ
   from = w.0.position.length + length (lead config w.0.state)
 
-  token-wrote : List ℕ
-  token-wrote = bytes_of (lead config w.0.state ++ cs)
-
   wrote_length : (stored (write_token config cs w.0.state) w).0.position.length ≡ from + length (bytes_of cs)
   unfolding appended advanced write_token
   wrote_length =
@@ -164,7 +161,7 @@ module _ (config : FormatConfig) (text : Text) (h : Head) where
   none_written : (test : Spacing → Bool) (acts : List Act) (w : Seat) → only_spacing test acts ≡ true → written_at config text h acts w ≡ 0
   unfolding written_at
   none_written test [] w e = refl
-  none_written test (spacing x ∷ acts) w e = later-none _ ∙ none_written test acts _ (and_true (test x) (only_spacing test acts) e).1
+  none_written test (spacing x ∷ acts) w e = later-none _ ∙ none_written test acts _ (and_parts (test x) (only_spacing test acts) e).1
   none_written test (arms.write_text ∷ acts) w e = absurd (false≢true e)
   none_written test (arms.write_keyword ∷ acts) w e = absurd (false≢true e)
   none_written test (write_sign x ∷ acts) w e = absurd (false≢true e)
@@ -187,7 +184,7 @@ module _ (config : FormatConfig) (text : Text) (h : Head) where
   keeps_trimmed : (test : Spacing → Bool) (acts : List Act) (w : Store) → only_spacing test acts ≡ true → (runs acts w).0.position.trimmed ≡ w.0.position.trimmed
   keeps_trimmed test [] w e = refl
   keeps_trimmed test (spacing x ∷ acts) w e =
-      keeps_trimmed test acts (did (spacing x) w) (and_true (test x) (only_spacing test acts) e).1 ∙ spacing-trimmed x w
+      keeps_trimmed test acts (did (spacing x) w) (and_parts (test x) (only_spacing test acts) e).1 ∙ spacing-trimmed x w
   keeps_trimmed test (arms.write_text ∷ acts) w e = absurd (false≢true e)
   keeps_trimmed test (arms.write_keyword ∷ acts) w e = absurd (false≢true e)
   keeps_trimmed test (write_sign x ∷ acts) w e = absurd (false≢true e)
@@ -195,7 +192,7 @@ module _ (config : FormatConfig) (text : Text) (h : Head) where
   keeps_length : (acts : List Act) (w : Store) → only_spacing is_quiet acts ≡ true → (runs acts w).0.position.length ≡ w.0.position.length
   keeps_length [] w e = refl
   keeps_length (spacing x ∷ acts) w e =
-      let b = and_true (is_quiet x) (only_spacing is_quiet acts) e in
+      let b = and_parts (is_quiet x) (only_spacing is_quiet acts) e in
       keeps_length acts (did (spacing x) w) b.1 ∙ spacing-length x w b.0
   keeps_length (arms.write_text ∷ acts) w e = absurd (false≢true e)
   keeps_length (arms.write_keyword ∷ acts) w e = absurd (false≢true e)
@@ -290,7 +287,7 @@ unfolding is_line_comment is_white_byte
 comment_black [] e z = false≢true e
 comment_black (x ∷ []) e z = false≢true e
 comment_black (x ∷ y ∷ b) e z =
-    let hyphen : x ≡ 45 = eqb-true x 45 (and_true (eqb x 45) (eqb y 45) e).0 in
+    let hyphen : x ≡ 45 = eqb-true x 45 (and_parts (eqb x 45) (eqb y 45) e).0 in
     let first : trimmed_length (x ∷ []) ≡ 1 = ap (λ (c : ℕ). trimmed_length (c ∷ [])) hyphen ∙ trimmed-one 45 in
     go (trimmed_length (y ∷ b)) (sym (trimmed-cons x (y ∷ b) (omega arith) ∙ ap (λ (n : ℕ). trimmed_after 1 n (trimmed_length (y ∷ b))) first) ∙ z)
   where
@@ -301,7 +298,7 @@ comment_black (x ∷ y ∷ b) e z =
 line-black : (text : Text) (h : Head) → is_line (seen text h) ≡ true → trimmed_length (token_text text h.start h.end) ≡ 0 → ⊥
 unfolding seen
 line-black text h e =
-    let b = and_true (eqb h.kind Kinds.Comment) _ e in
+    let b = and_parts (eqb h.kind Kinds.Comment) _ e in
     let read : is_read h.kind ≡ true = ap is_read (eqb-true h.kind Kinds.Comment b.0) in
     comment_black (token_text text h.start h.end) (subst (λ (x : Bool). is_line_comment (cond x (token_text text h.start h.end) []) ≡ true) read b.1)
 

@@ -172,23 +172,3 @@ unfolding binary_token
 operator_acts kind text e =
     let no : (x : ℕ) → is_operator x ≡ false → eqb kind x ≡ false = λ x f. ne_eqb kind x (λ q. false≢true (sym f ∙ ap is_operator (sym q) ∙ e)) in
     rw (no Whitespace other_w, no Comment other_c, no BareWord other_b, e)
-
--- ── words
-
-pub case-acts : (b : List ℕ) (p q r : Bool) → is_word "CASE" b ≡ p → is_word "ELSE" b ≡ q → is_word "END" b ≡ r
-    → case_word b
-    ≡ cond p (write_keyword ∷ spacing indent ∷ []) (cond q (spacing newline ∷ keyword_space) (cond r (spacing dedent ∷ spacing newline ∷ write_keyword ∷ []) (spacing space ∷ write_keyword ∷ [])))
-unfolding case_word
-case-acts b p q r e f g =
-    ap (λ (t : Bool). cond t (write_keyword ∷ spacing indent ∷ []) (other (is_word "ELSE" b) (is_word "END" b))) e
-    ∙ ap (λ (t : Bool). cond p (write_keyword ∷ spacing indent ∷ []) (other t (is_word "END" b))) f
-    ∙ ap (λ (t : Bool). cond p (write_keyword ∷ spacing indent ∷ []) (other q t)) g
-  where
-    other : Bool → Bool → List Act
-    other s t = cond s (spacing newline ∷ keyword_space) (cond t (spacing dedent ∷ spacing newline ∷ write_keyword ∷ []) (spacing space ∷ write_keyword ∷ []))
-
-pub when_acts : (b : List ℕ) (p q : Bool) → is_word "WHEN" b ≡ p → is_word "THEN" b ≡ q → when_word b ≡ cond p keyword_space (cond q (spacing space ∷ keyword_space) keyword_space)
-unfolding when_word
-when_acts b p q e f =
-    ap (λ (t : Bool). cond t keyword_space (cond (is_word "THEN" b) (spacing space ∷ keyword_space) keyword_space)) e
-    ∙ ap (λ (t : Bool). cond p keyword_space (cond t (spacing space ∷ keyword_space) keyword_space)) f

@@ -247,16 +247,6 @@ token-acts kind text h =
     go true e = rw (eqb-true kind BareWord e)
     go false e = refl
 
--- one byte that is no newline
-pub one_byte : (bs : List ℕ) → length bs ≡ 1 → not (eqb (get_or bs 0 0) 10) ≡ true → count 10 bs ≡ 0
-one_byte [] l e = absurd (omega arith)
-one_byte (b ∷ []) l e = go (eqb b 10) refl e
-  where
-    go : (t : Bool) → eqb b 10 ≡ t → not t ≡ true → count 10 (b ∷ []) ≡ 0
-    go true w u = absurd (false≢true u)
-    go false w u = rw w
-one_byte (b ∷ d ∷ bs) l e = absurd (omega arith)
-
 -- white space without a newline changes nothing
 unnoted : (bs : List ℕ) (c : FormatterContext) → count 10 bs ≡ 0 → c ≡ with_state (note_skipped_whitespace bs c.state) c
 unfolding note_skipped_whitespace

@@ -17,8 +17,7 @@ ghost use Rattle.layout.specs.Tokens.{emit_comment, emit_other, emit_token, is_l
 ghost use Rattle.tokens.specs.TokenPromises.{ActedOn, ArmActed, PutText, Ran, Spaced, SpacedUnwritten, casing_of, emit_trivia, emit_uncommented, in_case, is_trivia, write_by};
 
 use context::{FormatConfig, FormatterContext, put, put_in_case, put_short, token_text};
-use keywords::Word;
-use keywords::table::Keywords;
+use keywords::{Word, word_of};
 use layout::Local;
 pub use settings::Settings;
 use tape::{Head, syntax_kind};
@@ -130,21 +129,21 @@ impl Casing {
         }
     }
 
-    fn changes(self, keywords: &Keywords, text: &[u8]) -> bool
+    fn changes(self, text: &[u8]) -> bool
         ensures { result ≡ in_case self text.now }
     {
         match self {
             Casing::AsTyped => false,
-            Casing::Listed => is_cased(keywords, text),
+            Casing::Listed => is_cased(text),
         }
     }
 }
 
 // Whether it is a word on the list that is no value.
-fn is_cased(keywords: &Keywords, text: &[u8]) -> bool
+fn is_cased(text: &[u8]) -> bool
     ensures { result ≡ (is_keyword text.now && not (is_value_keyword text.now)) }
 {
-    matches!(keywords.word_of(text), Word::Keyword(_))
+    matches!(word_of(text), Word::Keyword(_))
 }
 
 // So many blanks and a text from offset `at` on, in upper or lower case where that is wanted. The answer is that of `put`. A text that is handed on as
@@ -161,7 +160,7 @@ fn put_any(
     requires { at + blanks < 2 ^ 64 }
     ensures { PutText at blanks text.now (in_case casing text.now) settings.now.config.uppercase_keywords out.old result out.new }
 {
-    if casing.changes(settings.keywords, &text[..]) {
+    if casing.changes(&text[..]) {
         return put_in_case(
             out,
             at,

@@ -1,13 +1,11 @@
-// What every arm asks while it writes.
+// What the caller sets.
 ghost use Rattle.std.specs.Prelude.{◌≤◌};
 
 use context::FormatConfig;
-use keywords::table::Keywords;
 
-// The keyword list, and what the caller sets.
+// With the bound of its indent width, which every arm asks while it writes.
 #[derive(Clone, Copy)]
-pub struct Settings<'a> {
-    pub keywords: &'a Keywords,
+pub struct Settings {
     pub config: FormatConfig,
     pub ghost width_fits: { config.indent_width ≤ 16 },
 }

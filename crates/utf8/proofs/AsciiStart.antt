@@ -14,7 +14,7 @@ use Rattle.std.specs.Prelude.{None}
 use Rattle.utf8.specs.Table.{holds, character_length, is_ascii}
 use Rattle.utf8.specs.Pieces.{first_ill_formed, WellFormed, is_trailing, Boundary, Starts}
 use Rattle.utf8.proofs.Rows.{shape}
-use Rattle.utf8.proofs.Cutting.{ill_here, no_place_lem}
+use Rattle.utf8.proofs.Cutting.{ill_here}
 use Rattle.utf8.proofs.CharacterLength.{ascii-passed, ascii_take, ascii-part}
 
 -- where nothing is ill-formed, a character begins
@@ -24,7 +24,7 @@ well_starts q [] e = refl
 well_starts q (x ∷ xs) e = go (eqb (character_length (x ∷ xs)) 0) refl
   where
     go : (t : Bool) → eqb (character_length (x ∷ xs)) 0 ≡ t → Starts (x ∷ xs)
-    go true w = absurd (no_place_lem (sym (ill_here q (x ∷ xs) (omega arith) (eqb-true (character_length (x ∷ xs)) 0 w)) ∙ e))
+    go true w = let u = sym (ill_here q (x ∷ xs) (omega arith) (eqb-true (character_length (x ∷ xs)) 0 w)) ∙ e in cc
     go false w = let z = eqb-false (character_length (x ∷ xs)) 0 w in (shape (x ∷ xs)).head (omega arith)
 
 module _ (text : List ℕ) (n : ℕ) (within : n ≤ length text) (ascii : is_ascii (take n text) ≡ true) where

@@ -15,7 +15,7 @@ use Rattle.std.specs.Prelude.{None}
 use Rattle.utf8.specs.Table.{holds, character_length}
 use Rattle.utf8.specs.Pieces.{Piece, character, stray, piece_at, later, cut, pieces, first_stray, first_ill_formed, WellFormed, inside, is_trailing, Boundary, Starts}
 use Rattle.utf8.proofs.Rows.{Shape, shape}
-use Rattle.utf8.proofs.Cutting.{no_place_lem, pieces-append}
+use Rattle.utf8.proofs.Cutting.{pieces-append}
 
 module _ (x : ℕ) (xs : List ℕ) where
   -- a place among the first suc m bytes
@@ -27,7 +27,7 @@ module _ (x : ℕ) (xs : List ℕ) where
       → ((q p : ℕ) → first_stray q (cut (later n) xs) ≡ None → inside p (cut (later n) xs) ≡ is_trailing (get_or xs (later n + p) 0))
       → (q p : ℕ) → first_stray q (piece_at n x xs ∷ cut (later n) xs) ≡ None
       → inside p (piece_at n x xs ∷ cut (later n) xs) ≡ is_trailing (get_or (x ∷ xs) p 0)
-  step zero s ih q p e = absurd (no_place_lem e)
+  step zero s ih q p e = cc
   step (suc m) s ih q p e =
       let h : m ≤ length xs = omega (arith, s.within) in
       let l = length-take-le m xs h in
@@ -59,7 +59,7 @@ inside-trailing text w p = inside-cut 0 text 0 p w ∙ ap (λ k. is_trailing (ge
 stray-from : (p q : ℕ) (ps : List Piece) → first_stray p ps ≡ None → first_stray q ps ≡ None
 stray-from p q [] e = refl
 stray-from p q (character c ∷ ps) e = stray-from (p + length c) (q + length c) ps e
-stray-from p q (stray b ∷ ps) e = absurd (no_place_lem e)
+stray-from p q (stray b ∷ ps) e = cc
 
 stray-front : (p : ℕ) (ps qs : List Piece) → first_stray p (ps ++ qs) ≡ None → first_stray p ps ≡ None
 stray-front p [] qs e = refl
@@ -69,7 +69,7 @@ stray-front p (stray b ∷ ps) qs e = e
 stray-back : (p : ℕ) (ps qs : List Piece) → first_stray p (ps ++ qs) ≡ None → first_stray p qs ≡ None
 stray-back p [] qs e = e
 stray-back p (character c ∷ ps) qs e = stray-from (p + length c) p qs (stray-back (p + length c) ps qs e)
-stray-back p (stray b ∷ ps) qs e = absurd (no_place_lem e)
+stray-back p (stray b ∷ ps) qs e = cc
 
 module _ (xs ys : List ℕ) (starts : Starts ys) where
   pub well_front : WellFormed (xs ++ ys) → WellFormed xs

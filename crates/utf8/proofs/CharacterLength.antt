@@ -3,12 +3,13 @@ use Prim.Native.Nat.{ℕ, zero, suc, ◌+◌, ◌-◌, ◌≤◌, ◌<◌, zero-
 use native.Mathlib.Nat.{add-zero, le_refl}
 use native.Mathlib.Omega.{arith}
 use mathlib.Core.Path.{◌≡◌, refl, sym, ap, ◌∙◌}
-use mathlib.Core.Bool.{Bool, true, cond, ◌&&◌}
+use mathlib.Core.Bool.{Bool, true, cond, ◌&&◌, and-true, and_assoc}
 use mathlib.Core.List.{List, [], ◌∷◌}
 use lib.ListN.{length, take, drop, get_or, length-drop}
 use lib.Seq.{take-length, drop-length, get_or-drop}
 use lib.Dec.{leb, ltb}
 use borrow.Author.Tests.{ltb-true}
+use Rattle.std.proofs.lemmas.Bool.{and_parts}
 use Rattle.std.proofs.lemmas.Bool.Decides.{nat_tests}
 use Rattle.std.specs.List.{fold}
 use Rattle.basics.specs.Bytes.{token_text}
@@ -16,7 +17,7 @@ use Rattle.std.specs.Prelude.{None, max}
 use Rattle.utf8.specs.Table.{holds, character_length, is_ascii}
 use Rattle.utf8.specs.Pieces.{first_ill_formed, is_trailing}
 use Rattle.utf8.specs.Steps.{is_second}
-use Rattle.utf8.proofs.Tests.{left, right, and_true, and_assoc, holds-in}
+use Rattle.utf8.proofs.Tests.{holds-in}
 use Rattle.utf8.proofs.Cutting.{ill_on, ill_none}
 
 abbrev bytes : ℕ → ℕ → ℕ → ℕ → List ℕ
@@ -60,11 +61,11 @@ module _ (a b c d : ℕ) where
 
   three_first : a ≡ 0xE0 → Three
   unfolding character_length is_second is_trailing holds
-  three_first e = rw e (simp (and_true))
+  three_first e = rw e (simp (and-true))
 
   three_surrogates : a ≡ 0xED → Three
   unfolding character_length is_second is_trailing holds
-  three_surrogates e = rw e (simp (and_true))
+  three_surrogates e = rw e (simp (and-true))
 
   three_low : 0xE1 ≤ a → a ≤ 0xEC → Three
   unfolding character_length is_second is_trailing holds
@@ -82,11 +83,11 @@ module _ (a b c d : ℕ) where
 
   four-first : a ≡ 0xF0 → Four
   unfolding character_length is_second is_trailing holds
-  four-first e = rw e (simp (and_true, and_assoc))
+  four-first e = rw e (simp (and-true, and_assoc))
 
   four-last : a ≡ 0xF4 → Four
   unfolding character_length is_second is_trailing holds
-  four-last e = rw e (simp (and_true, and_assoc))
+  four-last e = rw e (simp (and-true, and_assoc))
 
   four-between : 0xF1 ≤ a → a ≤ 0xF3 → Four
   unfolding character_length is_second is_trailing holds
@@ -122,10 +123,10 @@ pub ascii-passed : (p n : ℕ) (text : List ℕ) → n ≤ length text → is_as
 ascii-passed p zero text l h = ap (λ k. first_ill_formed k text) (sym (add-zero p))
 ascii-passed p (suc n) [] l h = absurd (omega arith)
 ascii-passed p (suc n) (b ∷ bs) l h =
-    let e = one b bs (ltb-true b 0x80 (left (ltb b 0x80) (is_ascii (take n bs)) h)) in
+    let e = one b bs (ltb-true b 0x80 (and_parts (ltb b 0x80) (is_ascii (take n bs)) h).0) in
     let k : p + 1 + n ≡ p + suc n = omega arith in
     ill_on p (b ∷ bs) (omega arith) (λ z. omega arith)
-    ∙ rw e (ascii-passed (p + 1) n bs (omega arith) (right (ltb b 0x80) (is_ascii (take n bs)) h))
+    ∙ rw e (ascii-passed (p + 1) n bs (omega arith) (and_parts (ltb b 0x80) (is_ascii (take n bs)) h).1)
     ∙ ap (λ j. first_ill_formed j (drop n bs)) k
 
 -- an ASCII text is well-formed
@@ -138,19 +139,19 @@ ascii-well p text h =
 -- each of its bytes is at most 127
 pub ascii-bytes : (text : List ℕ) → is_ascii text ≡ true → (i : ℕ) → get_or text i 0 ≤ 127
 ascii-bytes [] h i = omega arith
-ascii-bytes (b ∷ bs) h zero = omega (arith, ltb-true b 0x80 (left (ltb b 0x80) (is_ascii bs) h))
-ascii-bytes (b ∷ bs) h (suc i) = ascii-bytes bs (right (ltb b 0x80) (is_ascii bs) h) i
+ascii-bytes (b ∷ bs) h zero = omega (arith, ltb-true b 0x80 (and_parts (ltb b 0x80) (is_ascii bs) h).0)
+ascii-bytes (b ∷ bs) h (suc i) = ascii-bytes bs (and_parts (ltb b 0x80) (is_ascii bs) h).1 i
 
 -- and each of its parts is ASCII
 pub ascii_take : (n : ℕ) (text : List ℕ) → is_ascii text ≡ true → is_ascii (take n text) ≡ true
 ascii_take zero text h = refl
 ascii_take (suc n) [] h = refl
-ascii_take (suc n) (b ∷ bs) h = rw (left (ltb b 0x80) (is_ascii bs) h) (ascii_take n bs (right (ltb b 0x80) (is_ascii bs) h))
+ascii_take (suc n) (b ∷ bs) h = rw (and_parts (ltb b 0x80) (is_ascii bs) h).0 (ascii_take n bs (and_parts (ltb b 0x80) (is_ascii bs) h).1)
 
 ascii_drop : (n : ℕ) (text : List ℕ) → is_ascii text ≡ true → is_ascii (drop n text) ≡ true
 ascii_drop zero text h = h
 ascii_drop (suc n) [] h = refl
-ascii_drop (suc n) (b ∷ bs) h = ascii_drop n bs (right (ltb b 0x80) (is_ascii bs) h)
+ascii_drop (suc n) (b ∷ bs) h = ascii_drop n bs (and_parts (ltb b 0x80) (is_ascii bs) h).1
 
 pub ascii-part : (text : List ℕ) → is_ascii text ≡ true → (start end : ℕ) → is_ascii (token_text text start end) ≡ true
 unfolding token_text
@@ -161,9 +162,9 @@ highest : (h b : ℕ) → ltb (max h b) 0x80 ≡ ltb h 0x80 && ltb b 0x80
 highest h b = grind (arith, nat_tests)
 
 ascii_fold : (text : List ℕ) (h : ℕ) → ltb (fold max h text) 0x80 ≡ ltb h 0x80 && is_ascii text
-ascii_fold [] h = sym (and_true (ltb h 0x80))
+ascii_fold [] h = sym (and-true (ltb h 0x80))
 ascii_fold (b ∷ bs) h =
-    ascii_fold bs (max h b) ∙ ap (λ t. t && is_ascii bs) (highest h b) ∙ sym (and_assoc (ltb h 0x80) (ltb b 0x80) (is_ascii bs))
+    ascii_fold bs (max h b) ∙ ap (λ t. t && is_ascii bs) (highest h b) ∙ and_assoc (ltb h 0x80) (ltb b 0x80) (is_ascii bs)
 
 pub ascii-highest : (text : List ℕ) → ltb (fold max 0 text) 0x80 ≡ is_ascii text
 ascii-highest text = ascii_fold text 0

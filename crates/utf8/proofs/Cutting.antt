@@ -5,7 +5,7 @@ use mathlib.Core.Path.{◌≡◌, refl, ap, ap₂, ◌∙◌}
 use mathlib.Core.List.{List, [], ◌∷◌, ◌++◌}
 use lib.ListN.{length, take, drop, take-append-drop}
 use lib.Seq.{take-append-le, take-length, drop-length, length-take-le}
-use Rattle.std.specs.Prelude.{Option, Some, None}
+use Rattle.std.specs.Prelude.{Some, None}
 use Rattle.utf8.specs.Table.{character_length}
 use Rattle.utf8.specs.Pieces.{character, bytes_of, all_bytes, piece_at, later, cut, pieces, first_stray, first_ill_formed, Starts}
 use Rattle.utf8.proofs.Rows.{shape, length-append_char}
@@ -88,6 +88,3 @@ ill_here p (x ∷ xs) h e = ap (first_stray p) (cut-here x xs) ∙ ap (λ n. fir
 pub ill_none : (p : ℕ) → first_ill_formed p [] ≡ None
 unfolding first_ill_formed cut
 ill_none p = refl
-
-pub no_place_lem : {p : ℕ} → ◌≡◌ {A = Option ℕ} (Some p) None → ⊥
-no_place_lem u = let z : ◌≡◌ {A = ℕ} 0 1 = cc in omega arith

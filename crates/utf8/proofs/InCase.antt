@@ -8,13 +8,14 @@ use mathlib.Core.Logic.{◌⊎◌, inl, inr}
 use lib.ListN.{length, take, length-map}
 use lib.Dec.{leb, eqb, ltb}
 use borrow.Author.Tests.{leb-true, eqb-true, ltb-true, ltb-false, ne_eqb}
+use Rattle.std.proofs.lemmas.Bool.{and_parts, or_cases}
 use Rattle.utf8.specs.Table.{Range, ◌‥◌, holds, Row, rows, fits, length_by, character_length}
 use Rattle.utf8.specs.Pieces.{Piece, character, stray, all_bytes, piece_at, later, cut, pieces}
 use Rattle.utf8.specs.WhiteSpace.{is_white_space}
 use Rattle.utf8.specs.Trim.{trim_cons, trim}
 use Rattle.utf8.specs.Trimming.{trimmed, trimmed_length, is_white_byte}
 use Rattle.utf8.specs.Steps.{white_pair, white_last, white_triple, white_bytes}
-use Rattle.utf8.proofs.Tests.{left, right, either, holds-in, holds-below}
+use Rattle.utf8.proofs.Tests.{holds-in, holds-below}
 use Rattle.utf8.proofs.WhiteSpaceBytes.{white_is}
 
 -- a range holds all of ASCII or nothing of it; so does each of the table
@@ -56,7 +57,7 @@ bytes-map f (stray b ∷ ps) = ap (λ r. f b ∷ r) (bytes-map f ps)
 
 module _ (f : ℕ → ℕ) (high : (b : ℕ) → 0x80 ≤ b → f b ≡ b) (low : (b : ℕ) → b < 0x80 → f b < 0x80) (same : (b : ℕ) → is_white_byte (f b) ≡ is_white_byte b) where
   holds-map : (r : Range) → all_or_none r ≡ true → (b : ℕ) → holds r (f b) ≡ holds r b
-  holds-map r l b = go (ltb b 0x80) refl (either (leb 0x80 r.low) (eqb r.low 0x00 && eqb r.high 0x7F) l)
+  holds-map r l b = go (ltb b 0x80) refl (or_cases (leb 0x80 r.low) (eqb r.low 0x00 && eqb r.high 0x7F) l)
     where
       go : (t : Bool) → ltb b 0x80 ≡ t → (leb 0x80 r.low ≡ true) ⊎ (eqb r.low 0x00 && eqb r.high 0x7F ≡ true) → holds r (f b) ≡ holds r b
       go false w l = ap (holds r) (high b (ltb-false b 0x80 w))
@@ -68,20 +69,20 @@ module _ (f : ℕ → ℕ) (high : (b : ℕ) → 0x80 ≤ b → f b ≡ b) (low 
       go true w (inr l) =
           let u = ltb-true b 0x80 w in
           let v = low b u in
-          let i = eqb-true r.low 0x00 (left (eqb r.low 0x00) (eqb r.high 0x7F) l) in
-          let j = eqb-true r.high 0x7F (right (eqb r.low 0x00) (eqb r.high 0x7F) l) in
+          let i = eqb-true r.low 0x00 (and_parts (eqb r.low 0x00) (eqb r.high 0x7F) l).0 in
+          let j = eqb-true r.high 0x7F (and_parts (eqb r.low 0x00) (eqb r.high 0x7F) l).1 in
           holds-in r.low r.high (f b) (omega arith) (omega arith) ∙ sym (holds-in r.low r.high b (omega arith) (omega arith))
 
   fits-map : (row : Row) → all_or_none_row row ≡ true → (xs : List ℕ) → fits row (map f xs) ≡ fits row xs
   fits-map [] l xs = refl
   fits-map (r ∷ rs) l [] = refl
   fits-map (r ∷ rs) l (x ∷ xs) =
-      ap₂ (λ s t. s && t) (holds-map r (left (all_or_none r) (all_or_none_row rs) l) x) (fits-map rs (right (all_or_none r) (all_or_none_row rs) l) xs)
+      ap₂ (λ s t. s && t) (holds-map r (and_parts (all_or_none r) (all_or_none_row rs) l).0 x) (fits-map rs (and_parts (all_or_none r) (all_or_none_row rs) l).1 xs)
 
   length_by-map : (table : List Row) → all_or_none_rows table ≡ true → (xs : List ℕ) → length_by table (map f xs) ≡ length_by table xs
   length_by-map [] l xs = refl
   length_by-map (row ∷ more) l xs =
-      ap₂ (λ t n. cond t (length row) n) (fits-map row (left (all_or_none_row row) (all_or_none_rows more) l) xs) (length_by-map more (right (all_or_none_row row) (all_or_none_rows more) l) xs)
+      ap₂ (λ t n. cond t (length row) n) (fits-map row (and_parts (all_or_none_row row) (all_or_none_rows more) l).0 xs) (length_by-map more (and_parts (all_or_none_row row) (all_or_none_rows more) l).1 xs)
 
   character-map : (xs : List ℕ) → character_length (map f xs) ≡ character_length xs
   unfolding character_length

@@ -2,18 +2,18 @@
 use Prim.Native.Nat.{ℕ, suc, ◌+◌, ◌-◌, ◌≤◌, ◌<◌}
 use native.Mathlib.Omega.{arith}
 use mathlib.Core.Path.{◌≡◌, refl, sym, ap, ap₂, ◌∙◌}
-use mathlib.Core.Bool.{Bool, true, false, cond, not, ◌&&◌}
+use mathlib.Core.Bool.{Bool, true, false, cond, not, ◌&&◌, false≢true}
 use mathlib.Core.List.{List, [], ◌∷◌, ◌++◌, append-nil, append_assoc}
 use lib.ListN.{length, take, drop, get_or, length-append}
 use lib.Seq.{take-add, drop-cons, get_or-take, get_or-append-add, length-take-le}
 use lib.Dec.{eqb}
 use borrow.Author.Tests.{eqb-true, eqb-false, not-true}
+use Rattle.std.proofs.lemmas.Bool.{and_parts, both_ways}
 use Rattle.utf8.specs.Table.{holds, character_length}
 use Rattle.utf8.specs.Pieces.{Piece, character, stray, bytes_of, all_bytes, pieces, is_trailing, Starts}
 use Rattle.utf8.specs.WhiteSpace.{white_characters, is_white_space}
 use Rattle.utf8.specs.Trimming.{is_white_byte}
 use Rattle.utf8.specs.Steps.{white_pair, white_triple, white_bytes, end_white}
-use Rattle.utf8.proofs.Tests.{left, right, never}
 use Rattle.utf8.proofs.Rows.{trailing_below}
 use Rattle.utf8.proofs.Cutting.{all-bytes, pieces-append, pieces-one}
 use Rattle.utf8.proofs.CharacterLength.{one}
@@ -34,16 +34,16 @@ is_whole c e = listed-all whole white_characters all_whole_lem c e
 
 pub white_starts : (c : List ℕ) → white c ≡ true → Starts c
 unfolding whole
-white_starts c e = not-true (is_trailing (get_or c 0 0)) (right (eqb (character_length c) (length c)) (not (is_trailing (get_or c 0 0))) (is_whole c e))
+white_starts c e = not-true (is_trailing (get_or c 0 0)) (and_parts (eqb (character_length c) (length c)) (not (is_trailing (get_or c 0 0))) (is_whole c e)).1
 
 pub white_piece : (c : List ℕ) → white c ≡ true → pieces c ≡ character c ∷ []
 unfolding whole
-white_piece [] e = absurd (never (white_bytes_lem [] e) refl)
+white_piece [] e = absurd (false≢true (white_bytes_lem [] e))
 white_piece (x ∷ xs) e =
-    pieces-one x xs (eqb-true (character_length (x ∷ xs)) (length (x ∷ xs)) (left (eqb (character_length (x ∷ xs)) (length (x ∷ xs))) (not (is_trailing x)) (is_whole (x ∷ xs) e)))
+    pieces-one x xs (eqb-true (character_length (x ∷ xs)) (length (x ∷ xs)) (and_parts (eqb (character_length (x ∷ xs)) (length (x ∷ xs))) (not (is_trailing x)) (is_whole (x ∷ xs) e)).0)
 
 pub some_bytes : (c : List ℕ) → white c ≡ true → length c ≡ 0 → ⊥
-some_bytes [] e z = never (white_bytes_lem [] e) refl
+some_bytes [] e z = false≢true (white_bytes_lem [] e)
 some_bytes (x ∷ xs) e z = omega arith
 
 -- ── the last piece
@@ -138,16 +138,16 @@ module _ (text : List ℕ) (n : ℕ) (within : n ≤ length text) where
   none_before p q r = no_end_lem (take n text) (λ us c e w. go us c e (white_bytes_lem c w))
     where
       go : (us c : List ℕ) → take n text ≡ us ++ c → white_bytes c ≡ true → ⊥
-      go us [] e w = never w refl
-      go us (x ∷ []) e w = never w (ap is_white_byte (part us (x ∷ []) e 0 1 (omega arith) (omega arith)) ∙ not_white (byte 1) (omega arith) (λ z. omega arith))
+      go us [] e w = false≢true w
+      go us (x ∷ []) e w = both_ways _ (ap is_white_byte (part us (x ∷ []) e 0 1 (omega arith) (omega arith)) ∙ not_white (byte 1) (omega arith) (λ z. omega arith)) w
       go us (x ∷ y ∷ []) e w =
           let f = part us (x ∷ y ∷ []) e in
-          never w (ap₂ white_pair (f 0 2 (omega arith) (omega arith)) (f 1 1 (omega arith) (omega arith)) ∙ q (long us (x ∷ y ∷ []) e))
+          both_ways _ (ap₂ white_pair (f 0 2 (omega arith) (omega arith)) (f 1 1 (omega arith) (omega arith)) ∙ q (long us (x ∷ y ∷ []) e)) w
       go us (x ∷ y ∷ z ∷ []) e w =
           let f = part us (x ∷ y ∷ z ∷ []) e in
           let g = f 0 3 (omega arith) (omega arith) in
-          never w (ap (λ k. white_triple k y z) g ∙ ap₂ (white_triple (byte 3)) (f 1 2 (omega arith) (omega arith)) (f 2 1 (omega arith) (omega arith)) ∙ r (long us (x ∷ y ∷ z ∷ []) e))
-      go us (x ∷ y ∷ z ∷ u ∷ c) e w = never w refl
+          both_ways _ (ap (λ k. white_triple k y z) g ∙ ap₂ (white_triple (byte 3)) (f 1 2 (omega arith) (omega arith)) (f 2 1 (omega arith) (omega arith)) ∙ r (long us (x ∷ y ∷ z ∷ []) e)) w
+      go us (x ∷ y ∷ z ∷ u ∷ c) e w = false≢true w
 
   -- what is left from place n - k on, byte by byte
   next : (k : ℕ) → suc k ≤ n → drop (n - suc k) text ≡ byte (suc k) ∷ drop (n - k) text

@@ -9,13 +9,13 @@ use lib.ListN.{length, take, length-append, length-take}
 use lib.Seq.{take-append_seam, take-nil, take-take, length-take-le}
 use lib.Dec.{ltb}
 use borrow.Author.Tests.{ltb-true, ltb-false}
+use Rattle.std.proofs.lemmas.Bool.{and_parts}
 use Rattle.utf8.specs.Table.{character_length, is_ascii}
 use Rattle.utf8.specs.Pieces.{Piece, character, stray, bytes_of, all_bytes, piece_at, later, cut, pieces, Starts}
 use Rattle.utf8.specs.WhiteSpace.{is_white_space}
 use Rattle.utf8.specs.Trim.{trim_cons, trim}
 use Rattle.utf8.specs.Trimming.{trimmed, trimmed_length, trimmed_after, is_white_byte}
 use Rattle.utf8.specs.Steps.{end_white}
-use Rattle.utf8.proofs.Tests.{left, right}
 use Rattle.utf8.proofs.Cutting.{all-bytes, pieces-append}
 use Rattle.utf8.proofs.CharacterLength.{one}
 use Rattle.utf8.proofs.WhiteSpaceBytes.{white, white_is, not_white}
@@ -225,7 +225,7 @@ pub pieces-ascii : (text : List ℕ) → is_ascii text ≡ true → pieces text 
 unfolding cut
 pieces-ascii [] h = refl
 pieces-ascii (b ∷ bs) h =
-    rw (one b bs (ltb-true b 0x80 (left (ltb b 0x80) (is_ascii bs) h))) (ap (λ ps. single b ∷ ps) (pieces-ascii bs (right (ltb b 0x80) (is_ascii bs) h)))
+    rw (one b bs (ltb-true b 0x80 (and_parts (ltb b 0x80) (is_ascii bs) h).0)) (ap (λ ps. single b ∷ ps) (pieces-ascii bs (and_parts (ltb b 0x80) (is_ascii bs) h).1))
 
 all-single : (text : List ℕ) → all_bytes (map single text) ≡ text
 all-single [] = refl
@@ -249,7 +249,3 @@ pub trimmed-ascii : (text : List ℕ) → is_ascii text ≡ true → trimmed tex
 unfolding trimmed
 trimmed-ascii text h =
     ap (λ ps. all_bytes (trim is_white_space ps)) (pieces-ascii text h) ∙ ap all_bytes (trim-single text) ∙ all-single (trim is_white_byte text)
-
-pub trimmed_length-ascii : (text : List ℕ) → is_ascii text ≡ true → trimmed_length text ≡ length (trim is_white_byte text)
-unfolding trimmed_length
-trimmed_length-ascii text h = ap length (trimmed-ascii text h)

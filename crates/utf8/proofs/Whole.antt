@@ -10,11 +10,11 @@ use lib.ListN.{length, drop, get_or}
 use lib.Seq.{get_or-drop}
 use lib.Dec.{ltb, eqb}
 use borrow.Author.Tests.{ltb-true, ltb-false, eqb-true, eqb-false}
+use Rattle.std.proofs.lemmas.Bool.{both_ways}
 use Rattle.std.specs.Prelude.{Option, Some, None}
 use Rattle.utf8.specs.Table.{character_length}
 use Rattle.utf8.specs.Pieces.{first_ill_formed, WellFormed, is_trailing}
 use Rattle.utf8.specs.Parts.{PartOf}
-use Rattle.utf8.proofs.Tests.{never}
 use Rattle.utf8.proofs.Rows.{shape}
 use Rattle.utf8.proofs.Places.{length-within, ill_at, ill_after, ill_end}
 
@@ -87,9 +87,6 @@ module _ (text : List ℕ) where
     abbrev at : Reached (Some p)
     at = subst Reached found reached
 
-    pub in_text : p < length text
-    in_text = at.0
-
     pub before-part : (k : ℕ) → k < p → PartOf text k
     before-part k h = (at.1 k h).0
 
@@ -108,4 +105,4 @@ module _ (text : List ℕ) where
             let e = eqb-false r.start p w in
             let q = at.1 r.start (omega (arith, r.before)) in
             let head = (shape (drop r.start text)).head long in
-            ⊎_elim (λ t. never t (ap is_trailing (ap (λ j. get_or text j 0) (sym (add-zero r.start)) ∙ sym (get_or-drop r.start text 0 0)) ∙ head)) (λ l. omega (arith, r.past)) q.1
+            ⊎_elim (λ t. both_ways _ (ap is_trailing (ap (λ j. get_or text j 0) (sym (add-zero r.start)) ∙ sym (get_or-drop r.start text 0 0)) ∙ head) t) (λ l. omega (arith, r.past)) q.1

@@ -88,7 +88,8 @@ fn block_end(len: usize, at: usize) -> usize
     at + BLOCK.min(len - at)
 }
 
-// The place of the first byte that is not part of a well-formed character. Blocks of ASCII are passed over; the others go character by character.
+// The place of the first byte that is not part of a well-formed character. Blocks of ASCII are passed over; the others go character by character. The loops
+// count by hand, since their steps have different lengths.
 pub fn first_ill_formed(text: &[u8]) -> Option<usize>
     ensures { result ≡ first_ill_formed 0 text.now }
 {
@@ -172,7 +173,8 @@ fn white_before(text: &[u8], n: usize) -> usize
     0
 }
 
-// The length of the text without the white-space characters at its end. White space of one byte goes by itself, since most of it is that.
+// The length of the text without the white-space characters at its end. White space of one byte goes by itself, since most of it is that. The loop counts
+// by hand, since its steps have different lengths.
 pub fn trimmed_from_end(text: &[u8]) -> usize
     ensures { result ≡ trimmed_length text.now }
 {

@@ -1,5 +1,6 @@
 -- `answer_job` meets its contract, by the cases of the header.
 use native.Mathlib.Omega.{arith}
+use Rattle.std.proofs.lemmas.Result.{err_from_is_err_and}
 use Rattle.desk_job.proofs.Printing.{job_leaves}
 use Rattle.desk_job.proofs.HeaderReading.{accepted-within}
 use Rattle.desk_job.specs.Job.{answered_job, leaves}
@@ -24,6 +25,10 @@ pub returns-in-Err : goal.returns-in-Err
 unfolding answered_job leaves
 returns-in-Err c = rw (← c.in-Err.ensures)
 
-pub returns-in-Ok : goal.returns-in-Ok
-unfolding answered_job leaves
-returns-in-Ok c = job_leaves c.args.more c.args.job.now c.args.out.now _ _ _ c.in-Ok.ensures c.layout.ensures
+pub returns-in_err-length-in-Ok : goal.returns-in_err-length-in-Ok
+returns-in_err-length-in-Ok c =
+    let p = err_from_is_err_and c.from_residual.result c.from_residual.ensures.1 in
+    rw (p.1, p.2) (job_leaves c.args.more c.args.job.now c.args.out.now _ _ _ c.in-Ok.ensures c.in_err-length-in-Ok.ensures)
+
+pub returns-in_ok-length-in-Ok : goal.returns-in_ok-length-in-Ok
+returns-in_ok-length-in-Ok c = job_leaves c.args.more c.args.job.now c.args.out.now _ _ _ c.in-Ok.ensures c.in_ok-length-in-Ok.ensures

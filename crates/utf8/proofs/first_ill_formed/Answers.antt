@@ -1,44 +1,20 @@
 -- `first_ill_formed` meets its contract: the first ill-formed byte of the text is the first of what is left.
 use native.Mathlib.Nat.{lt_of_lt_of_le}
 use native.Mathlib.Omega.{arith}
-use mathlib.Core.Path.{refl, sym, ◌∙◌}
+use mathlib.Core.Path.{sym, ◌∙◌}
 use Rattle.utf8.proofs.Places.{ill_at, ill_after, ill_past_block, ill_end, length-within}
 use Rattle.utf8.proofs.first_ill_formed.Goals as goal
-
-pub loop-i-init : goal.loop-i-init
-loop-i-init c = (omega arith, refl)
-
-pub overflow_add-i : goal.overflow_add-i
-overflow_add-i c = omega (arith, (c.is_ascii_block.ensures c.if-is_ascii_block.true).inside)
-
-pub loop-i-smaller-then-is_ascii_block : goal.loop-i-smaller-then-is_ascii_block
-loop-i-smaller-then-is_ascii_block c = omega (arith, (c.is_ascii_block.ensures c.if-is_ascii_block.true).inside)
 
 pub loop-i-preserved-then-is_ascii_block : goal.loop-i-preserved-then-is_ascii_block
 loop-i-preserved-then-is_ascii_block c =
     let b = c.is_ascii_block.ensures c.if-is_ascii_block.true in
     (b.inside, c.loop-i.invariant.1 ∙ ill_past_block _ _ b)
 
-pub loop-i-else-is_ascii_block-init : goal.loop-i-else-is_ascii_block-init
-loop-i-else-is_ascii_block-init c = let v = c.loop-i.invariant in (omega arith, v.0, v.1)
-
-pub loop-i-smaller : goal.loop-i-smaller
-loop-i-smaller c = omega (arith, c.block_end-end.ensures, c.loop-i-else-is_ascii_block.invariant.1)
-
-pub loop-i-preserved : goal.loop-i-preserved
-loop-i-preserved c = (c.loop-i-else-is_ascii_block.invariant.1, c.loop-i-else-is_ascii_block.invariant.2)
-
-pub character_length-n-requires : goal.character_length-n-requires
-character_length-n-requires c = omega (arith, c.block_end-end.ensures)
-
 pub returns-then-n-eq0 : goal.returns-then-n-eq0
 returns-then-n-eq0 c = sym (c.loop-i-else-is_ascii_block.invariant.2 ∙ ill_at _ _ _ (lt_of_lt_of_le c.loop-i-else-is_ascii_block-test.true c.block_end-end.ensures.1) c.character_length-n.ensures c.if-n-eq0.true)
 
 pub overflow_add-i-in-loop-i-else-is_ascii_block : goal.overflow_add-i-in-loop-i-else-is_ascii_block
 overflow_add-i-in-loop-i-else-is_ascii_block c = omega (arith, length-within _ _ _ (lt_of_lt_of_le c.loop-i-else-is_ascii_block-test.true c.block_end-end.ensures.1) c.character_length-n.ensures)
-
-pub loop-i-else-is_ascii_block-smaller : goal.loop-i-else-is_ascii_block-smaller
-loop-i-else-is_ascii_block-smaller c = omega (arith, length-within _ _ _ (lt_of_lt_of_le c.loop-i-else-is_ascii_block-test.true c.block_end-end.ensures.1) c.character_length-n.ensures)
 
 pub loop-i-else-is_ascii_block-preserved : goal.loop-i-else-is_ascii_block-preserved
 loop-i-else-is_ascii_block-preserved c =

@@ -1,17 +1,12 @@
 -- `trimmed_from_end` meets its contract: what lies from n on is white space.
 use Prim.Native.Nat.{ℕ, ◌<◌}
-use native.Mathlib.Nat.{le_refl}
 use native.Mathlib.Omega.{arith}
 use mathlib.Core.Path.{◌≡◌, sym, ap, ◌∙◌}
 use lib.ListN.{take}
-use lib.Seq.{take-length}
 use Rattle.utf8.specs.Trimming.{trimmed_length}
 use Rattle.utf8.proofs.LastWhiteSpace.{byte-before}
 use Rattle.utf8.proofs.Trimming.{stop, short, back, trimmed-nothing}
 use Rattle.utf8.proofs.trimmed_from_end.Goals as goal
-
-pub loop-n-init : goal.loop-n-init
-loop-n-init c = (le_refl _, sym (ap trimmed_length (take-length _)))
 
 pub loop-n-preserved-then-is_white_byte : goal.loop-n-preserved-then-is_white_byte
 loop-n-preserved-then-is_white_byte c =
@@ -25,9 +20,6 @@ returns-then-k-eq0 c = sym (c.loop-n.invariant.1 ∙ stop _ _ _ c.loop-n.invaria
 
 pub overflow_sub-n : goal.overflow_sub-n
 overflow_sub-n c = omega (arith, short _ _ _ c.loop-n.invariant.0 c.white_before-k.ensures c.if-k-eq0.false)
-
-pub loop-n-smaller : goal.loop-n-smaller
-loop-n-smaller c = omega (arith, short _ _ _ c.loop-n.invariant.0 c.white_before-k.ensures c.if-k-eq0.false)
 
 pub loop-n-preserved : goal.loop-n-preserved
 loop-n-preserved c = (

@@ -1,7 +1,6 @@
 -- `after` meets its contract.
 use mathlib.Core.Path.{ap, sym}
 use mathlib.Core.List.{List}
-use Rattle.tape.specs.NodeFacts.{facts_at}
 use Rattle.layout.specs.declared.Local.{Local}
 use Rattle.layout.specs.Arms.{Spacing}
 use Rattle.layout.specs.FormatNode.{arms_of}
@@ -17,7 +16,7 @@ returns-in-SelectClause c = λ multi. rw c.in-SelectClause.is (c.select_clause_a
 
 pub returns-in-ListClause : goal.returns-in-ListClause
 unfolding known_arms list_clause_arms
-returns-in-ListClause c = λ multi. rw c.in-ListClause.is (unwritten_as _ (ap (λ (x : Local × List Spacing × List Spacing). x.2) (listed_node c.in-ListClause.list multi c.args.local c.args.kind (facts_at c.args.facts.now c.args.at) c.several_items.result c.several_items.ensures)) c.list_clause_after.ensures)
+returns-in-ListClause c = λ multi. rw c.in-ListClause.is (unwritten_as _ (ap (λ (x : Local × List Spacing × List Spacing). x.2) (listed_node c.in-ListClause.list multi c.args.local c.args.kind c.args.several)) c.list_clause_after.ensures)
 
 pub returns-in-SettingsClause : goal.returns-in-SettingsClause
 unfolding known_arms arms_of format_settings_clause
@@ -28,4 +27,4 @@ unfolding known_arms arms_of format_with_clause
 returns-in-WithClause c = λ multi. rw c.in-WithClause.is c.with_clause_after.ensures
 
 pub returns-in_default : goal.returns-in_default
-returns-in_default c = λ multi. unwritten_as _ (sym (unfollowed c.args.routine c.in_default.not-SelectClause c.in_default.not-ListClause c.in_default.not-SettingsClause c.in_default.not-WithClause multi c.args.local c.args.kind (counted (facts_at c.args.facts.now c.args.at)))) no_unwritten
+returns-in_default c = λ multi. unwritten_as _ (sym (unfollowed c.args.routine c.in_default.not-SelectClause c.in_default.not-ListClause c.in_default.not-SettingsClause c.in_default.not-WithClause multi c.args.local c.args.kind (counted c.args.several))) no_unwritten

@@ -3,7 +3,6 @@ use native.Mathlib.Omega.{arith}
 use mathlib.Core.Path.{◌∙◌, ap, refl, sym}
 use mathlib.Core.Logic.{⊎_elim}
 use mathlib.Core.List.{List}
-use Rattle.tape.specs.NodeFacts.{facts_at}
 use Rattle.layout.specs.declared.Local.{Local}
 use Rattle.layout.specs.Arms.{Spacing}
 use Rattle.layout.specs.FormatNode.{arms_of}
@@ -57,11 +56,11 @@ returns-in-SimpleClause-clause-kept c = ⊎_elim (λ e. rw e (c.flagged-in-Simpl
 
 pub returns-in-ListClause-clause-before : goal.returns-in-ListClause-clause-before
 unfolding known_arms list_clause_arms
-returns-in-ListClause-clause-before c = rw c.in-ListClause.is (spaced 2 _ (omega arith) (ap (λ (x : Local × List Spacing × List Spacing). x.1) (listed_node c.in-ListClause.list c.args.multi c.args.local c.args.kind (facts_at c.args.facts.now c.args.at) c.several_items-several.result c.several_items-several.ensures)) c.list_clause_before.ensures)
+returns-in-ListClause-clause-before c = rw c.in-ListClause.is (spaced 2 _ (omega arith) (ap (λ (x : Local × List Spacing × List Spacing). x.1) (listed_node c.in-ListClause.list c.args.multi c.args.local c.args.kind c.args.several)) c.list_clause_before.ensures)
 
 pub returns-in-ListClause-clause-kept : goal.returns-in-ListClause-clause-kept
 unfolding known_arms list_clause_arms
-returns-in-ListClause-clause-kept c = rw c.in-ListClause.is (c.list_clause_local.ensures ∙ sym (ap (λ (x : Local × List Spacing × List Spacing). x.0) (listed_node c.in-ListClause.list c.args.multi c.args.local c.args.kind (facts_at c.args.facts.now c.args.at) _ refl)))
+returns-in-ListClause-clause-kept c = rw c.in-ListClause.is (c.list_clause_local.ensures ∙ sym (ap (λ (x : Local × List Spacing × List Spacing). x.0) (listed_node c.in-ListClause.list c.args.multi c.args.local c.args.kind c.args.several)))
 
 pub returns-in-SettingsClause-clause-before : goal.returns-in-SettingsClause-clause-before
 unfolding known_arms arms_of format_settings_clause
@@ -112,7 +111,7 @@ unfolding known_arms arms_of format_union_clause
 returns-in-UnionClause-clause-kept c = rw c.in-UnionClause.is (c.union_clause_local.ensures)
 
 pub returns-in_default-clause-before : goal.returns-in_default-clause-before
-returns-in_default-clause-before c = spaced 2 _ (omega arith) (ap (λ (x : Local × List Spacing × List Spacing). x.1) (plain c.args.routine c.in_default.not-File c.in_default.not-QueryList c.in_default.not-SelectStatement c.in_default.not-SelectClause c.in_default.not-SimpleClause c.in_default.not-JoinClause c.in_default.not-ListClause c.in_default.not-SettingsClause c.in_default.not-WithClause c.in_default.not-CommaList c.in_default.not-CaseExpression c.in_default.not-InlineTightParens c.in_default.not-Inline c.in_default.not-UnionClause c.args.multi c.args.local c.args.kind (counted (facts_at c.args.facts.now c.args.at)))) no_spacing
+returns-in_default-clause-before c = spaced 2 _ (omega arith) (ap (λ (x : Local × List Spacing × List Spacing). x.1) (plain c.args.routine c.in_default.not-File c.in_default.not-QueryList c.in_default.not-SelectStatement c.in_default.not-SelectClause c.in_default.not-SimpleClause c.in_default.not-JoinClause c.in_default.not-ListClause c.in_default.not-SettingsClause c.in_default.not-WithClause c.in_default.not-CommaList c.in_default.not-CaseExpression c.in_default.not-InlineTightParens c.in_default.not-Inline c.in_default.not-UnionClause c.args.multi c.args.local c.args.kind (counted c.args.several))) no_spacing
 
 pub returns-in_default-clause-kept : goal.returns-in_default-clause-kept
-returns-in_default-clause-kept c = sym (ap (λ (x : Local × List Spacing × List Spacing). x.0) (plain c.args.routine c.in_default.not-File c.in_default.not-QueryList c.in_default.not-SelectStatement c.in_default.not-SelectClause c.in_default.not-SimpleClause c.in_default.not-JoinClause c.in_default.not-ListClause c.in_default.not-SettingsClause c.in_default.not-WithClause c.in_default.not-CommaList c.in_default.not-CaseExpression c.in_default.not-InlineTightParens c.in_default.not-Inline c.in_default.not-UnionClause c.args.multi c.args.local c.args.kind (counted (facts_at c.args.facts.now c.args.at))))
+returns-in_default-clause-kept c = sym (ap (λ (x : Local × List Spacing × List Spacing). x.0) (plain c.args.routine c.in_default.not-File c.in_default.not-QueryList c.in_default.not-SelectStatement c.in_default.not-SelectClause c.in_default.not-SimpleClause c.in_default.not-JoinClause c.in_default.not-ListClause c.in_default.not-SettingsClause c.in_default.not-WithClause c.in_default.not-CommaList c.in_default.not-CaseExpression c.in_default.not-InlineTightParens c.in_default.not-Inline c.in_default.not-UnionClause c.args.multi c.args.local c.args.kind (counted c.args.several)))

@@ -1,25 +1,18 @@
 -- `candidate` meets its contract.
-use mathlib.Core.Path.{ap, sym, ◌∙◌}
-use mathlib.Core.Bool.{true, false}
+use mathlib.Core.Path.{ap, ◌∙◌}
 use Prim.Native.Nat.{ℕ}
-use borrow.Author.Tests.{eq-eqb, ne_eqb, le-leb, lt-leb}
-use Rattle.basics.specs.Match.{match}
-use Rattle.keywords.specs.Index.{numbers}
+use native.Mathlib.Omega.{arith}
+use lib.Dec.{eqb}
+use Rattle.std.specs.Bool.{then_some}
 use Rattle.keywords.proofs.Lookup.{candidate-is}
 use Rattle.keywords.proofs.index.candidate.Goals as goal
 
-pub returns-then-n-lt2 : goal.returns-then-n-lt2
-returns-then-n-lt2 c = simp (lt-leb _ _ c.if-n-lt2.true)
-
-pub returns-then-n-gt-LONGEST : goal.returns-then-n-gt-LONGEST
-returns-then-n-gt-LONGEST c = simp (le-leb _ _ c.if-n-lt2.false, lt-leb _ _ c.if-n-gt-LONGEST.true)
-
-pub returns-then-number-letter : goal.returns-then-number-letter
-returns-then-number-letter c =
-    let q = c.number_of-number.ensures ∙ ap (λ (k : ℕ). match k numbers 0) c.key_of.ensures in
-    candidate-is _ _ c.if-n-lt2.false c.if-n-gt-LONGEST.false q true (eq-eqb _ _ (c.if-number-letter.true ∙ c.letter.ensures.0))
+pub returns-in_err-entry : goal.returns-in_err-entry
+returns-in_err-entry c =
+    c.from_residual.ensures ∙ candidate-is c.args.word.now c.from.result _ _ (c.from.ensures ∙ c.key_of.ensures) (omega arith) (c.in_err-entry.was) c.if-word-lt2.false c.if-word-gt-LONGEST.false
 
 pub returns : goal.returns
 returns c =
-    let q = c.number_of-number.ensures ∙ ap (λ (k : ℕ). match k numbers 0) c.key_of.ensures in
-    candidate-is _ _ c.if-n-lt2.false c.if-n-gt-LONGEST.false q false (ne_eqb _ _ (λ e. c.if-number-letter.false (e ∙ sym c.letter.ensures.0)))
+    let e = c.in_ok-entry.entry in
+    c.then_some.ensures ∙ ap (λ (n : ℕ). then_some (eqb e.first n) e) c.letter.ensures
+    ∙ candidate-is c.args.word.now c.from.result _ _ (c.from.ensures ∙ c.key_of.ensures) (omega arith) (c.in_ok-entry.was) c.if-word-lt2.false c.if-word-gt-LONGEST.false

@@ -4,4 +4,4 @@ use Rattle.keywords.proofs.index.key_of.Goals as goal
 
 pub returns : goal.returns
 unfolding key
-returns c = simp (c.shift_of.ensures.0, c.letter-4.ensures.0, c.letter-3.ensures.0, c.letter-2.ensures.0, c.letter.ensures.0)
+returns c = simp (c.from.ensures, c.letter-4.ensures, c.letter-3.ensures, c.letter-2.ensures, c.letter.ensures)

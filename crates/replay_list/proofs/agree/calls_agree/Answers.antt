@@ -10,4 +10,9 @@ pub returns : goal.returns
 returns c =
     let a = c.args in
     let o = outcome original a.head.width a.head.case a.text.now a.tape.now in
-    compares o a.head.number a.head.value a.expected.now (length a.out.now) _ _ _ _ _ _ _ _ c.layout-in_no_space.ensures (c.layout-answer.ensures ∙ ap (laid_out o) (c.fill.ensures.after (λ y e. e))) c.no_space_number.ensures c.eq-same_in_no_space.ensures c.eq-same_in_space.ensures c.same_space.ensures
+    let m = c.from-in_no_space in
+    let r = c.from-answer in
+    compares o a.head.number a.head.value a.expected.now (length a.out.now) m.result r.result c.layout.new.out c.layout-2.new.out _ _ _ _
+    (rw m.ensures c.layout.ensures)
+    (rw r.ensures (c.layout-2.ensures ∙ ap (laid_out o) (c.fill.ensures.after (λ y e. e))))
+    c.no_space_number.ensures c.eq-same_in_no_space.ensures c.eq-same_in_space.ensures c.same_space.ensures

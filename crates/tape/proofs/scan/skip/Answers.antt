@@ -33,26 +33,26 @@ bounds-tape-i-in-loop-depth c = let v = c.loop-i.invariant in omega (arith, skip
 pub overflow_sub-depth : goal.overflow_sub-depth
 overflow_sub-depth c = let v = c.loop-i.invariant in omega (arith, v.2)
 
-pub overflow_add-i-then-tape-i-eq3 : goal.overflow_add-i-then-tape-i-eq3
-overflow_add-i-then-tape-i-eq3 c = let v = c.loop-i.invariant in omega (arith, skip_low v.0)
+pub overflow_add-i-then-tape-i-eq-CLOSE : goal.overflow_add-i-then-tape-i-eq-CLOSE
+overflow_add-i-then-tape-i-eq-CLOSE c = let v = c.loop-i.invariant in omega (arith, skip_low v.0)
 
-pub loop-depth-smaller-then-tape-i-eq3 : goal.loop-depth-smaller-then-tape-i-eq3
-loop-depth-smaller-then-tape-i-eq3 c = let v = c.loop-i.invariant in omega (arith, skip_low v.0, v.1, v.2)
+pub loop-depth-smaller-then-tape-i-eq-CLOSE : goal.loop-depth-smaller-then-tape-i-eq-CLOSE
+loop-depth-smaller-then-tape-i-eq-CLOSE c = let v = c.loop-i.invariant in omega (arith, skip_low v.0, v.1, v.2)
 
-pub loop-depth-preserved-then-tape-i-eq3 : goal.loop-depth-preserved-then-tape-i-eq3
-loop-depth-preserved-then-tape-i-eq3 c = let v = c.loop-i.invariant in skip_close v.2 c.if-tape-i-eq3.true v.0
+pub loop-depth-preserved-then-tape-i-eq-CLOSE : goal.loop-depth-preserved-then-tape-i-eq-CLOSE
+loop-depth-preserved-then-tape-i-eq-CLOSE c = let v = c.loop-i.invariant in skip_close v.2 c.if-tape-i-eq-CLOSE.true v.0
 
 pub overflow_add-depth : goal.overflow_add-depth
 overflow_add-depth c = let v = c.loop-i.invariant in omega (arith, skip_low v.0)
 
-pub overflow_add-i-else-tape-i-eq3 : goal.overflow_add-i-else-tape-i-eq3
-overflow_add-i-else-tape-i-eq3 c = let v = c.loop-i.invariant in omega (arith, skip_low v.0)
+pub overflow_add-i-else-tape-i-eq-CLOSE : goal.overflow_add-i-else-tape-i-eq-CLOSE
+overflow_add-i-else-tape-i-eq-CLOSE c = let v = c.loop-i.invariant in omega (arith, skip_low v.0)
 
 pub loop-depth-smaller : goal.loop-depth-smaller
 loop-depth-smaller c = let v = c.loop-i.invariant in omega (arith, skip_low v.0, v.1, v.2)
 
 pub loop-depth-preserved : goal.loop-depth-preserved
-loop-depth-preserved c = let v = c.loop-i.invariant in skip_open v.2 c.loop-i-test.false c.if-tape-i-eq3.false v.0
+loop-depth-preserved c = let v = c.loop-i.invariant in skip_open v.2 c.loop-i-test.false c.if-tape-i-eq-CLOSE.false v.0
 
 pub returns : goal.returns
 returns c = skip_last c.loop-depth-test.false c.loop-depth.invariant
