@@ -85,7 +85,7 @@ WEAKENINGS = {
     ],
     "two reports say nothing of the tallies": [
         (BOOKS, "xs ≡ us → (r.0 ≡ r.1) ×", "xs ≡ us → (r.0.put ≡ r.1.put) ×"),
-        (BOOKS_PROOF, "λ m same. (one_answer m same, ", "λ m same. (one_end m same, "),
+        (BOOKS_PROOF, "λ m same. (ap (λ (x : Reported × List ℕ). x.0) (alike m same), ", "λ m same. (ap (λ (x : Reported × List ℕ). x.0.put) (alike m same), "),
     ],
     "two reports say nothing of the second alone": [
         (BOOKS, BOOKS_SECOND, ""),

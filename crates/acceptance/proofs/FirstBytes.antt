@@ -3,13 +3,16 @@ use mathlib.Core.Path.{◌≡◌, refl, sym, ap, subst, ◌∙◌}
 use mathlib.Core.Bool.{Bool, true, false, cond, false≢true}
 use mathlib.Core.List.Memᴰ
 use mathlib.Core.List.{List, [], ◌∷◌, ◌++◌, map, append_assoc, append-nil, Memᴰ}
-use mathlib.Core.Logic.{◌⊎◌, inl, inr}
+use mathlib.Core.Logic.{◌⊎◌, inl, inr, ⊎_elim}
 use Prim.Native.Nat.{ℕ, zero, suc, ◌+◌, ◌-◌, ◌≤◌, ◌<◌}
 use native.Mathlib.Omega.{arith}
-use lib.ListN.{length, get_or, take, drop, replicate, length-append, length-take, get_or-append}
+use lib.ListN.{length, get_or, take, drop, replicate, length-append, length-take, length-map, get_or-append}
 use lib.Seq.{drop-cons, get_or_at, get_or-take}
 use lib.Dec.{eqb, leb}
 use borrow.Author.Tests.{eqb-false, ne_eqb}
+use Rattle.std.specs.List.{AllZip}
+use Rattle.std.proofs.lemmas.Bool.{cond_both}
+use Rattle.std.proofs.lemmas.List.{get_or-append-add}
 use Rattle.context.specs.Cells.{Text, Cell, from, fresh, copied_from, span_cells, cell_in_case, token_text}
 use Rattle.context.specs.Context.{new_state, write_token, write_keyword, end_line, trim_end, finish}
 use Rattle.context.specs.declared.FormatConfig.{FormatConfig}
@@ -37,62 +40,31 @@ use Rattle.acceptance.proofs.Demands.{as_long}
 
 -- ── a fact of each token and its place
 
-abbrev Along : {A : Type 0} → (A → ℕ → Type 0) → List A → List ℕ → Type 0
-Along P [] [] = Unit {0}
-Along P [] (p ∷ ps) = ⊥
-Along P (x ∷ xs) [] = ⊥
-Along P (x ∷ xs) (p ∷ ps) = P x p × Along P xs ps
-
 module _ {A : Type 0} (P : A → ℕ → Type 0) where
-  along_append : (xs ys : List A) (ps qs : List ℕ) → Along P xs ps → Along P ys qs → Along P (xs ++ ys) (ps ++ qs)
+  along_append : (xs ys : List A) (ps qs : List ℕ) → AllZip P xs ps → AllZip P ys qs → AllZip P (xs ++ ys) (ps ++ qs)
   along_append [] ys [] qs u v = v
   along_append [] ys (p ∷ ps) qs u v = absurd u
   along_append (x ∷ xs) ys [] qs u v = absurd u
   along_append (x ∷ xs) ys (p ∷ ps) qs u v = (u.0, along_append xs ys ps qs u.1 v)
 
-  along_none : ((x : A) → P x 0) → (xs : List A) → Along P xs (replicate (length xs) 0)
+  along_none : ((x : A) → P x 0) → (xs : List A) → AllZip P xs (replicate (length xs) 0)
   along_none z [] = tt
   along_none z (x ∷ xs) = (z x, along_none z xs)
 
-  along_at : (xs : List A) (ps : List ℕ) → Along P xs ps → (i : ℕ) (d : A) → i < length xs → P (get_or xs i d) (get_or ps i 0)
-  along_at [] ps u i d h = absurd (omega arith)
-  along_at (x ∷ xs) [] u i d h = absurd u
-  along_at (x ∷ xs) (p ∷ ps) u zero d h = u.0
-  along_at (x ∷ xs) (p ∷ ps) u (suc i) d h = along_at xs ps u.1 i d (omega arith)
-
--- a fact of some token and its place
-data Some {A : Type 0} (P : A → ℕ → Type 0) : List A → List ℕ → Type 0 where
-  here : {x : A} {p : ℕ} {xs : List A} {ps : List ℕ} → P x p → Some P (x ∷ xs) (p ∷ ps)
-  there : {x : A} {p : ℕ} {xs : List A} {ps : List ℕ} → Some P xs ps → Some P (x ∷ xs) (p ∷ ps)
-
-module _ {A : Type 0} (P : A → ℕ → Type 0) where
-  some_left : {xs : List A} {ps : List ℕ} (ys : List A) (qs : List ℕ) → Some P xs ps → Some P (xs ++ ys) (ps ++ qs)
-  some_left ys qs (here k) = here k
-  some_left ys qs (there s) = there (some_left ys qs s)
-
-  some_right : (xs ys : List A) (ps qs : List ℕ) → length xs ≡ length ps → Some P ys qs → Some P (xs ++ ys) (ps ++ qs)
-  some_right [] ys [] qs e s = s
-  some_right [] ys (p ∷ ps) qs e s = absurd (omega arith)
-  some_right (x ∷ xs) ys [] qs e s = absurd (omega arith)
-  some_right (x ∷ xs) ys (p ∷ ps) qs e s = there (some_right xs ys ps qs (omega arith) s)
-
-  some_at : {xs : List A} {ps : List ℕ} → Some P xs ps → (d : A) → (i : ℕ) × (i < length xs) × P (get_or xs i d) (get_or ps i 0)
-  some_at (here k) d = (0, omega arith, k)
-  some_at (there s) d = let r = some_at s d in (suc r.0, omega (arith, r.1), r.2)
+  along_at : (xs : List A) (ps : List ℕ) → AllZip P xs ps → (d : A) → P d 0 → (i : ℕ) → P (get_or xs i d) (get_or ps i 0)
+  along_at [] [] u d z i = z
+  along_at [] (p ∷ ps) u d z i = absurd u
+  along_at (x ∷ xs) [] u d z i = absurd u
+  along_at (x ∷ xs) (p ∷ ps) u d z zero = u.0
+  along_at (x ∷ xs) (p ∷ ps) u d z (suc i) = along_at xs ps u.1 d z i
 
 -- no place
 abbrev NoneWhere : Bool → ℕ → Type 0
 NoneWhere b p = b ≡ true → p ≡ 0
 
-all-below : (hs : List Head) → Along NoneWhere (map (λ (x : Head). true) hs) (replicate (length hs) 0)
-all-below [] = tt
-all-below (h ∷ hs) = (λ e. refl, all-below hs)
-
-none-at : (xs : List Bool) (ps : List ℕ) → Along NoneWhere xs ps → (i : ℕ) → get_or xs i false ≡ true → get_or ps i 0 ≡ 0
-none-at [] ps u i q = absurd (false≢true q)
-none-at (x ∷ xs) [] u i q = absurd u
-none-at (x ∷ xs) (p ∷ ps) u zero q = u.0 q
-none-at (x ∷ xs) (p ∷ ps) u (suc i) q = none-at xs ps u.1 i q
+-- what `token_at` answers past the last token
+abbrev no_head : Head
+no_head = record { kind = 0; start = 0; end = 0; at = 0 }
 
 -- ── what calls write, and where
 
@@ -143,15 +115,14 @@ module _ (config : FormatConfig) (text : Text) where
 
     -- ── one token
 
-    -- the first cell of the body that a call writes
+    -- the first cell of the body that a call writes, at the place counted from 1
     body-first : (c : Call) (w : Seat) (x : Cell) (xs : List Cell) → Writes (c ∷ []) w → (step config text c w.0).1.body ≡ x ∷ xs
-        → get_or whole (w.1 + length (step config text c w.0).1.lead) (fresh 0) ≡ x
+        → (n : ℕ) → suc (w.1 + length (step config text c w.0).1.lead) ≡ suc n → get_or whole n (fresh 0) ≡ x
     unfolding pieces written
-    body-first c w x xs k e =
+    body-first c w x xs k e n m =
         let lead = (step config text c w.0).1.lead in
         let same : whole ≡ (k.front ++ lead) ++ (x ∷ (xs ++ k.back)) = k.parts ∙ rw e (simp (append_assoc, append-nil)) in
-        ap (λ (z : List Cell). get_or z (w.1 + length lead) (fresh 0)) same
-        ∙ get_or_at (k.front ++ lead) x (xs ++ k.back) (fresh 0) (w.1 + length lead) (length-append k.front lead ∙ omega (arith, k.long))
+        rw same (get_or_at (k.front ++ lead) x (xs ++ k.back) (fresh 0) n (length-append k.front lead ∙ omega (arith, k.long)))
 
     module _ (h : Head) (some : h.start < h.end) (fits : h.end ≤ length text) where
       span-first : span_cells text h.start h.end ≡ record { byte = get_or text h.start 0; origin = from h.start } ∷ copied_from (suc h.start) (take (h.end - suc h.start) (drop (suc h.start) text))
@@ -165,18 +136,10 @@ module _ (config : FormatConfig) (text : Text) where
           → FirstByte h (get_or whole n (fresh 0))
       unfolding step write_token write_keyword
       act_first (spacing x) w k n e = absurd (omega arith)
-      act_first write_text w k n e =
-          let m : n ≡ w.1 + length (step config text (act_at h write_text) w.0).1.lead = omega arith in
-          rw m (of_text (ap (λ (z : Cell). z.origin) (body-first (act_at h write_text) w _ _ k span-first)))
+      act_first write_text w k n e = of_text (ap (λ (z : Cell). z.origin) (body-first _ w _ _ k span-first n e))
       act_first arms.write_keyword w k n e =
-          let m : n ≡ w.1 + length (step config text (act_at h arms.write_keyword) w.0).1.lead = omega arith in
-          rw m
-          (of_text
-          (ap (λ (z : Cell). z.origin)
-          (body-first (act_at h arms.write_keyword) w _ _ k (ap (map (cell_in_case config.uppercase_keywords)) span-first))))
-      act_first (write_sign x) w k n e =
-          let m : n ≡ w.1 + length (step config text (act_at h (write_sign x)) w.0).1.lead = omega arith in
-          rw m (of_sign x (body-first (act_at h (write_sign x)) w _ _ k refl))
+          of_text (ap (λ (z : Cell). z.origin) (body-first _ w _ _ k (ap (map (cell_in_case config.uppercase_keywords)) span-first) n e))
+      act_first (write_sign x) w k n e = of_sign x (body-first _ w _ _ k refl n e)
 
       acts_first : (xs : List Act) (w : Seat) → Writes (map (act_at h) xs) w → (n : ℕ) → written_at config text h xs w ≡ suc n → FirstByte h (get_or whole n (fresh 0))
       unfolding written_at seat_after
@@ -184,13 +147,10 @@ module _ (config : FormatConfig) (text : Text) where
       acts_first (x ∷ xs) w k n e =
           let r = step config text (act_at h x) w.0 in
           let after : Seat = (r.0, w.1 + length (r.1.lead ++ r.1.body)) in
-          go (written_at config text h xs after) (eqb (written_at config text h xs after) 0) e
-          (λ q. acts_first xs after (later (act_at h x ∷ []) (map (act_at h) xs) w k) n q)
-        where
-          go : (q : ℕ) (b : Bool) → cond b (cond (writes x) (suc (w.1 + length (step config text (act_at h x) w.0).1.lead)) 0) q ≡ suc n
-              → (q ≡ suc n → FirstByte h (get_or whole n (fresh 0))) → FirstByte h (get_or whole n (fresh 0))
-          go q true i f = act_first x w (sooner (act_at h x ∷ []) (map (act_at h) xs) w k) n i
-          go q false i f = f i
+          let q = written_at config text h xs after in
+          cond_both (eqb q 0) (cond (writes x) (suc (w.1 + length r.1.lead)) 0) q (λ z. z ≡ suc n → FirstByte h (get_or whole n (fresh 0)))
+          (λ _. act_first x w (sooner (act_at h x ∷ []) (map (act_at h) xs) w k) n)
+          (λ _. acts_first xs after (later (act_at h x ∷ []) (map (act_at h) xs) w k) n) e
 
     -- the byte at the place is the token's first; a token with empty text has no place
     abbrev Told : Head → ℕ → Type 0
@@ -200,26 +160,21 @@ module _ (config : FormatConfig) (text : Text) where
     told_none h = (λ n e. absurd (omega arith), λ e. refl)
 
     token-told : (h : Head) → h.start ≤ h.end → h.end ≤ length text → (xs : List Act) (w : Seat) → Writes (map (act_at h) xs) w → Told h (place_of config text h xs w)
-    token-told h s f xs w k = go (eqb h.start h.end) refl
-      where
-        go : (b : Bool) → eqb h.start h.end ≡ b → Told h (cond b 0 (written_at config text h xs w))
-        go true e = told_none h
-        go false e = (
-          acts_first h (omega (arith, eqb-false h.start h.end e)) f xs w k,
-          λ q. absurd (eqb-false h.start h.end e q),
-        )
+    token-told h s f xs w k =
+        cond_both (eqb h.start h.end) 0 (written_at config text h xs w) (Told h) (λ _. told_none h)
+        (λ e. (acts_first h (omega (arith, eqb-false h.start h.end e)) f xs w k, λ q. absurd (eqb-false h.start h.end e q)))
 
     -- ── all tokens
 
     -- below a node, copied or not
-    below : (b : Bool) (kids : Children) (xs ys : List Call) (ps : List ℕ) (w : Seat) → Writes (cond b xs ys) w → (Writes ys w → Along Told (tokens kids) ps)
-        → Along Told (tokens kids) (cond b (no_places config text kids) ps)
+    below : (b : Bool) (kids : Children) (xs ys : List Call) (ps : List ℕ) (w : Seat) → Writes (cond b xs ys) w → (Writes ys w → AllZip Told (tokens kids) ps)
+        → AllZip Told (tokens kids) (cond b (no_places config text kids) ps)
     below true kids xs ys ps w k f = along_none Told told_none (tokens kids)
     below false kids xs ys ps w k f = f k
 
     module _ (pick : ℕ → Children → Arms) where
       places-told : (c : Children) → TokenSpans (length text) c → (r : Arms) (l : Local) (w : Seat) → Writes (walk pick text r l c) w
-          → Along Told (tokens c) (places config text pick r l c w)
+          → AllZip Told (tokens c) (places config text pick r l c w)
       unfolding places tokens walk
       places-told done s r l w k = tt
       places-told (token h rest) s r l w k =
@@ -241,7 +196,7 @@ module _ (config : FormatConfig) (text : Text) where
           (below (copied h.kind kids) kids _ _ _ i (sooner own (map put_spacing a.2 ++ tail) i inside) (λ z. places-told kids s.0 q q.begin i z))
           (places-told rest s.1 r a.0 (seat_after config text (map put_spacing a.2) j) (later (map put_spacing a.2) tail j after))
 
-      from_told : (t : Tree) → TokenSpans (length text) t.kids → (w : Seat) → Writes (calls pick text t) w → Along Told (tokens t.kids) (places_from config text pick t w)
+      from_told : (t : Tree) → TokenSpans (length text) t.kids → (w : Seat) → Writes (calls pick text t) w → AllZip Told (tokens t.kids) (places_from config text pick t w)
       unfolding places_from calls
       from_told t s w k =
           let q = pick t.head.kind t.kids in
@@ -249,13 +204,13 @@ module _ (config : FormatConfig) (text : Text) where
 
   -- ── below a node copied as typed
 
-  copy_none : (b : Bool) (kids : Children) (ps : List ℕ) → Along NoneWhere (below_copied kids) ps
-      → Along NoneWhere (cond b (map (λ (x : Head). true) (tokens kids)) (below_copied kids)) (cond b (no_places config text kids) ps)
-  copy_none true kids ps u = all-below (tokens kids)
+  copy_none : (b : Bool) (kids : Children) (ps : List ℕ) → AllZip NoneWhere (below_copied kids) ps
+      → AllZip NoneWhere (cond b (map (λ (x : Head). true) (tokens kids)) (below_copied kids)) (cond b (no_places config text kids) ps)
+  copy_none true kids ps u = rw (← (length-map (tokens kids) (λ (x : Head). true))) (along_none NoneWhere (λ b e. refl) (map (λ (x : Head). true) (tokens kids)))
   copy_none false kids ps u = u
 
   module _ (pick : ℕ → Children → Arms) where
-    places-none : (c : Children) (r : Arms) (l : Local) (w : Seat) → Along NoneWhere (below_copied c) (places config text pick r l c w)
+    places-none : (c : Children) (r : Arms) (l : Local) (w : Seat) → AllZip NoneWhere (below_copied c) (places config text pick r l c w)
     unfolding places below_copied
     places-none done r l w = tt
     places-none (token h rest) r l w = (λ e. absurd (false≢true e), places-none rest r _ _)
@@ -270,7 +225,7 @@ module _ (config : FormatConfig) (text : Text) where
         (copy_none b kids ps (places-none kids q q.begin inside))
         (places-none rest r a.0 (seat_after config text (map put_spacing a.2) after))
 
-    from-none : (t : Tree) (w : Seat) → Along NoneWhere (below_copied_of t) (places_from config text pick t w)
+    from-none : (t : Tree) (w : Seat) → AllZip NoneWhere (below_copied_of t) (places_from config text pick t w)
     unfolding places_from
     from-none t w =
         let q = pick t.head.kind t.kids in
@@ -279,89 +234,73 @@ module _ (config : FormatConfig) (text : Text) where
   -- ── a token that is written has a place
 
   module _ (h : Head) (x : Act) (is_written : writes x ≡ true) (some : h.start ≡ h.end → ⊥) where
+    -- among these tokens is h, with a place
+    abbrev Has : List Head → List ℕ → Type 0
+    Has hs ps = (i : ℕ) × (i < length hs) × (get_or hs i no_head ≡ h) × (0 < get_or ps i 0)
+
+    has_left : (hs gs : List Head) (ps qs : List ℕ) → length hs ≡ length ps → Has hs ps → Has (hs ++ gs) (ps ++ qs)
+    has_left hs gs ps qs e k =
+        (k.0, omega (arith, length-append hs gs, k.1), rw (get_or-append hs gs no_head k.0 k.1) k.2, rw (get_or-append ps qs 0 k.0 (omega (arith, k.1))) k.3)
+
+    has_right : (hs gs : List Head) (ps qs : List ℕ) → length hs ≡ length ps → Has gs qs → Has (hs ++ gs) (ps ++ qs)
+    has_right hs gs ps qs e k =
+        (length hs + k.0, omega (arith, length-append hs gs, k.1), rw (get_or-append-add hs gs k.0 no_head) k.2, rw (e, get_or-append-add ps qs k.0 0) k.3)
+
     no_spacing : (xs : List Spacing) → Memᴰ (act_at h x) (map put_spacing xs) → ⊥
-    no_spacing [] m = Memᴰ.not-nil m
-    no_spacing (y ∷ ys) m = go (Memᴰ.cases_cons m) (λ k. no_spacing ys k)
-      where
-        go : (act_at h x ≡ put_spacing y) ⊎ Memᴰ (act_at h x) (map put_spacing ys) → (Memᴰ (act_at h x) (map put_spacing ys) → ⊥) → ⊥
-        go (inl e) f = let z : ◌≡◌ {A = ℕ} 0 1 = cc in omega arith
-        go (inr k) f = f k
+    no_spacing xs m = let r = Memᴰ.of_map put_spacing xs m in cc (r.2)
 
     no_verbatim : (g : Head) → Memᴰ (act_at h x) (format_error_verbatim g) → ⊥
     unfolding format_error_verbatim
-    no_verbatim g m = go (leb g.start g.end) m
-      where
-        go : (b : Bool) → Memᴰ (act_at h x) (cond b (raw g.start g.end ∷ []) []) → ⊥
-        go true k = let e = Memᴰ.eq_of_singleton k in let z : ◌≡◌ {A = ℕ} 0 1 = cc in omega arith
-        go false k = Memᴰ.not-nil k
+    no_verbatim g =
+        cond_both (leb g.start g.end) (raw g.start g.end ∷ []) [] (λ z. Memᴰ (act_at h x) z → ⊥) (λ _ m. let e = Memᴰ.eq_of_singleton m in cc) (λ _. Memᴰ.not-nil)
 
     -- an act that writes leaves a place
-    acts_place : (g : Head) (xs : List Act) (w : Seat) → Memᴰ (act_at h x) (map (act_at g) xs) → (g ≡ h) × (0 < written_at config text g xs w)
+    acts_place : (xs : List Act) (w : Seat) → Memᴰ x xs → 0 < written_at config text h xs w
     unfolding written_at
-    acts_place g [] w m = absurd (Memᴰ.not-nil m)
-    acts_place g (y ∷ ys) w m =
-        let r = step config text (act_at g y) w.0 in
+    acts_place [] w m = absurd (Memᴰ.not-nil m)
+    acts_place (y ∷ ys) w m =
+        let r = step config text (act_at h y) w.0 in
         let after : Seat = (r.0, w.1 + length (r.1.lead ++ r.1.body)) in
-        go (Memᴰ.cases_cons m) (w.1 + length r.1.lead) (written_at config text g ys after) (λ k. acts_place g ys after k)
+        go (Memᴰ.cases_cons m) (w.1 + length r.1.lead) (written_at config text h ys after) (λ k. acts_place ys after k)
       where
-        later-place : (p q : ℕ) → (0 < p) ⊎ (0 < q) → 0 < cond (eqb q 0) p q
-        later-place p zero (inl k) = k
-        later-place p zero (inr k) = absurd (omega arith)
-        later-place p (suc q) k = rw (ne_eqb (suc q) 0 (λ z. omega arith)) (omega arith)
-
-        go : (act_at h x ≡ act_at g y) ⊎ Memᴰ (act_at h x) (map (act_at g) ys) → (n q : ℕ) → (Memᴰ (act_at h x) (map (act_at g) ys) → (g ≡ h) × (0 < q))
-            → (g ≡ h) × (0 < cond (eqb q 0) (cond (writes y) (suc n) 0) q)
+        go : (x ≡ y) ⊎ Memᴰ x ys → (n q : ℕ) → (Memᴰ x ys → 0 < q) → 0 < cond (eqb q 0) (cond (writes y) (suc n) 0) q
         go (inl e) n q f =
-            let same : x ≡ y = cc in
-            let wy : writes y ≡ true = ap writes (sym same) ∙ is_written in
-            (cc, later-place _ q (inl (rw wy (omega arith))))
-        go (inr k) n q f = ((f k).0, later-place _ q (inr (f k).1))
+            rw (← e, is_written) (cond_both (eqb q 0) (suc n) q (λ z. 0 < z) (λ _. omega arith) (λ z. omega (arith, eqb-false q 0 z)))
+        go (inr k) n q f = rw (ne_eqb q 0 (λ z. omega (arith, f k))) (f k)
 
-    abbrev Has : Head → ℕ → Type 0
-    Has g p = (g ≡ h) × (0 < p)
-
-    token-place : (g : Head) (xs : List Act) (w : Seat) → Memᴰ (act_at h x) (map (act_at g) xs) → Has g (place_of config text g xs w)
+    token-place : (g : Head) (xs : List Act) (w : Seat) → Memᴰ (act_at h x) (map (act_at g) xs) → (g ≡ h) × (0 < place_of config text g xs w)
     token-place g xs w m =
-        let k = acts_place g xs w m in
-        (k.0, rw (ne_eqb g.start g.end (λ e. some (subst (λ (z : Head). z.start ≡ z.end) k.0 e))) k.1)
+        let r = Memᴰ.of_map (act_at g) xs m in
+        let same : g ≡ h = cc (r.2) in
+        let is : x ≡ r.0 = cc (r.2) in
+        (same, rw (same, ne_eqb h.start h.end some) (acts_place xs w (Memᴰ.cast is r.1)))
 
     -- a call of a node: of what stands before, inside, after, or of the rest
     node-has : (kids rest : Children) (xs own ys tail : List Call) (ps qs : List ℕ) → length (tokens kids) ≡ length ps
         → (Memᴰ (act_at h x) xs → ⊥) → (Memᴰ (act_at h x) ys → ⊥)
-        → (Memᴰ (act_at h x) own → Some Has (tokens kids) ps) → (Memᴰ (act_at h x) tail → Some Has (tokens rest) qs)
-        → Memᴰ (act_at h x) (xs ++ (own ++ (ys ++ tail))) → Some Has (tokens kids ++ tokens rest) (ps ++ qs)
-    node-has kids rest xs own ys tail ps qs e f g u v m = first (Memᴰ.append_cases xs m)
-      where
-        third : Memᴰ (act_at h x) ys ⊎ Memᴰ (act_at h x) tail → Some Has (tokens kids ++ tokens rest) (ps ++ qs)
-        third (inl k) = absurd (g k)
-        third (inr k) = some_right Has (tokens kids) (tokens rest) ps qs e (v k)
-
-        second : Memᴰ (act_at h x) own ⊎ Memᴰ (act_at h x) (ys ++ tail) → Some Has (tokens kids ++ tokens rest) (ps ++ qs)
-        second (inl k) = some_left Has (tokens rest) qs (u k)
-        second (inr k) = third (Memᴰ.append_cases ys k)
-
-        first : Memᴰ (act_at h x) xs ⊎ Memᴰ (act_at h x) (own ++ (ys ++ tail)) → Some Has (tokens kids ++ tokens rest) (ps ++ qs)
-        first (inl k) = absurd (f k)
-        first (inr k) = second (Memᴰ.append_cases own k)
+        → (Memᴰ (act_at h x) own → Has (tokens kids) ps) → (Memᴰ (act_at h x) tail → Has (tokens rest) qs)
+        → Memᴰ (act_at h x) (xs ++ (own ++ (ys ++ tail))) → Has (tokens kids ++ tokens rest) (ps ++ qs)
+    node-has kids rest xs own ys tail ps qs e f g u v m =
+        ⊎_elim (λ k. absurd (f k))
+        (λ i. ⊎_elim (λ k. has_left (tokens kids) (tokens rest) ps qs e (u k))
+        (λ j. ⊎_elim (λ k. absurd (g k)) (λ k. has_right (tokens kids) (tokens rest) ps qs e (v k)) (Memᴰ.append_cases ys j))
+        (Memᴰ.append_cases own i))
+        (Memᴰ.append_cases xs m)
 
     module _ (pick : ℕ → Children → Arms) where
       inside-has : (b : Bool) (g : Head) (kids : Children) (xs : List Call) (ps : List ℕ) → Memᴰ (act_at h x) (cond b (format_error_verbatim g) xs)
-          → (Memᴰ (act_at h x) xs → Some Has (tokens kids) ps) → Some Has (tokens kids) (cond b (no_places config text kids) ps)
+          → (Memᴰ (act_at h x) xs → Has (tokens kids) ps) → Has (tokens kids) (cond b (no_places config text kids) ps)
       inside-has true g kids xs ps m f = absurd (no_verbatim g m)
       inside-has false g kids xs ps m f = f m
 
-      places-has : (c : Children) (r : Arms) (l : Local) (w : Seat) → Memᴰ (act_at h x) (walk pick text r l c) → Some Has (tokens c) (places config text pick r l c w)
+      places-has : (c : Children) (r : Arms) (l : Local) (w : Seat) → Memᴰ (act_at h x) (walk pick text r l c) → Has (tokens c) (places config text pick r l c w)
       unfolding places places_from tokens walk
       places-has done r l w m = absurd (no_spacing (r.at_end l) m)
       places-has (token g rest) r l w m =
           let a = r.at_token l (seen text g) in
-          go (Memᴰ.append_cases (map (act_at g) a.1) m) (λ k. places-has rest r a.0 (seat_after config text (map (act_at g) a.1) w) k)
-        where
-          go : Memᴰ (act_at h x) (map (act_at g) (r.at_token l (seen text g)).1) ⊎ Memᴰ (act_at h x) (walk pick text r (r.at_token l (seen text g)).0 rest)
-              → (Memᴰ (act_at h x) (walk pick text r (r.at_token l (seen text g)).0 rest) → Some Has (tokens rest) (places config text pick r (r.at_token l (seen text g)).0 rest (seat_after config text (map (act_at g) (r.at_token l (seen text g)).1) w)))
-              → Some Has (g ∷ tokens rest) (place_of config text g (r.at_token l (seen text g)).1 w ∷ places config text pick r (r.at_token l (seen text g)).0 rest (seat_after config text (map (act_at g) (r.at_token l (seen text g)).1) w))
-          go (inl k) f = here (token-place g (r.at_token l (seen text g)).1 w k)
-          go (inr k) f = there (f k)
+          ⊎_elim (λ k. let s = token-place g a.1 w k in (0, omega arith, s.0, s.1))
+          (λ k. let s = places-has rest r a.0 (seat_after config text (map (act_at g) a.1) w) k in (suc s.0, omega (arith, s.1), s.2, s.3))
+          (Memᴰ.append_cases (map (act_at g) a.1) m)
       places-has (node g kids rest) r l w m =
           let a = r.at_node l g.kind (count_list_items kids) in
           let q = pick g.kind kids in
@@ -376,7 +315,7 @@ module _ (config : FormatConfig) (text : Text) where
           (λ k. inside-has b g kids (walk pick text q q.begin kids) ps k (λ z. places-has kids q q.begin i z))
           (λ k. places-has rest r a.0 j k) m
 
-      from-has : (t : Tree) (w : Seat) → Memᴰ (act_at h x) (calls pick text t) → Some Has (tokens t.kids) (places_from config text pick t w)
+      from-has : (t : Tree) (w : Seat) → Memᴰ (act_at h x) (calls pick text t) → Has (tokens t.kids) (places_from config text pick t w)
       unfolding places_from calls
       from-has t w m =
           let q = pick t.head.kind t.kids in
@@ -384,20 +323,17 @@ module _ (config : FormatConfig) (text : Text) where
 
 -- ── in the layout
 
-end-longer : (Y : List Cell) (n : ℕ) → suc n < length (end_line Y) → n < length Y
-end-longer [] n h = absurd (omega arith)
-end-longer (y ∷ Y) n h = omega (arith, length-append (y ∷ Y) (fresh 10 ∷ []))
-
-end-at : (Y : List Cell) (n : ℕ) → n < length Y → get_or (end_line Y) n (fresh 0) ≡ get_or Y n (fresh 0)
-end-at [] n h = refl
-end-at (y ∷ Y) n h = get_or-append (y ∷ Y) (fresh 10 ∷ []) (fresh 0) n h
+end-at : (Y : List Cell) (n : ℕ) → suc n < length (end_line Y) → (n < length Y) × (get_or (end_line Y) n (fresh 0) ≡ get_or Y n (fresh 0))
+end-at [] n h = absurd (omega arith)
+end-at (y ∷ Y) n h =
+    let i : n < length (y ∷ Y) = omega (arith, length-append (y ∷ Y) (fresh 10 ∷ [])) in (i, get_or-append (y ∷ Y) (fresh 10 ∷ []) (fresh 0) n i)
 
 -- a byte before the last newline is the one that was written
 finish-at : (X : List Cell) (n : ℕ) → suc n < length (finish X) → get_or (finish X) n (fresh 0) ≡ get_or X n (fresh 0)
 unfolding finish trim_end
 finish-at X n h =
-    let i = end-longer (take (kept X) X) n h in
-    end-at (take (kept X) X) n i ∙ get_or-take (kept X) X n (fresh 0) (omega (arith, length-take (kept X) X))
+    let e = end-at (take (kept X) X) n h in
+    e.1 ∙ get_or-take (kept X) X n (fresh 0) (omega (arith, length-take (kept X) X, e.0))
 
 module _ (width case : ℕ) (text tape : List ℕ) (t : Tree) (p : ℕ) (e : read_call width case text tape ≡ got t p) where
   spans : TokenSpans (length text) t.kids
@@ -407,36 +343,34 @@ module _ (width case : ℕ) (text tape : List ℕ) (t : Tree) (p : ℕ) (e : rea
       let same : u ≡ t = got_same (sym k.read ∙ e) in
       subst (λ (x : Tree). TokenSpans (length text) x.kids) same (tokens-fit (length text) tape 11 u.kids k.accepted.kids)
 
-  told : Along (Told (config_of width case) text (written (pieces_of original (config_of width case) text t))) (tokens t.kids) (first_bytes width case text t)
+  abbrev all : List Cell
+  all = written (pieces_of original (config_of width case) text t)
+
+  told : (i : ℕ) → Told (config_of width case) text all (token_at t i) (get_or (first_bytes width case text t) i 0)
   unfolding pieces_of original
   told =
-      let all = written (pieces_of original (config_of width case) text t) in
-      from_told (config_of width case) text all original.pick t spans (new_state, 0)
-      (record { front = []; back = []; long = refl; parts = sym (append-nil all) })
+      along_at (Told (config_of width case) text all) (tokens t.kids) (first_bytes width case text t)
+      (from_told (config_of width case) text all original.pick t spans (new_state, 0) (record { front = []; back = []; long = refl; parts = sym (append-nil all) }))
+      no_head (told_none (config_of width case) text all no_head)
 
-  pub first_byte : (i n : ℕ) → i < length (tokens t.kids) → get_or (first_bytes width case text t) i 0 ≡ suc n → suc n < length (formatted width case text t)
+  pub first_byte : (i n : ℕ) → get_or (first_bytes width case text t) i 0 ≡ suc n → suc n < length (formatted width case text t)
       → FirstByte (token_at t i) (get_or (format original (config_of width case) text t) n (fresh 0))
   unfolding format
-  first_byte i n h q k =
-      let all = written (pieces_of original (config_of width case) text t) in
-      rw (finish-at all n (omega (arith, as_long width case text t)))
-      ((along_at (Told (config_of width case) text all) (tokens t.kids) (first_bytes width case text t) told i _ h).0 n q)
+  first_byte i n q k = rw (finish-at all n (omega (arith, as_long width case text t))) ((told i).0 n q)
 
   -- a call of the list
   called : (cs : List Call) (j : ℕ) (h : Head) (x : Act) → get_or cs j (raw 0 0) ≡ act_at h x → Memᴰ (act_at h x) cs
-  called [] j h x q = let z : ◌≡◌ {A = ℕ} 0 1 = cc in absurd (omega arith)
+  called [] j h x q = absurd (cc)
   called (c ∷ cs) zero h x q = Memᴰ.head (sym q)
   called (c ∷ cs) (suc j) h x q = Memᴰ.tail (called cs j h x q)
 
   pub written-place : (j : ℕ) (h : Head) (x : Act) → get_or (calls original.pick text t) j (raw 0 0) ≡ act_at h x → writes x ≡ true → (h.start ≡ h.end → ⊥)
       → (i : ℕ) × (i < length (tokens t.kids)) × (token_at t i ≡ h) × (0 < get_or (first_bytes width case text t) i 0)
   written-place j h x q w s =
-      let r = some_at (Has (config_of width case) text h x w s)
-      (from-has (config_of width case) text h x w s original.pick t (new_state, 0) (called (calls original.pick text t) j h x q)) _ in
-      (r.0, r.1, r.2.0, r.2.1)
+      from-has (config_of width case) text h x w s original.pick t (new_state, 0) (called (calls original.pick text t) j h x q)
 
-  pub empty-none : (i : ℕ) → i < length (tokens t.kids) → (token_at t i).start ≡ (token_at t i).end → get_or (first_bytes width case text t) i 0 ≡ 0
-  empty-none i h = (along_at (Told (config_of width case) text (written (pieces_of original (config_of width case) text t))) (tokens t.kids) (first_bytes width case text t) told i _ h).1
+  pub empty-none : (i : ℕ) → (token_at t i).start ≡ (token_at t i).end → get_or (first_bytes width case text t) i 0 ≡ 0
+  empty-none i = (told i).1
 
   pub copied_none : (i : ℕ) → get_or (below_copied_of t) i false ≡ true → get_or (first_bytes width case text t) i 0 ≡ 0
-  copied_none i = none-at (below_copied_of t) (first_bytes width case text t) (from-none (config_of width case) text original.pick t (new_state, 0)) i
+  copied_none = along_at NoneWhere (below_copied_of t) (first_bytes width case text t) (from-none (config_of width case) text original.pick t (new_state, 0)) false (λ e. refl)

@@ -1,29 +1,29 @@
 -- Request E3 follows from the definition of the call with a map: lines and columns in the document's words, and the masking rule for two calls.
 use mathlib.Core.Path.{◌≡◌, refl, sym, ap, ◌∙◌}
-use mathlib.Core.Bool.{Bool, true, false, cond}
+use mathlib.Core.Bool.{true, cond}
 use mathlib.Core.List.{List, [], ◌∷◌, ◌++◌}
-use Prim.Native.Nat.{ℕ, zero, suc, ◌+◌, ◌-◌, ◌*◌, ◌≤◌, ◌<◌}
+use Prim.Native.Nat.{ℕ, zero, suc, ◌+◌, ◌*◌, ◌≤◌, ◌<◌, min}
 use native.Mathlib.Omega.{arith}
-use lib.ListN.{length, get_or, take, drop, length-map, get_or-map, get_or-eq_default}
+use lib.ListN.{length, get_or, take, drop, length-map, get_or-map}
 use lib.Seq.{drop_at}
 use lib.Dec.{eqb, leb}
-use borrow.Author.Tests.{eqb-true, eqb-false, leb-true, leb-false, eq-eqb, ne_eqb, le-leb, lt-leb, le-ltb, lt-ltb}
-use Rattle.context.specs.Cells.{Text, Cell, bytes_of, fresh, count}
-use Rattle.context.specs.Alike.{CellLike}
+use borrow.Author.Tests.{eq-eqb, le-leb, lt-leb}
+use Rattle.std.proofs.lemmas.Bool.Decides.{nat_tests}
+use Rattle.std.proofs.lemmas.List.{get_or_past}
+use Rattle.context.specs.Cells.{Text, Cell, bytes_of, count}
 use Rattle.context.specs.Context.{new_state}
-use Rattle.context.proofs.AlikeWrites.{like_at}
 use Rattle.tape.specs.declared.Fault.{Fault}
 use Rattle.tape.specs.Faults.{number}
 use Rattle.tape.specs.Tree.{Tree, tokens}
-use Rattle.tape.specs.Tape.{Read, refused, got}
+use Rattle.tape.specs.Tape.{refused, got}
 use Rattle.tape.specs.Call.{read_call}
 use Rattle.layout.specs.declared.Answer.{Answer}
 use Rattle.layout.specs.Layout.{written, original, pieces_of, format}
-use Rattle.layout.specs.Outcome.{Outcome, laid, answer, config_of, outcome}
+use Rattle.layout.specs.Outcome.{answer, config_of, outcome}
 use Rattle.layout.specs.Lines.{Spot, first_spot, spot_after, spot_at}
 use Rattle.layout.specs.TokenMap.{no_spot, entry, token_map}
 use Rattle.layout.specs.Masking.{MaskedPairForLayout, SameLines}
-use Rattle.layout.specs.MapCall.{flat, numbers_of, numbers, Mapped, map_fitted, mapped_as, mapped, map_cells_after}
+use Rattle.layout.specs.MapCall.{flat, numbers, Mapped, map_fitted, mapped, map_cells_after}
 use Rattle.layout.proofs.AsciiPairs.{ascii-pair}
 use Rattle.layout.proofs.TwoCalls.{pair-for_layout}
 use Rattle.layout.proofs.TokenMaps.{places_count, map-count}
@@ -32,7 +32,7 @@ use Rattle.layout.proofs.Running.{kept, finish-none, finish-length}
 use Rattle.two_calls.specs.Both.{MapsBoth}
 use Rattle.acceptance.specs.Demands.{formatted}
 use Rattle.acceptance.specs.Requests.{last_line, two_per_token, first_bytes, Placed, TokenPlaces, MapsAlikeWhere, MapsMasked}
-use Rattle.acceptance.proofs.Demands.{was_refused, was_laid, as_long, byte_at}
+use Rattle.acceptance.proofs.Demands.{was_refused, was_laid, as_long, AlikeAt, alike_at}
 use Rattle.acceptance.proofs.FirstBytes.{first_byte, written-place, empty-none, copied_none}
 
 -- ── lines and columns
@@ -41,12 +41,7 @@ use Rattle.acceptance.proofs.FirstBytes.{first_byte, written-place, empty-none, 
 line_after : (bs : List ℕ) (p : Spot) → (spot_after bs p).line ≡ p.line + count 10 bs
 unfolding spot_after
 line_after [] p = omega arith
-line_after (b ∷ bs) p = go (eqb b 10) (λ q. line_after bs q)
-  where
-    go : (t : Bool) → ((q : Spot) → (spot_after bs q).line ≡ q.line + count 10 bs)
-        → (spot_after bs (cond t (record { line = suc p.line; column = 1 }) (record { line = p.line; column = suc p.column }))).line ≡ p.line + (cond t 1 0 + count 10 bs)
-    go true ih = ih _ ∙ omega arith
-    go false ih = ih _ ∙ omega arith
+line_after (b ∷ bs) p = grind (arith, nat_tests, line_after bs)
 
 -- without a newline all is the last line
 last_whole : (bs : List ℕ) → count 10 bs ≡ 0 → last_line bs ≡ bs
@@ -57,36 +52,22 @@ last_whole (b ∷ bs) h = rw (eq-eqb (count 10 (b ∷ bs)) 0 h)
 column-after : (bs : List ℕ) (p : Spot) → (spot_after bs p).column ≡ cond (eqb (count 10 bs) 0) (p.column + length bs) (suc (length (last_line bs)))
 unfolding spot_after
 column-after [] p = omega arith
-column-after (b ∷ bs) p = go (eqb b 10) (eqb (count 10 bs) 0) refl (λ q. column-after bs q)
-  where
-    go : (t u : Bool) → eqb (count 10 bs) 0 ≡ u
-        → ((q : Spot) → (spot_after bs q).column ≡ cond (eqb (count 10 bs) 0) (q.column + length bs) (suc (length (last_line bs))))
-        → (spot_after bs (cond t (record { line = suc p.line; column = 1 }) (record { line = p.line; column = suc p.column }))).column
-        ≡ cond (eqb (cond t 1 0 + count 10 bs) 0) (p.column + suc (length bs)) (suc (length (cond (eqb (cond t 1 0 + count 10 bs) 0) (b ∷ bs) (last_line bs))))
-    go true true e ih =
-        ih _ ∙ rw (e, ne_eqb (1 + count 10 bs) 0 (λ z. omega arith), last_whole bs (eqb-true (count 10 bs) 0 e)) (omega arith)
-    go true false e ih = ih _ ∙ rw (e, ne_eqb (1 + count 10 bs) 0 (λ z. omega arith))
-    go false true e ih = ih _ ∙ rw (e, eq-eqb (0 + count 10 bs) 0 (omega (arith, eqb-true (count 10 bs) 0 e))) (omega arith)
-    go false false e ih = ih _ ∙ rw (e, ne_eqb (0 + count 10 bs) 0 (λ z. eqb-false (count 10 bs) 0 e (omega arith)))
+column-after (b ∷ bs) p = grind (arith, nat_tests, column-after bs, last_whole bs)
 
 column-from_1 : (bs : List ℕ) → (spot_after bs first_spot).column ≡ 1 + length (last_line bs)
-column-from_1 bs = column-after bs first_spot ∙ go (eqb (count 10 bs) 0) refl
-  where
-    go : (t : Bool) → eqb (count 10 bs) 0 ≡ t → cond t (1 + length bs) (suc (length (last_line bs))) ≡ 1 + length (last_line bs)
-    go true e = rw (last_whole bs (eqb-true (count 10 bs) 0 e))
-    go false e = omega arith
+column-from_1 bs = grind (arith, nat_tests, column-after bs first_spot, last_whole bs)
 
 -- ── two numbers for each spot
 
-flat_line : (ps : List Spot) (rest : List ℕ) (i : ℕ) → i < length ps → get_or (flat ps ++ rest) (2 * i) 0 ≡ (get_or ps i no_spot).line
-flat_line [] rest i h = absurd (omega arith)
-flat_line (p ∷ ps) rest zero h = refl
-flat_line (p ∷ ps) rest (suc i) h = let e : 2 * suc i ≡ suc (suc (2 * i)) = omega arith in rw e (flat_line ps rest i (omega arith))
-
-flat-column : (ps : List Spot) (rest : List ℕ) (i : ℕ) → i < length ps → get_or (flat ps ++ rest) (2 * i + 1) 0 ≡ (get_or ps i no_spot).column
-flat-column [] rest i h = absurd (omega arith)
-flat-column (p ∷ ps) rest zero h = refl
-flat-column (p ∷ ps) rest (suc i) h = let e : 2 * suc i + 1 ≡ suc (suc (2 * i + 1)) = omega arith in rw e (flat-column ps rest i (omega arith))
+flat-at : (ps : List Spot) (rest : List ℕ) (i : ℕ) → i < length ps
+    → (get_or (flat ps ++ rest) (2 * i) 0 ≡ (get_or ps i no_spot).line) × (get_or (flat ps ++ rest) (2 * i + 1) 0 ≡ (get_or ps i no_spot).column)
+flat-at [] rest i h = absurd (omega arith)
+flat-at (p ∷ ps) rest zero h = (refl, refl)
+flat-at (p ∷ ps) rest (suc i) h =
+    let e : 2 * suc i ≡ suc (suc (2 * i)) = omega arith in
+    let f : 2 * suc i + 1 ≡ suc (suc (2 * i + 1)) = omega arith in
+    let k = flat-at ps rest i (omega arith) in
+    (rw e k.0, rw f k.1)
 
 -- ── one call
 
@@ -101,22 +82,12 @@ module _ (width case : ℕ) (text : Text) (t : Tree) where
   abbrev left : ℕ
   left = kept (written (pieces_of original (config_of width case) text t))
 
-  -- a place lies in what trimming leaves, or past it
-  inside : (n : ℕ) → suc n < length out → suc n ≤ left
+  -- a newline follows what trimming leaves, if it leaves a byte
+  out-length : length out ≡ left + min 1 left
   unfolding format
-  inside n h = go left refl
-    where
-      go : (k : ℕ) → left ≡ k → suc n ≤ k
-      go zero e = absurd (omega (arith, as_long width case text t, ap length (finish-none (written (pieces_of original (config_of width case) text t)) e)))
-      go (suc k) e = omega (arith, as_long width case text t, finish-length (written (pieces_of original (config_of width case) text t)) (λ z. omega arith))
-
-  outside : (n : ℕ) → length out ≤ suc n → left < suc n
-  unfolding format
-  outside n h = go left refl
-    where
-      go : (k : ℕ) → left ≡ k → k < suc n
-      go zero e = omega arith
-      go (suc k) e = omega (arith, as_long width case text t, finish-length (written (pieces_of original (config_of width case) text t)) (λ z. omega arith))
+  out-length =
+      let X = written (pieces_of original (config_of width case) text t) in
+      as_long width case text t ∙ grind (arith, finish-length X, finish-none X)
 
   spots-count : length spots ≡ length (tokens t.kids)
   unfolding token_map
@@ -127,19 +98,13 @@ module _ (width case : ℕ) (text : Text) (t : Tree) where
   spot_at_lem i = get_or-map (entry left out) (first_bytes width case text t) i 0
 
   is-spot : (i n : ℕ) → get_or (first_bytes width case text t) i 0 ≡ suc n → suc n < length out → get_or spots i no_spot ≡ spot_at out n
-  is-spot i n e h =
-      let m : suc n - 1 ≡ n = omega arith in
-      spot_at_lem i ∙ rw (e, ne_eqb (suc n) 0 (λ z. omega arith), le-ltb left (suc n) (inside n h), m)
+  is-spot i n e h = spot_at_lem i ∙ rw e (grind (arith, nat_tests, out-length))
 
   no_spot_lem : (i : ℕ) → get_or (first_bytes width case text t) i 0 ≡ 0 → get_or spots i no_spot ≡ no_spot
   no_spot_lem i e = spot_at_lem i ∙ rw e
 
   trimmed-spot : (i : ℕ) → length out ≤ get_or (first_bytes width case text t) i 0 → get_or spots i no_spot ≡ no_spot
-  trimmed-spot i h = spot_at_lem i ∙ go (get_or (first_bytes width case text t) i 0) refl
-    where
-      go : (p : ℕ) → get_or (first_bytes width case text t) i 0 ≡ p → entry left out p ≡ no_spot
-      go zero e = refl
-      go (suc n) e = rw (ne_eqb (suc n) 0 (λ z. omega arith), lt-ltb left (suc n) (outside n (omega arith)))
+  trimmed-spot i h = spot_at_lem i ∙ grind (arith, nat_tests, out-length)
 
 module _ (width case : ℕ) (text : Text) (tape before map_before : List ℕ) (r : Answer) (after map_after : List ℕ) (l : ◌≡◌ {A = Mapped} (record { answer = r; space = after; map = map_after }) (mapped width case text tape before map_before)) where
   abbrev call : Mapped
@@ -147,7 +112,7 @@ module _ (width case : ℕ) (text : Text) (tape before map_before : List ℕ) (r
 
   call_refused : (f : Fault) (p : ℕ) → read_call width case text tape ≡ refused f p → call ≡ record { answer = answer (number f) p; space = before; map = map_before }
   unfolding mapped
-  call_refused f p e = l ∙ ap (λ (x : Outcome). mapped_as x (numbers width case text tape) before map_before) (was_refused width case text tape f p e)
+  call_refused f p e = l ∙ rw (was_refused width case text tape f p e)
 
   module _ (t : Tree) (p : ℕ) (e : read_call width case text tape ≡ got t p) where
     abbrev cells : List Cell
@@ -156,83 +121,61 @@ module _ (width case : ℕ) (text : Text) (tape before map_before : List ℕ) (r
     abbrev ns : List ℕ
     ns = flat (spots width case text t)
 
-    call_laid : (s u : Bool) → leb (length cells) (length before) ≡ s → leb (length ns) (length map_before) ≡ u → call ≡ map_fitted s u cells ns before map_before
+    call_laid : call ≡ map_fitted (leb (length cells) (length before)) (leb (length ns) (length map_before)) cells ns before map_before
     unfolding mapped numbers
-    call_laid s u h k =
-        l
-        ∙ ap (λ (x : Outcome). mapped_as x (numbers width case text tape) before map_before) (was_laid width case text tape t p e)
-        ∙ ap (λ (x : Read Tree). mapped_as (laid cells) (numbers_of x (token_map original (config_of width case) text)) before map_before) e
-        ∙ ap (λ (b : Bool). map_fitted b (leb (length ns) (length map_before)) cells ns before map_before) h
-        ∙ ap (λ (b : Bool). map_fitted s b cells ns before map_before) k
+    call_laid = l ∙ rw (was_laid width case text tape t p e, e)
 
     count-numbers : length ns ≡ two_per_token t
     count-numbers = map-count original (config_of width case) text t
 
     call_13 : length before < length (formatted width case text t) → call ≡ record { answer = answer 13 (length (formatted width case text t)); space = before; map = map_before }
-    call_13 h =
-        call_laid false _ (lt-leb (length cells) (length before) (omega (arith, as_long width case text t))) refl
-        ∙ ap (λ (n : ℕ). record { answer = answer 13 n; space = before; map = map_before }) (sym (as_long width case text t))
+    call_13 h = call_laid ∙ rw (lt-leb (length cells) (length before) (omega (arith, as_long width case text t)), as_long width case text t)
 
     module _ (room : length (formatted width case text t) ≤ length before) where
       suffices : leb (length cells) (length before) ≡ true
       suffices = le-leb (length cells) (length before) (omega (arith, as_long width case text t))
 
       call_17 : length map_before < two_per_token t → call ≡ record { answer = answer 17 (two_per_token t); space = before; map = map_before }
-      call_17 h =
-          call_laid true false suffices (lt-leb (length ns) (length map_before) (omega (arith, count-numbers)))
-          ∙ ap (λ (n : ℕ). record { answer = answer 17 n; space = before; map = map_before }) count-numbers
+      call_17 h = call_laid ∙ rw (suffices, lt-leb (length ns) (length map_before) (omega (arith, count-numbers)), count-numbers)
 
       call_0 : two_per_token t ≤ length map_before → call ≡ map_fitted true true cells ns before map_before
-      call_0 h = call_laid true true suffices (le-leb (length ns) (length map_before) (omega (arith, count-numbers)))
+      call_0 h = call_laid ∙ rw (suffices, le-leb (length ns) (length map_before) (omega (arith, count-numbers)))
 
       module _ (map_room : two_per_token t ≤ length map_before) where
         -- the two numbers of a token
         numbers_of_lem : (i : ℕ) (p : Spot) → i < length (tokens t.kids) → get_or (spots width case text t) i no_spot ≡ p
             → (get_or map_after (2 * i) 0 ≡ p.line) × (get_or map_after (2 * i + 1) 0 ≡ p.column)
         numbers_of_lem i p h q =
-            let rest = drop (length ns) map_before in
-            let in_map : i < length (spots width case text t) = omega (arith, spots-count width case text t) in
-            let m = ap (λ (z : Mapped). z.map) (call_0 map_room) in (
-              ap (λ (z : List ℕ). get_or z (2 * i) 0) m ∙ flat_line (spots width case text t) rest i in_map ∙ ap (λ (z : Spot). z.line) q,
-              ap (λ (z : List ℕ). get_or z (2 * i + 1) 0) m ∙ flat-column (spots width case text t) rest i in_map ∙ ap (λ (z : Spot). z.column) q,
-            )
+            let k = flat-at (spots width case text t) (drop (length ns) map_before) i (omega (arith, spots-count width case text t)) in
+            rw (ap (λ (z : Mapped). z.map) (call_0 map_room), ← q) k
 
         -- a token that has a place is one of the tape's
         has_place_lem : (i n : ℕ) → get_or (first_bytes width case text t) i 0 ≡ suc n → i < length (tokens t.kids)
-        has_place_lem i n q = go (leb (length (tokens t.kids)) i) refl
-          where
-            go : (b : Bool) → leb (length (tokens t.kids)) i ≡ b → i < length (tokens t.kids)
-            go true h =
-                let k = places_count (config_of width case) text original.pick t (new_state, 0) in
-                absurd (omega (arith, q, get_or-eq_default (first_bytes width case text t) 0 {n = i} (omega (arith, leb-true (length (tokens t.kids)) i h))))
-            go false h = leb-false (length (tokens t.kids)) i h
+        has_place_lem i n q =
+            grind (arith, q, places_count (config_of width case) text original.pick t (new_state, 0), get_or_past (first_bytes width case text t) i 0)
 
         placed : Placed width case text tape before map_before r after map_after t
         placed =
             record {
-              answers = ap (λ (z : Mapped). z.answer) (call_0 map_room) ∙ ap (answer 0) (sym (as_long width case text t));
-              output =
-                  ap (λ (z : Mapped). z.space) (call_0 map_room)
-                  ∙ ap (λ (n : ℕ). formatted width case text t ++ drop n before) (sym (as_long width case text t));
+              answers = rw (as_long width case text t) (ap (λ (z : Mapped). z.answer) (call_0 map_room));
+              output = rw (as_long width case text t) (ap (λ (z : Mapped). z.space) (call_0 map_room));
               places =
                   λ i n q h.
                   let bs = take n (formatted width case text t) in
                   let x = numbers_of_lem i (spot_at (formatted width case text t) n) (has_place_lem i n q) (is-spot width case text t i n q h) in
                   (x.0 ∙ line_after bs first_spot, x.1 ∙ column-from_1 bs);
-              first = λ i n q h. first_byte width case text tape t p e i n (has_place_lem i n q) q h;
+              first = first_byte width case text tape t p e;
               has_place = written-place width case text tape t p e;
               no_place = λ i h q. numbers_of_lem i no_spot h (no_spot_lem width case text t i q);
               below_copy = λ i h q. numbers_of_lem i no_spot h (no_spot_lem width case text t i (copied_none width case text tape t p e i q));
-              empty_text = λ i h q. numbers_of_lem i no_spot h (no_spot_lem width case text t i (empty-none width case text tape t p e i h q));
+              empty_text = λ i h q. numbers_of_lem i no_spot h (no_spot_lem width case text t i (empty-none width case text tape t p e i q));
               trimmed = λ i h q. numbers_of_lem i no_spot h (trimmed-spot width case text t i q);
               past =
-                  ap (λ (z : Mapped). drop (two_per_token t) z.map) (call_0 map_room)
-                  ∙ drop_at ns (drop (length ns) map_before) (two_per_token t) count-numbers
-                  ∙ ap (λ (n : ℕ). drop n map_before) count-numbers;
+                  rw (ap (λ (z : Mapped). z.map) (call_0 map_room), ← count-numbers) (drop_at ns (drop (length ns) map_before) (length ns) refl);
             }
 
-  pub token-places : TokenPlaces width case text tape before map_before r after map_after
-  token-places =
+  pub token_places : TokenPlaces width case text tape before map_before r after map_after
+  token_places =
       record {
         refuses = λ f p e. parts (call_refused f p e);
         too_short = λ t p e h. parts (call_13 t p e h);
@@ -262,20 +205,18 @@ module _ (width case : ℕ) (a b : Text) (tape before_a before_b map_before_a ma
 
   -- whatever gives the newlines
   module _ {Allowed : Type 0} (weaken : Allowed → MaskedPairForLayout width case a b tape) (by_lines : Allowed → before_a ≡ before_b → map_before_a ≡ map_before_b → SameLines after_a after_b × (map_after_a ≡ map_after_b)) where
-    cells_alike : Allowed → before_a ≡ before_b → map_before_a ≡ map_before_b → (i : ℕ)
-        → CellLike a b (get_or (cells_a before_a map_before_a) i (fresh 0)) (get_or (cells_b before_b map_before_b) i (fresh 0))
-    cells_alike k e m i = rw (← e, ← m) (like_at a b (cells_a before_a map_before_a) (cells_b before_a map_before_a) (both.masked (weaken k) e m).1.alike i)
+    each-alike : Allowed → before_a ≡ before_b → map_before_a ≡ map_before_b → (i : ℕ)
+        → AlikeAt a b (cells_a before_a map_before_a) (cells_b before_b map_before_b) after_a after_b i
+    each-alike k e m =
+        alike_at a b (cells_a before_a map_before_a) (cells_b before_b map_before_b) after_a after_b space-a space-b
+        (rw (← e, ← m) (both.masked (weaken k) e m).1.alike)
 
     maps-alike_where : MapsAlikeWhere width case a b tape before_a before_b map_before_a map_before_b r after_a after_b map_after_a map_after_b Allowed
     maps-alike_where =
         record {
           answers = λ k e m. (both.masked (weaken k) e m).0;
-          same_place = λ k e m i. (cells_alike k e m i).origins;
-          alike =
-              λ k e m i g.
-              byte_at (cells_a before_a map_before_a) after_a space-a i
-              ∙ (cells_alike k e m i).bytes g
-              ∙ sym (byte_at (cells_b before_b map_before_b) after_b space-b i);
+          same_place = λ k e m i. (each-alike k e m i).0;
+          alike = λ k e m i. (each-alike k e m i).1;
           lines = λ k e m. (by_lines k e m).0;
           maps = λ k e m. (by_lines k e m).1;
         }
@@ -283,8 +224,8 @@ module _ (width case : ℕ) (a b : Text) (tape before_a before_b map_before_a ma
   pub maps-masked : MapsMasked width case a b tape before_a before_b map_before_a map_before_b r after_a after_b map_after_a map_after_b
   maps-masked =
       record {
-        call_a = token-places width case a tape before_a map_before_a r.0 after_a map_after_a both.first;
-        call_b = token-places width case b tape before_b map_before_b r.1 after_b map_after_b both.second;
+        call_a = token_places width case a tape before_a map_before_a r.0 after_a map_after_a both.first;
+        call_b = token_places width case b tape before_b map_before_b r.1 after_b map_after_b both.second;
         alike = maps-alike_where (pair-for_layout width case a b tape) both.by_lines;
         ascii = maps-alike_where (λ k. pair-for_layout width case a b tape (ascii-pair width case a b tape k)) (λ k. both.by_lines (ascii-pair width case a b tape k));
         stronger = maps-alike_where (λ k. k.0) (λ k e m. let x = both.masked k.0 e m in (x.1.lines k.1, x.2 k.1));

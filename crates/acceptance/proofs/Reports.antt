@@ -1,10 +1,9 @@
 -- Requests E6 and E7 follow from what reports promise.
-use mathlib.Core.Path.{◌≡◌, refl, sym, ap, subst, ◌∙◌}
+use mathlib.Core.Path.{◌≡◌, refl, sym, ap, subst}
 use mathlib.Core.Bool.{Bool, false}
 use mathlib.Core.List.{List, [], ◌∷◌, ◌++◌, map}
 use Prim.Native.Nat.{ℕ}
 use Rattle.keywords.specs.Words.{bytes}
-use Rattle.desk_job.specs.Written.{written}
 use Rattle.desk_job.specs.Job.{Answered, printed_answer, decimal, field, pair, refused_line}
 use Rattle.book.specs.declared.Tally.{Tally}
 use Rattle.book.specs.declared.Reported.{Reported}
@@ -38,34 +37,25 @@ zeros-line = refl
 module _ (more : Bool) (book : List ℕ) (held : Tally) (work before : List ℕ) (r : Reported) (after used : List ℕ)
     (h : ◌≡◌ {A = Called} (record { end = r.put; space = after; work = used; tally = r.tally }) (reported more book held work before)) where
   -- what is put, and the tally, by how the book opens
-  puts : (o : Opened ℕ BookFault) → opened more book ≡ o → Puts more book held before r after (report_of o book held work).lines
+  told-by : (o : Opened ℕ BookFault) → opened more book ≡ o → Puts more book held before r after (report_of o book held work).lines × (r.tally ≡ (report_of o book held work).tally)
   unfolding reported
-  puts o e =
-      ap (λ (c : Called). record { end = c.end; space = c.space }) h
-      ∙ ap (λ (x : Opened ℕ BookFault). written 0 (report_of x book held work).lines before) e
+  told-by o e = let k = rw e at h in (ap (λ (c : Called). record { end = c.end; space = c.space }) k, ap (λ (c : Called). c.tally) k)
 
-  tally-by : (o : Opened ℕ BookFault) → opened more book ≡ o → r.tally ≡ (report_of o book held work).tally
-  unfolding reported
-  tally-by o e = ap (λ (c : Called). c.tally) h ∙ ap (λ (x : Opened ℕ BookFault). (report_of x book held work).tally) e
+  tally-is : (jobs : ℕ) → opened more book ≡ Ok jobs → r.tally ≡ tallied zeros (map told_job (jobs_from jobs book 0))
+  unfolding report_of
+  tally-is jobs e = (told-by (Ok jobs) e).1
 
-  module _ (jobs : ℕ) (e : opened more book ≡ Ok jobs) where
-    tally-is : r.tally ≡ tallied zeros (map told_job (jobs_from jobs book 0))
-    unfolding report_of
-    tally-is = tally-by (Ok jobs) e
-
-    lines-put : Puts more book held before r after (job_lines 1 (map told_job (jobs_from jobs book 0)) ++ total_line r.tally)
-    unfolding report_of
-    lines-put =
-        puts (Ok jobs) e
-        ∙ ap (λ (t : Tally). written 0 (job_lines 1 (map told_job (jobs_from jobs book 0)) ++ total_line t) before) (sym tally-is)
+  lines-put : (jobs : ℕ) → opened more book ≡ Ok jobs → Puts more book held before r after (job_lines 1 (map told_job (jobs_from jobs book 0)) ++ total_line r.tally)
+  unfolding report_of
+  lines-put jobs e = rw (tally-is jobs e) ((told-by (Ok jobs) e).0)
 
   refusal-put : (f : BookFault) → opened more book ≡ Err f → Puts more book held before r after (refused_line (fault_number f) (fault_place f)) × (r.tally ≡ held)
   unfolding report_of
-  refusal-put f e = (puts (Err f) e, tally-by (Err f) e)
+  refusal-put f = told-by (Err f)
 
   empty-put : opened more book ≡ Ok 0 → Puts more book held before r after (bytes "total jobs 0 refused 0 bytes 0 lines 0" ++ (10 ∷ []))
   unfolding report_of jobs_from job_lines tallied
-  empty-put e = puts (Ok 0) e ∙ ap (λ (l : List ℕ). written 0 l before) zeros-line
+  empty-put e = rw (← zeros-line) ((told-by (Ok 0) e).0)
 
   pub report_over : ReportOver more book held before r after
   report_over =

@@ -1,5 +1,6 @@
 // What the customer is promised, one function for each demand: it makes the calls that the demand speaks of, asks nothing, and promises what
 // the demand says. Nobody calls these functions. They are the page to read first, and a promise that is weakened below fails here.
+// Text, tape, width and case are four parameters, and so are those of a report, as the C interface has them.
 #![tactic(auto)]
 
 ghost use Rattle.std.specs.Prelude.{◌≡◌, ltb, length};
@@ -25,6 +26,7 @@ use two_books::report_both;
 use two_calls::{layout_both, layout_map_both, layout_twice};
 
 // Demand 1: bad input is refused with its number and place, nothing is written, and nothing else is refused.
+#[tactic(auto, using(crate::proofs::Demands::demand1))]
 pub fn demand_1(
     text: &[u8],
     tape: &[u8],
@@ -38,6 +40,7 @@ pub fn demand_1(
 }
 
 // Demand 2: the bytes written are those of the definition that follows the source, and later bytes stay as they were.
+#[tactic(auto, using(crate::proofs::Demands::demand2))]
 pub fn demand_2(
     text: &[u8],
     tape: &[u8],
@@ -80,6 +83,7 @@ pub fn desk(job: &[u8], more: bool, out: &mut [u8]) -> usize
 }
 
 // E2: which of the three sorts of word it is, and a listed word's place.
+#[tactic(auto, using(crate::proofs::Requests::sort_of_word))]
 pub fn request_2(word: &[u8]) -> Word
     ensures { SortOfWord word.now result }
 {
@@ -87,6 +91,7 @@ pub fn request_2(word: &[u8]) -> Word
 }
 
 // E3: line and column of each token in the layout.
+#[tactic(auto, using(crate::proofs::Maps::token_places))]
 pub fn request_3(
     text: &[u8],
     tape: &[u8],
@@ -131,7 +136,9 @@ pub fn c_layout_map(
     qdesk_layout_map(text, tape, width, case, out, map)
 }
 
-// E4: the first entry of the list that is equal to a length and bytes, whatever they are, or none.
+// E4: the first entry of the list that is equal to a length and bytes, whatever they are, or none. The length may be more than the bytes have, so it is no
+// part of a slice.
+#[tactic(auto, using(crate::proofs::Requests::first_entry))]
 pub fn request_4(length: usize, bytes: &[u8]) -> Option<usize>
     ensures { FirstEntry length bytes.now result }
 {

@@ -2,14 +2,12 @@
 use mathlib.Core.Path.{◌≡◌, refl, ap}
 use mathlib.Core.Bool.{Bool, true, false, ◌&&◌, and-false, false≢true}
 use mathlib.Core.List.{List, [], ◌∷◌}
-use Prim.Native.Nat.{ℕ, suc, ◌+◌, ◌<◌}
-use native.Mathlib.Numerals.{add-one}
+use Prim.Native.Nat.{ℕ, suc}
 use borrow.Author.Tests.{eqb-true}
 use Rattle.std.proofs.lemmas.Bool.{and_parts}
 use lib.Dec.{T, eqb}
-use lib.ListN.{length, drop, get_or}
+use lib.ListN.{length}
 use lib.Pointwise.{pointwise}
-use lib.Seq.{drop-cons}
 use Rattle.basics.specs.Bytes.{same}
 
 -- both parts of a test that passed
@@ -24,16 +22,6 @@ same-lengths [] [] h = absurd (h refl)
 same-lengths [] (y ∷ ys) h = refl
 same-lengths (x ∷ xs) [] h = refl
 same-lengths (x ∷ xs) (y ∷ ys) h = rw (same-lengths xs ys (λ e. h (ap suc e))) (and-false (eqb x y))
-
-pub same-nil : same [] [] ≡ true
-unfolding same
-same-nil = refl
-
--- what a loop over both lists learns at an index
-pub same_step : (xs ys : List ℕ) (i : ℕ) → i < length xs → i < length ys
-    → same (drop i xs) (drop i ys) ≡ (eqb (get_or xs i 0) (get_or ys i 0) && same (drop (i + 1) xs) (drop (i + 1) ys))
-unfolding same
-same_step xs ys i h k = rw (add-one, drop-cons xs i 0 h, drop-cons ys i 0 k)
 
 pub same-equal : (xs ys : List ℕ) → same xs ys ≡ true → xs ≡ ys
 unfolding same

@@ -1,6 +1,6 @@
 -- Laws of the walk over a book.
-use mathlib.Core.Path.{◌≡◌, refl}
-use mathlib.Core.Bool.{Bool, true, false, ◌&&◌}
+use mathlib.Core.Path.{◌≡◌}
+use mathlib.Core.Bool.{Bool, true, false}
 use mathlib.Core.List.{List}
 use Prim.Native.Nat.{ℕ, zero, suc, ◌+◌, ◌-◌, ◌≤◌, ◌<◌}
 use native.Mathlib.Omega.{arith}
@@ -12,19 +12,11 @@ use Rattle.std.specs.Prelude.{Ok, Err}
 use Rattle.book.specs.declared.open.BookFault.TheVariants.{NotWhole, TooMany}
 use Rattle.book.specs.Book.{job_end, is_whole, walk, opened}
 
--- a command that stands whole
-module _ (book : List ℕ) (at : ℕ) (h : is_whole book at ≡ true) where
-  pub head-within : at + 5 ≤ length book
-  unfolding is_whole
-  head-within = leb-true (at + 5) (length book) (and_parts _ _ h).0
-
-  pub job_within : job_end book at ≤ length book
-  unfolding is_whole
-  job_within = leb-true (job_end book at) (length book) (and_parts (eqb (get_or book at 0) 32) _ (and_parts (leb (at + 5) (length book)) _ h).1).1
-
-pub job_after : (book : List ℕ) (at : ℕ) → at + 5 ≤ job_end book at
-unfolding job_end
-job_after book at = omega arith
+-- a command that stands whole, with its job; the test comes first, by which the check finds the law
+pub whole_job : (book : List ℕ) (at : ℕ) → is_whole book at ≡ true → (is_whole book at ≡ true) × (at + 5 ≤ job_end book at) × (job_end book at ≤ length book)
+unfolding is_whole job_end
+whole_job book at h =
+    let job = and_parts (eqb (get_or book at 0) 32) _ (and_parts (leb (at + 5) (length book)) _ h).1 in (h, omega arith, leb-true _ (length book) job.1)
 
 -- one step of the walk
 module _ (book : List ℕ) (at n : ℕ) where

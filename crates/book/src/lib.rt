@@ -29,7 +29,7 @@ pub struct Tally {
     pub lines: u64,
 }
 
-// As four numbers, in the record's order.
+// As four numbers, in the record's order, as the C interface has it.
 impl From<[u64; 4]> for Tally {
     ghost from_gives = { λ numbers tally. tally ≡ tally_of numbers };
 
@@ -54,6 +54,7 @@ impl From<Tally> for [u64; 4] {
 
 impl Tally {
     // One job more.
+    #[tactic(auto, unfolding(crate::specs::Tally::with_job, crate::specs::Tally::bytes_told, crate::specs::Tally::lines_told))]
     fn with_job(self, told: Result<LaidOut, Refusal>) -> Tally
         requires { Room self told }
         ensures { result ≡ with_job self told }
@@ -90,6 +91,7 @@ pub struct Reported {
 }
 
 // One job: it is answered in the working space, its line is put, and the tally is raised.
+#[tactic(auto, using(crate::proofs::Opening::whole_job))]
 fn next(book: &[u8], run: Run, work: &mut [u8; 65536], out: &mut Writer<'_>) -> Run
     requires { Ready book.now run }
     ensures { Stepped book.now run work.old out.old result work.new out.new }

@@ -1,9 +1,10 @@
 // What the routines of format_node.rs for files, statements and clauses do with their children: NAME_token at a token, NAME_before and
 // NAME_after around a child node, NAME_end at their end; NAME_local is what the local variables become after a child node. The arms that
 // most routines share come last, in `emit_other`. The loops that call these are in the crate `formatter`.
+// What `Room n` is, and why the context goes by value: context/src/lib.rt.
 #![tactic(auto)]
 
-ghost use Rattle.std.specs.Prelude.{◌≡◌, cond, not, ◌&&◌, [], ◌∷◌, ◌*◌, ◌<◌, eqb, length};
+ghost use Rattle.std.specs.Prelude.{◌≡◌, cond, not, ◌&&◌, [], ◌∷◌, eqb};
 ghost use Rattle.context.specs.Store.{Room};
 ghost use Rattle.basics.specs.Match.{among};
 ghost use Rattle.tape.specs.Kinds.{SelectStatement, UnionClause};
@@ -15,12 +16,12 @@ ghost use Rattle.tokens.specs.TokenPromises.{ArmActed, ArmDone, Spaced, SpacedUn
 
 use context::FormatterContext;
 use layout::Local;
-use tape::facts::{has_list, several_list_items};
+use tape::facts::Facts;
 use tape::syntax_kind;
 use tokens::{
     Arm, Settings, Token, blank_line, blank_line_before_comment, emit_comment, emit_other,
-    emit_spaced, emit_trivia, emit_uncommented, is_trivia, newline_if, no_space_after,
-    no_space_before, space_if, write_word,
+    emit_uncommented, newline_if, no_space_after, no_space_before, space_if, spaced_token,
+    write_word,
 };
 
 // ---- format_file
@@ -137,7 +138,7 @@ fn begin_block(out: &mut [u8], ctx: FormatterContext) -> FormatterContext
     ctx.write_newline(out).indent()
 }
 
-// The same where it is wanted.
+// begin_block where it is wanted.
 fn indent_if(out: &mut [u8], ctx: FormatterContext, wanted: bool) -> FormatterContext
     requires { Room 2 ctx }
     ensures { Spaced 2 (cond wanted (newline ∷ indent ∷ []) []) ctx out.old result out.new }
@@ -178,35 +179,25 @@ pub fn simple_clause_token(
     requires { Room 4 ctx }
     ensures { ArmDone settings.now token.entry simple_clause_token local ctx out.old result out.new }
 {
-    if is_trivia(token.kind) {
-        return Arm {
-            context: emit_trivia(settings, out, ctx, token),
-            local,
-        };
-    }
     let wanted = local.flag && !no_space_before(token.kind);
-    Arm {
-        context: emit_spaced(settings, out, ctx, token, wanted),
-        local: Local::flagged(!no_space_after(token.kind)),
-    }
+    let left = Local::flagged(!no_space_after(token.kind));
+    spaced_token(settings, out, ctx, local, token, wanted, left)
 }
 
 // ---- format_group_by_clause, format_order_by_clause
 
-// Whether the clause that opens at `at` holds no list node and more than one node, by what the check has noted.
-pub fn multi_item(facts: &[u8], at: usize, list: u16) -> bool
-    requires { at < 11 * length facts.now }
-    ensures { result ≡ (notes_several (facts_at facts.now at) && not (notes_list list (facts_at facts.now at))) }
+// Whether the clause holds no list node and more than one node, by what the check has noted of it.
+pub fn multi_item(facts: Facts, list: u16) -> bool
+    ensures { result ≡ (notes_several (facts_at facts.entry.facts.now facts.entry.at) && not (notes_list list (facts_at facts.entry.facts.now facts.entry.at))) }
 {
-    several_list_items(facts, at) && !has_list(facts, at, list)
+    facts.has_several() && !facts.has_list(list)
 }
 
-// Whether the child that opens at `at` is the clause's list and holds more than one item.
-pub fn several_items(facts: &[u8], at: usize, list: u16, kind: u16) -> bool
-    requires { at < 11 * length facts.now }
-    ensures { result ≡ (eqb kind list && notes_several (facts_at facts.now at)) }
+// Whether a child is the clause's list and holds more than one item, by what the check has noted of the child.
+pub fn several_items(facts: Facts, list: u16, kind: u16) -> bool
+    ensures { result ≡ (eqb kind list && notes_several (facts_at facts.entry.facts.now facts.entry.at)) }
 {
-    kind == list && several_list_items(facts, at)
+    kind == list && facts.has_several()
 }
 
 pub fn list_clause_token(

@@ -25,34 +25,28 @@ module _ (a b : Text) where
 
   pub like_append : (xs ys zs ws : List Cell) → Like a b xs ys → Like a b zs ws → Like a b (xs ++ zs) (ys ++ ws)
   like_append [] [] zs ws h k = k
-  like_append [] (y ∷ ys) zs ws h k = absurd h
-  like_append (x ∷ xs) [] zs ws h k = absurd h
   like_append (x ∷ xs) (y ∷ ys) zs ws h k = (h.0, like_append xs ys zs ws h.1 k)
+  like_append _ _ zs ws h k = absurd h
 
   pub like_length : (xs ys : List Cell) → Like a b xs ys → length xs ≡ length ys
   like_length [] [] h = refl
-  like_length [] (y ∷ ys) h = absurd h
-  like_length (x ∷ xs) [] h = absurd h
   like_length (x ∷ xs) (y ∷ ys) h = ap suc (like_length xs ys h.1)
+  like_length _ _ h = absurd h
 
   pub like_at : (xs ys : List Cell) → Like a b xs ys → (i : ℕ) → CellLike a b (get_or xs i (fresh 0)) (get_or ys i (fresh 0))
   like_at [] [] h i = cell_self
-  like_at [] (y ∷ ys) h i = absurd h
-  like_at (x ∷ xs) [] h i = absurd h
   like_at (x ∷ xs) (y ∷ ys) h zero = h.0
   like_at (x ∷ xs) (y ∷ ys) h (suc i) = like_at xs ys h.1 i
+  like_at _ _ h i = absurd h
 
   like_take : (n : ℕ) (xs ys : List Cell) → Like a b xs ys → Like a b (take n xs) (take n ys)
   like_take zero xs ys h = tt
   like_take (suc n) [] [] h = tt
-  like_take (suc n) [] (y ∷ ys) h = absurd h
-  like_take (suc n) (x ∷ xs) [] h = absurd h
   like_take (suc n) (x ∷ xs) (y ∷ ys) h = (h.0, like_take n xs ys h.1)
+  like_take (suc n) _ _ h = absurd h
 
   pub like_in_case : (uppercase : Bool) (xs ys : List Cell) → Like a b xs ys → Like a b (map (cell_in_case uppercase) xs) (map (cell_in_case uppercase) ys)
   like_in_case u [] [] h = tt
-  like_in_case u [] (y ∷ ys) h = absurd h
-  like_in_case u (x ∷ xs) [] h = absurd h
   like_in_case u (x ∷ xs) (y ∷ ys) h =
       let k = h.0 in (
         record {
@@ -62,14 +56,13 @@ module _ (a b : Text) where
         },
         like_in_case u xs ys h.1,
       )
+  like_in_case u _ _ h = absurd h
 
   -- ── the same span of two texts of one length
 
   copied-like : (p : ℕ) (xs ys : List ℕ) → length xs ≡ length ys → ((i : ℕ) → i < length xs → get_or xs i 0 ≡ get_or a (p + i) 0)
       → ((i : ℕ) → i < length ys → get_or ys i 0 ≡ get_or b (p + i) 0) → Like a b (copied_from p xs) (copied_from p ys)
   copied-like p [] [] l f g = tt
-  copied-like p [] (y ∷ ys) l f g = absurd (omega arith)
-  copied-like p (x ∷ xs) [] l f g = absurd (omega arith)
   copied-like p (x ∷ xs) (y ∷ ys) l f g =
       let u : x ≡ get_or a p 0 = f 0 (omega arith) ∙ ap (λ (n : ℕ). get_or a n 0) (add-zero p) in
       let v : y ≡ get_or b p 0 = g 0 (omega arith) ∙ ap (λ (n : ℕ). get_or b n 0) (add-zero p) in (
@@ -82,6 +75,7 @@ module _ (a b : Text) where
             (λ i h. f (suc i) (omega arith) ∙ ap (λ (n : ℕ). get_or a n 0) (add-suc p i ∙ sym (suc-add p i)))
             (λ i h. g (suc i) (omega arith) ∙ ap (λ (n : ℕ). get_or b n 0) (add-suc p i ∙ sym (suc-add p i))),
       )
+  copied-like p _ _ l f g = absurd (omega arith)
 
   pub span-like : length a ≡ length b → (start end : ℕ) → Like a b (span_cells a start end) (span_cells b start end)
   span-like h s e = copied-like s (token_text a s e) (token_text b s e) (token-length_same a b s e h) (token-at a s e) (token-at b s e)
@@ -108,6 +102,5 @@ module _ (a b : Text) where
       where
         go : (xs ys : List Cell) → Like a b xs ys → Like a b (end_line xs) (end_line ys)
         go [] [] h = tt
-        go [] (y ∷ ys) h = absurd h
-        go (x ∷ xs) [] h = absurd h
         go (x ∷ xs) (y ∷ ys) h = like_append (x ∷ xs) (y ∷ ys) (fresh 10 ∷ []) (fresh 10 ∷ []) h (like_self (fresh 10 ∷ []))
+        go _ _ h = absurd h

@@ -1,6 +1,6 @@
 -- The bytes of cells, what a change of case keeps, and the text of a span.
 use mathlib.Core.Path.{◌≡◌, refl, sym, ap, ◌∙◌}
-use mathlib.Core.Bool.{Bool, true, false}
+use mathlib.Core.Bool.{Bool}
 use mathlib.Core.List.{List, [], ◌∷◌, ◌++◌, map}
 use Prim.Native.Nat.{ℕ, zero, suc, min, ◌+◌, ◌-◌, ◌≤◌, ◌<◌}
 use native.Mathlib.Nat.{min-le_left}
@@ -44,30 +44,25 @@ bytes-in_case uppercase (c ∷ cs) = ap {B = List ℕ} (λ r. to_case uppercase 
 
 white_in_case : (uppercase : Bool) (b : ℕ) → is_white_byte (to_case uppercase b) ≡ is_white_byte b
 unfolding is_white_byte to_uppercase to_lowercase
-white_in_case true b = grind (arith, nat_tests)
-white_in_case false b = grind (arith, nat_tests)
+white_in_case uppercase b = grind (arith, nat_tests)
 
 pub newline-in_case : (uppercase : Bool) (b : ℕ) → eqb (to_case uppercase b) 10 ≡ eqb b 10
 unfolding to_uppercase to_lowercase
-newline-in_case true b = grind (arith, nat_tests)
-newline-in_case false b = grind (arith, nat_tests)
+newline-in_case uppercase b = grind (arith, nat_tests)
 
 -- bytes above 127 stay, and no other becomes one
 case-high : (uppercase : Bool) (b : ℕ) → 128 ≤ b → to_case uppercase b ≡ b
 unfolding to_uppercase to_lowercase
-case-high true b h = grind (arith, nat_tests)
-case-high false b h = grind (arith, nat_tests)
+case-high uppercase b h = grind (arith, nat_tests)
 
 case-low : (uppercase : Bool) (b : ℕ) → b < 128 → to_case uppercase b < 128
 unfolding to_uppercase to_lowercase
-case-low true b h = grind (arith, nat_tests)
-case-low false b h = grind (arith, nat_tests)
+case-low uppercase b h = grind (arith, nat_tests)
 
 -- so the later bytes of characters are the same
 pub trailing_in_case : (uppercase : Bool) (b : ℕ) → is_trailing (to_case uppercase b) ≡ is_trailing b
 unfolding is_trailing holds to_uppercase to_lowercase
-trailing_in_case true b = grind (arith, nat_tests)
-trailing_in_case false b = grind (arith, nat_tests)
+trailing_in_case uppercase b = grind (arith, nat_tests)
 
 pub trimmed-in_case : (uppercase : Bool) (bs : List ℕ) → trimmed_length (map (to_case uppercase) bs) ≡ trimmed_length bs
 trimmed-in_case uppercase = trimmed_length-map (to_case uppercase) (case-high uppercase) (case-low uppercase) (white_in_case uppercase)

@@ -1,21 +1,19 @@
 -- Laws of trimmed lengths in a row.
-use mathlib.Core.Path.{◌≡◌, refl, sym, ap, ◌∙◌}
+use mathlib.Core.Path.{◌≡◌, sym, ap, ◌∙◌}
 use mathlib.Core.List.{List, ◌++◌}
 use Prim.Native.Nat.{ℕ, zero, suc, ◌+◌}
-use native.Mathlib.Nat.{zero-add, add-suc, add-zero}
+use native.Mathlib.Nat.{add-zero}
 use native.Mathlib.Omega.{arith}
 use lib.ListN.{replicate}
 use Rattle.utf8.specs.Trimming.{trimmed_length, trimmed_after, is_white_byte}
 use Rattle.utf8.proofs.Trimming.{trimmed-cons, trimmed-one}
 
 pub after_none : (j : ℕ) → trimmed_after 0 0 j ≡ j
-after_none zero = refl
-after_none (suc m) = zero-add (suc m)
+after_none j = grind arith
 
 -- three lists in a row
 pub after-after : (l k n i j : ℕ) → trimmed_after l k (trimmed_after n i j) ≡ trimmed_after (l + n) (trimmed_after l k i) j
-after-after l k n i zero = refl
-after-after l k n i (suc m) = rw (add-suc n m) (omega arith)
+after-after l k n i j = grind arith
 
 -- so many blanks, and then a text
 pub trimmed-lead : (n : ℕ) (xs : List ℕ) (l k : ℕ)

@@ -73,7 +73,7 @@ appended-none s c xs =
 
 module _ (cs : List Cell) (bs : List ℕ) (e : bytes_of cs ≡ bs) (s : State) (w : Store) where
   same_bytes : (t : State) (l x y : List Cell) → bytes_of x ≡ bytes_of y → stored (t, record { lead = l; body = x }) w ≡ stored (t, record { lead = l; body = y }) w
-  same_bytes t l x y q = ap (λ (z : List ℕ). appended t z w) (bytes-append l x ∙ ap (λ (z : List ℕ). bytes_of l ++ z) q ∙ sym (bytes-append l y))
+  same_bytes t l x y q = cc (bytes-append l x, bytes-append l y)
 
   fixed-bytes : bytes_of (fixed bs) ≡ bytes_of cs
   fixed-bytes = bytes-fixed bs ∙ sym e
@@ -87,7 +87,7 @@ module _ (cs : List Cell) (bs : List ℕ) (e : bytes_of cs ≡ bs) (s : State) (
   stored-keyword config =
       let u = config.uppercase_keywords in
       same_bytes _ (lead config s) (map (cell_in_case u) (fixed bs)) (map (cell_in_case u) cs)
-      (bytes-in_case u (fixed bs) ∙ ap (map (to_case u)) fixed-bytes ∙ sym (bytes-in_case u cs))
+      (cc (bytes-in_case u (fixed bs), bytes-in_case u cs, fixed-bytes))
 
   pub stored-raw : stored (write_raw (fixed bs) s) w ≡ stored (write_raw cs s) w
   unfolding write_raw

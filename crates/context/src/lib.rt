@@ -23,16 +23,19 @@ ghost use Rattle.utf8.specs.Trimming.{trimmed_after};
 ghost use Rattle.context.specs.Store.{Changed, Room, Took, Wrote, advanced, after_text, new, stored};
 
 pub use buffer::{copy, count_newlines, put, put_in_case, put_short};
-use utf8::{is_white_byte, trimmed_from_end};
+use std::mem;
+use utf8::{is_white_byte, trimmed_length};
 
-// What the caller sets. The width is bounded where it is asked for and not in the type, since the definition of the layout has every width.
+// What the caller sets. The width is bounded where it is asked for and not in the type, since the definition of the layout has every width. The flag is a
+// setting of its own and says of no other field whether it holds.
 #[derive(Clone, Copy)]
 pub struct FormatConfig {
     pub indent_width: usize,
     pub uppercase_keywords: bool,
 }
 
-// Eight bytes, with none left over: bytes between the fields would be handed on as if they were some.
+// Eight bytes, with none between the fields, which would be copied with them. The flags are marks of the source's context, each
+// of its own.
 #[derive(Clone, Copy)]
 pub struct State {
     pub indent_level: u32,
@@ -44,7 +47,7 @@ pub struct State {
     pub pending_blank_line: bool,
 }
 
-// How many bytes were written, and how many of them are left once the trailing white space is dropped.
+// How many bytes were written, and how many of them are left once the trailing white space is dropped. Counts and no slice: the lent space may be shorter.
 #[derive(Clone, Copy)]
 pub struct Position {
     pub length: usize,
@@ -94,7 +97,7 @@ impl Position {
         requires { self.length + blanks + length text.now < 2 ^ 64 }
         ensures { result ≡ advanced (replicate blanks 32 ++ text.now) self }
     {
-        self.after_text(blanks, text.len(), trimmed_from_end(text))
+        self.after_text(blanks, text.len(), trimmed_length(text))
     }
 
     // The same of a text of n bytes, j of which are left once its trailing white space is dropped.
@@ -114,12 +117,16 @@ impl Position {
         requires { self.length + blanks + 1 < 2 ^ 64 }
         ensures { result ≡ advanced (replicate blanks 32 ++ (b ∷ [])) self }
     {
+        // A count, as `trimmed_length` would answer.
         let left = if is_white_byte(b) { 0 } else { 1 };
         self.after_text(blanks, 1, left)
     }
 }
 
-// A method that writes asks for room, so that no sum wraps, and for a width and a text within the limits that the entry tests.
+// A method that writes asks for room, so that no sum wraps, and for a width and a text within the limits that the entry tests. `Room n` is room for n
+// writes: each function asks for as many as it makes. A type that counts them down would need a computed const argument, which Rattle has not.
+// The context goes by value, in all crates, beside the settings, the output space and the token, since a struct of them would go through memory at each
+// token.
 impl FormatterContext {
     // No derived Default: at the beginning a line starts.
     pub fn new() -> FormatterContext
@@ -191,14 +198,7 @@ impl FormatterContext {
         requires indent_width_bound { config.indent_width ≤ 16 }
         ensures { Wrote 1 (stored (write_token config (fresh sign ∷ []) self.state) (self, out.old)) self result out.new }
     {
-        let at = self.position.length;
-        let blanks = self.lead_blanks(config);
-        buffer::fill_at(out, at, blanks, 32);
-        buffer::fill_at(out, at + blanks, 1, sign);
-        FormatterContext {
-            state: self.state.after_write(false),
-            position: self.position.after_byte(blanks, sign),
-        }
+        self.write_token(config, out, &[sign])
     }
 
     pub fn is_at_line_start(self) -> bool
@@ -225,23 +225,19 @@ impl FormatterContext {
         self
     }
 
-    // The mark, and the context without it. This and the next are two names of the source, for one field each.
+    // The mark, and the context without it. This and the next are no plainer as one: it would be told which field to take.
     #[tactic(auto, unfolding(crate::specs::Context::take_pending_newline))]
     pub fn take_pending_newline(mut self) -> (bool, FormatterContext)
         ensures { Took (take_pending_newline self.state) self result }
     {
-        let mark = self.state.pending_newline;
-        self.state.pending_newline = false;
-        (mark, self)
+        (mem::take(&mut self.state.pending_newline), self)
     }
 
     #[tactic(auto, unfolding(crate::specs::Context::take_pending_blank_line))]
     pub fn take_pending_blank_line(mut self) -> (bool, FormatterContext)
         ensures { Took (take_pending_blank_line self.state) self result }
     {
-        let mark = self.state.pending_blank_line;
-        self.state.pending_blank_line = false;
-        (mark, self)
+        (mem::take(&mut self.state.pending_blank_line), self)
     }
 
     #[tactic(auto, unfolding(crate::specs::Context::indent))]

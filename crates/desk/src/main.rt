@@ -4,6 +4,7 @@
 use std::io;
 use std::io::Write;
 
+// The arrays lie on the stack, since there is no heap.
 fn main(rt: HostRuntime) -> io::Result<()> {
     let mut job = [0u8; 65536];
     let mut out = [0u8; 65536];

@@ -1,5 +1,5 @@
 -- What the header's tests say.
-use mathlib.Core.Path.{◌≡◌, refl, sym, ◌∙◌}
+use mathlib.Core.Path.{◌≡◌, sym, ◌∙◌}
 use mathlib.Core.Bool.{Bool, true, false, cond, not}
 use mathlib.Core.List.{List}
 use Prim.Native.Nat.{ℕ, ◌≤◌}
@@ -7,6 +7,7 @@ use native.Mathlib.Omega.{arith}
 use lib.ListN.{length, get_or}
 use lib.Dec.{ltb}
 use borrow.Author.Tests.{ltb-false}
+use Rattle.std.proofs.lemmas.Bool.{cond_both}
 use Rattle.std.specs.Prelude.{Result, Ok, Err}
 use Rattle.desk_job.specs.declared.Header.{Header}
 use Rattle.desk_job.specs.Job.{has_command, text_end, read_header, accepted}
@@ -20,27 +21,26 @@ answered-true e n = sym e ∙ n
 
 -- ── where the text of an accepted job ends
 
-passed : {h : Header} (b : Bool) (p : ℕ) (rest : Result Header ℕ) → Ok h ≡ cond b (Err p) rest → Ok h ≡ rest
-passed true p rest e = (cc)
-passed false p rest e = e
+-- the text of an accepted job ends within it
+abbrev pub Within : List ℕ → Result Header ℕ → Type 0
+Within job (Ok h) = (9 ≤ h.end) × (h.end ≤ length job)
+Within job (Err p) = Unit {0}
+
+passed : (job : List ℕ) (b : Bool) (p : ℕ) (rest : Result Header ℕ) → Within job rest → Within job (cond b (Err p) rest)
+passed job true p rest w = tt
+passed job false p rest w = w
 
 text-after_header : (job : List ℕ) → 9 ≤ text_end job
 unfolding text_end
 text-after_header job = omega arith
 
-module _ (job : List ℕ) (h : Header) where
-  text-within : (b : Bool) (w k : ℕ) → ltb (length job) (text_end job) ≡ b → ◌≡◌ {A = Result Header ℕ} (Ok h) (cond b (Err 4) (accepted w k (text_end job))) → (9 ≤ h.end) × (h.end ≤ length job)
-  text-within true w k t e = (cc)
-  text-within false w k t e =
-      let f : h.end ≡ text_end job = (cc) in
-      (rw f (text-after_header job), rw f (ltb-false (length job) (text_end job) t))
-
-  pub accepted-within : (more : Bool) → Ok h ≡ read_header more job → (9 ≤ h.end) × (h.end ≤ length job)
-  unfolding read_header
-  accepted-within more e =
-      text-within (ltb (length job) (text_end job)) (get_or job 1 0) (get_or job 3 0) refl
-      (passed (not (has_command job 4 9 18)) 4 _
-      (passed (not (has_command job 2 4 17)) 2 _
-      (passed (not (has_command job 0 2 16)) 0 _
-      (passed (ltb 65536 (length job)) 65536 _
-      (passed more 65536 _ e)))))
+pub header_within : (more : Bool) (job : List ℕ) → Within job (read_header more job)
+unfolding read_header
+header_within more job =
+    passed job more 65536 _
+    (passed job (ltb 65536 (length job)) 65536 _
+    (passed job (not (has_command job 0 2 16)) 0 _
+    (passed job (not (has_command job 2 4 17)) 2 _
+    (passed job (not (has_command job 4 9 18)) 4 _
+    (cond_both (ltb (length job) (text_end job)) (Err 4) (accepted (get_or job 1 0) (get_or job 3 0) (text_end job)) (Within job) (λ _. tt)
+    (λ e. (text-after_header job, ltb-false (length job) (text_end job) e)))))))

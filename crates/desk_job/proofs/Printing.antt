@@ -1,9 +1,8 @@
 -- From what `layout` promises to how a job is answered, and from there to what is printed.
-use mathlib.Core.Path.{◌≡◌, refl, ap, subst, ◌∙◌}
+use mathlib.Core.Path.{◌≡◌, refl, sym, ap, subst, ◌∙◌}
 use mathlib.Core.Bool.{Bool, true, false, cond}
-use mathlib.Core.List.{List, [], ◌∷◌, ◌++◌}
+use mathlib.Core.List.{List, ◌++◌}
 use Prim.Native.Nat.{ℕ, ◌-◌, ◌≤◌}
-use native.Mathlib.Nat.{le_of_suc-le-suc, not-suc-le-zero}
 use native.Mathlib.Omega.{arith}
 use lib.ListN.{length, take, drop, length-drop, length-map}
 use lib.Dec.{leb}
@@ -11,13 +10,14 @@ use lib.Seq.{take_all}
 use borrow.Author.Tests.{leb-true}
 use Rattle.context.specs.Cells.{Cell, bytes_of}
 use Rattle.context.specs.Splice.{splice}
+use Rattle.context.proofs.Splicing.{splice-front}
 use Rattle.tape.specs.declared.Fault.{Fault}
-use Rattle.tape.specs.declared.Fault.TheVariants.{IndentWidth, CaseByte, TextTooLong, IllFormed, TapeTooLong, UnknownCommand, CutCommand, UnknownKind, KindNotCarried, SpanOutside, TooDeep, NotOneRoot, InsideCharacter, WordNotAscii}
 use Rattle.tape.specs.Faults.{number}
 use Rattle.layout.specs.declared.Answer.{Answer}
 use Rattle.layout.specs.declared.Refused.TheVariants.{Input, OutputSpace, MapSpace}
 use Rattle.layout.specs.Layout.{original}
-use Rattle.layout.specs.Outcome.{Outcome, refusal, laid, Result, fitted, laid_out, outcome}
+use Rattle.layout.specs.Outcome.{Outcome, answer, refusal, laid, Result, fitted, laid_out, outcome}
+use Rattle.layout.proofs.AnswerNumbers.{answer_of-injective}
 use Rattle.std.specs.Prelude.{Ok, Err, Result as Checked}
 use Rattle.desk_job.specs.declared.Header.{Header as HeaderNumbers}
 use Rattle.desk_job.specs.declared.JobRefused.{JobRefused}
@@ -27,20 +27,10 @@ use Rattle.desk_job.proofs.Writing.{Wrote, wrote}
 
 -- no refusal has the number 0
 positive : (f : Fault) → 1 ≤ number f
-positive IndentWidth = omega arith
-positive CaseByte = omega arith
-positive TextTooLong = omega arith
-positive IllFormed = omega arith
-positive TapeTooLong = omega arith
-positive UnknownCommand = omega arith
-positive CutCommand = omega arith
-positive UnknownKind = omega arith
-positive KindNotCarried = omega arith
-positive SpanOutside = omega arith
-positive TooDeep = omega arith
-positive NotOneRoot = omega arith
-positive InsideCharacter = omega arith
-positive WordNotAscii = omega arith
+positive f =
+    let none : number f ≡ 0 → ⊥ =
+    λ z. let e = answer_of-injective (Err (Input (record { fault = f; at = 0 }))) (Ok 0) (ap (λ (n : ℕ). answer n 0) z) in cc in
+    omega arith
 
 pub some_number : (r : JobRefused) → refusal_number r ≡ 0 → ⊥
 some_number (Header p) z = absurd (omega (arith, z))
@@ -49,21 +39,13 @@ some_number (Layout (OutputSpace n)) z = absurd (omega (arith, z))
 some_number (Layout (MapSpace n)) z = absurd (omega (arith, z))
 
 pub splice_front : (bs xs : List ℕ) → length bs ≤ length xs → bs ++ drop (length bs) xs ≡ splice 0 bs xs
-unfolding splice
-splice_front [] [] h = refl
-splice_front [] (x ∷ xs) h = refl
-splice_front (b ∷ bs) [] h = absurd (not-suc-le-zero h)
-splice_front (b ∷ bs) (x ∷ xs) h = ap (λ (r : List ℕ). b ∷ r) (splice_front bs xs (le_of_suc-le-suc h))
+splice_front bs xs h = splice-front bs xs bs (length bs) (omega (arith, h)) (sym (take_all (length bs) bs (omega arith)))
 
 -- ── how a job is answered
 
-bytes-leave : (cs : List Cell) (xs : List ℕ) → fitted true cs xs ≡ leaves (text (bytes_of cs)) xs
-unfolding leaves
-bytes-leave cs xs = rw (length-map cs (λ (c : Cell). c.byte))
-
 fitted-leaves : (b : Bool) (cs : List Cell) (xs : List ℕ) → fitted b cs xs ≡ leaves (cond b (text (bytes_of cs)) (refused 13 (length cs))) xs
 unfolding leaves
-fitted-leaves true cs xs = bytes-leave cs xs
+fitted-leaves true cs xs = rw (length-map cs (λ (c : Cell). c.byte))
 fitted-leaves false cs xs = refl
 
 pub laid-leaves : (o : Outcome) (xs : List ℕ) → laid_out o xs ≡ leaves (answered_outcome o (length xs)) xs

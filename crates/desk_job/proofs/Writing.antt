@@ -1,14 +1,17 @@
 -- Laws of `written`: nothing, one byte, writes in a row, and a loop; and of the digits.
 use mathlib.Core.Path.{◌≡◌, refl, sym, ap, ◌∙◌}
 use mathlib.Core.List.{List, [], ◌∷◌, ◌++◌}
-use Prim.Native.Nat.{ℕ, zero, suc, min, ◌+◌, ◌-◌, ◌/◌, ◌%◌, ◌≤◌, ◌<◌}
-use native.Mathlib.Nat.{suc-ne-zero, zero-min, suc-min-suc}
-use native.Mathlib.Numerals.{sub-one}
+use Prim.Native.Nat.{ℕ, zero, suc, min, ◌+◌, ◌-◌, ◌/◌, ◌%◌, ◌≤◌, ◌<◌, ◌^◌}
+use mathlib.Core.Logic.{inl, inr}
 use native.Mathlib.Omega.{arith, min_cases}
-use lib.ListN.{length, take, drop, length-append}
+use lib.ListN.{length, take, drop, length-append, drop_of_length-le}
 use borrow.Author.Tests.{lt-ltb, le-ltb}
 use Rattle.context.specs.Splice.{splice}
-use Rattle.context.proofs.Splicing.{splice-nil, splice-splice, splice-past}
+use Rattle.context.proofs.Splicing.{splice-front, splice-nil, splice-splice, splice-past}
+use Rattle.std.proofs.Common.{decimal as all_digits}
+use Rattle.std.proofs.lemmas.Fmt.{decimal_step, decimal_digit}
+use Rattle.std.proofs.lemmas.Bool.{cases_lt}
+use Rattle.std.proofs.lemmas.List.{drop-append-le}
 use Rattle.desk_job.specs.Job.{decimal}
 use Rattle.desk_job.specs.Written.{Written, written}
 use Rattle.desk_job.specs.Puts.{Puts}
@@ -66,16 +69,9 @@ wrote_then {r} {s} {out} {end} at ps bs xs h k =
 
 -- ── a text written in one go, as far as the space goes
 
-front : (bs xs : List ℕ) → take (min (length bs) (length xs)) bs ++ drop (min (length bs) (length xs)) xs ≡ splice 0 bs xs
-unfolding splice
-front [] [] = refl
-front [] (x ∷ xs) = rw zero-min
-front (b ∷ bs) [] = let z : min (length (b ∷ bs)) 0 ≡ 0 = omega arith in rw z
-front (b ∷ bs) (x ∷ xs) = rw suc-min-suc (ap (λ (r : List ℕ). b ∷ r) (front bs xs))
-
 text_put : (at n : ℕ) (bs xs : List ℕ) → at ≤ length xs → n ≡ min (length bs) (length xs - at) → take at xs ++ (take n bs ++ drop n (drop at xs)) ≡ splice at bs xs
 unfolding splice
-text_put zero n bs xs h e = let f : n ≡ min (length bs) (length xs) = omega (arith, e) in rw f (front bs xs)
+text_put zero n bs xs h e = splice-front bs xs (take n bs) n (omega (arith, e)) refl
 text_put (suc at) n bs [] h e = absurd (omega (arith, h))
 text_put (suc at) n bs (x ∷ xs) h e = ap (λ (r : List ℕ). x ∷ r) (text_put at n bs xs (omega (arith, h)) (omega (arith, e)))
 
@@ -99,17 +95,20 @@ puts_all z s h e o = rw (e, o, ← z, ← s) h.wrote
 
 -- ── the digits
 
-pub decimal-none : (places n : ℕ) → places ≡ 0 → decimal places n ≡ []
+-- the last digits of a number, as many as there are places
+pub last-digits : (places n : ℕ) → n < 2 ^ 64 → decimal places n ≡ drop (length (all_digits n) - places) (all_digits n)
 unfolding decimal
-decimal-none zero n z = refl
-decimal-none (suc k) n z = absurd (suc-ne-zero k z)
-
-pub decimal-last : (places n : ℕ) → (places ≡ 0 → ⊥) → n < 10 → decimal places n ≡ (48 + n % 10) ∷ []
-unfolding decimal
-decimal-last zero n z l = absurd (z refl)
-decimal-last (suc k) n z l = let e : n % 10 ≡ n = omega (arith, l) in simp (lt-ltb n 10 l, e)
-
-pub decimal-more : (places n : ℕ) → (places ≡ 0 → ⊥) → 10 ≤ n → decimal places n ≡ decimal (places - 1) (n / 10) ++ ((48 + n % 10) ∷ [])
-unfolding decimal
-decimal-more zero n z l = absurd (z refl)
-decimal-more (suc k) n z l = rw (sub-one) (simp (le-ltb n 10 l))
+last-digits zero n h = sym (drop_of_length-le (all_digits n) (omega arith))
+last-digits (suc k) n h =
+    elim (cases_lt n 10) [
+      | inl l ↦
+          let d = (48 + n) ∷ [] in
+          let all : length d - suc k ≡ 0 = omega arith in
+          rw (lt-ltb n 10 l, decimal_digit n l, all)
+      | inr g ↦
+          let ds = all_digits (n / 10) in
+          let d = (48 + n % 10) ∷ [] in
+          let step : all_digits n ≡ ds ++ d = decimal_step n g h in
+          let from : length (ds ++ d) - suc k ≡ length ds - k = rw length-append (omega arith) in
+          rw (le-ltb n 10 g, step, from, drop-append-le (length ds - k) ds d (omega arith)) (ap (λ (xs : List ℕ). xs ++ d) (last-digits k (n / 10) (omega arith)))
+    ]

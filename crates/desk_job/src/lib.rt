@@ -14,6 +14,13 @@ use layout::Refused;
 use tape::commands::u32_at;
 use write::Writer;
 
+// The first byte of each header command: the indent's width, the case of keywords, the text's length.
+const WIDTH: u8 = 0x10;
+
+const CASE: u8 = 0x11;
+
+const TEXT: u8 = 0x12;
+
 // What the three header commands say, and where the text ends.
 #[derive(Clone, Copy)]
 pub struct Header {
@@ -22,7 +29,7 @@ pub struct Header {
     pub end: usize,
 }
 
-// Why a job is refused: for its header, at a place; or as `layout` refuses what it holds.
+// Why a job is refused: for its header, at a place; or as `layout` refuses what it holds. Each case has a value, so that it is no Option.
 #[derive(Clone, Copy, Debug, PartialEq, Eq)]
 pub enum JobRefused {
     Header(u64),
@@ -37,6 +44,7 @@ impl From<Refused> for JobRefused {
     }
 }
 
+// Two methods and no trait, as of `Refused` (layout/src/lib.rt).
 impl JobRefused {
     // The refusal's number.
     pub fn number(self) -> u64
@@ -60,6 +68,8 @@ impl JobRefused {
 }
 
 // The command has to stand at `at`, whole up to `end`, and is refused there. The place lies before the end, so the test of the end is one of the place.
+// A place in the job, since a refusal names it.
+#[tactic(auto, using(std::proofs::lemmas::Bool::Decides::nat_tests), unfolding(crate::specs::Job::has_command))]
 fn check_command(job: &[u8], at: usize, end: usize, command: u8) -> Result<(), u64>
     requires { at < end }
     ensures { MatchResult result (λ _. (end ≤ length job.now) × (has_command job.now at end command ≡ true)) (λ place. (place ≡ at) × (has_command job.now at end command ≡ false)) }
@@ -71,6 +81,7 @@ fn check_command(job: &[u8], at: usize, end: usize, command: u8) -> Result<(), u
 }
 
 // Where the text ends: its length is the third command's operand, which must be whole.
+#[tactic(auto, unfolding(crate::specs::Job::text_end))]
 fn text_end(job: &[u8]) -> usize
     requires { 9 ≤ length job.now }
     ensures { result ≡ text_end job.now }
@@ -79,15 +90,16 @@ fn text_end(job: &[u8]) -> usize
 }
 
 // The header, or where it is refused. `more`: whether the input goes on after the job's bytes; apart from them, since a book hands its jobs on with `false`.
+#[tactic(auto, using(std::proofs::lemmas::Bool::Decides::nat_tests), unfolding(crate::specs::Job::read_header))]
 fn read_header(job: &[u8], more: bool) -> Result<Header, u64>
     ensures { result ≡ read_header more job.now }
 {
     if more || 65536 < job.len() {
         return Err(65536);
     }
-    check_command(job, 0, 2, 0x10)?;
-    check_command(job, 2, 4, 0x11)?;
-    check_command(job, 4, 9, 0x12)?;
+    check_command(job, 0, 2, WIDTH)?;
+    check_command(job, 2, 4, CASE)?;
+    check_command(job, 4, 9, TEXT)?;
     let end = text_end(job);
     if job.len() < end {
         return Err(4);
@@ -103,19 +115,15 @@ fn read_header(job: &[u8], more: bool) -> Result<Header, u64>
 pub fn answer_job(job: &[u8], more: bool, out: &mut [u8]) -> Result<usize, JobRefused>
     ensures { ◌≡◌ {A = CallResult} (record { answer = job_answer result; space = out.new }) (leaves (answered more job.now (length out.old)) out.old) }
 {
-    match read_header(job, more) {
-        Err(place) => Err(JobRefused::Header(place)),
-        Ok(header) => {
-            let length = layout(
-                &job[9..header.end],
-                &job[header.end..],
-                header.width,
-                header.case,
-                out,
-            )?;
-            Ok(length)
-        }
-    }
+    let header = read_header(job, more).map_err(JobRefused::Header)?;
+    let length = layout(
+        &job[9..header.end],
+        &job[header.end..],
+        header.width,
+        header.case,
+        out,
+    )?;
+    Ok(length)
 }
 
 // "refused N at P" and a newline.

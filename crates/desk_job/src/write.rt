@@ -39,17 +39,14 @@ impl<'a> Writer<'a> {
         self.end = end;
     }
 
-    // The decimal digits of n, at most `places` of them. Not by std's `fmt`, which says what it has written only where it answers Ok, and not when it does.
+    // The decimal digits of n, the last ones where they are more than `places`.
     pub fn put_decimal(&mut self, places: usize, n: u64)
         ensures { Puts self.old (decimal places n) self.new }
     {
-        if places == 0 {
-            return;
-        }
-        if 10 <= n {
-            self.put_decimal(places - 1, n / 10);
-        }
-        self.put_all(&[b'0' + (n % 10) as u8]);
+        let mut buffer = itoa::Buffer::new();
+        let digits = buffer.format(n).as_bytes();
+        let from = digits.len().saturating_sub(places);
+        self.put_all(&digits[from..]);
     }
 
     // A label and a number after it.

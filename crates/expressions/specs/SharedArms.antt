@@ -1,11 +1,9 @@
 -- What arms that several routines share do.
-use Rattle.std.specs.Prelude.{ℕ, Bool, List, [], ◌∷◌}
+use Rattle.std.specs.Prelude.{ℕ, List, [], ◌∷◌}
 use Rattle.basics.specs.Match.{match}
 use Rattle.tape.specs.Kinds
-use Rattle.layout.specs.declared.Local.{Local}
 use Rattle.layout.specs.Arms.{Act, spacing, space, Sign, write_sign, comma, opening_round_bracket, closing_round_bracket, opening_square_bracket, closing_square_bracket, opening_curly_brace, closing_curly_brace, Seen}
 use Rattle.layout.specs.Tokens.{note_skipped_whitespace, emit_token}
-use Rattle.layout.specs.Routines.{after, or_else, spaced}
 use Rattle.expressions.specs.declared.Brackets.{Brackets}
 use Rattle.expressions.specs.declared.Brackets.TheVariants.{Round, Square, Curly}
 
@@ -31,7 +29,3 @@ list_token b t =
     ∷ ((closing b).0, write_sign (closing b).1 ∷ [])
     ∷ [])
     (emit_token t)
-
--- a token after a space, where it is wanted; its kind goes before the next
-abbrev pub spaced_token : Bool → Local → Seen → Local × List Act
-spaced_token wanted l t = or_else l t (after t.kind, spaced wanted (emit_token t))

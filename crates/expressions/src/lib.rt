@@ -1,6 +1,7 @@
 // What the routines of format_node.rs for lists, expressions and all other nodes do with their children: NAME_token at a token, NAME_before and
 // NAME_after around a child node, NAME_end at their end; NAME_local is what the local variables become after a child node. The arms that
 // most routines share come last, in `emit_other`. The loops that call these are in the crate `formatter`.
+// What `Room n` is, and why the context goes by value: context/src/lib.rt.
 #![tactic(auto)]
 
 ghost use Rattle.std.specs.Prelude.{◌≡◌, not, ◌&&◌, eqb};
@@ -11,15 +12,15 @@ ghost use Rattle.layout.specs.Arms.{sign_byte};
 ghost use Rattle.layout.specs.Tokens.{no_space_before};
 ghost use Rattle.layout.specs.Routines.{alter_command_list_token, binary_token, brace_list_token, bracket_list_token, case_token, case_word, comma_list_token, data_type_token, format_case_expression, function_call_token, inline_comma_list_token, inline_tight_parens_token, inline_token, name_before, paren_list_token, passthrough_token, space_after, subquery_token, unary_token, when_token, when_word};
 ghost use Rattle.tokens.specs.TokenPromises.{ActedOn, ArmActed, ArmDone, Spaced};
-ghost use Rattle.expressions.specs.SharedArms.{closing, list_token, opening, spaced_token};
+ghost use Rattle.expressions.specs.SharedArms.{closing, list_token, opening};
 
 use context::FormatterContext;
 use keywords::is_word;
 use layout::Local;
 use tape::syntax_kind;
 use tokens::{
-    Arm, Settings, Token, emit_comment, emit_other, emit_spaced, emit_trivia, emit_uncommented,
-    is_operator, is_trivia, name_before, newline_if, no_space_before, space_after, write_text,
+    Arm, Settings, Token, emit_comment, emit_other, emit_trivia, emit_uncommented, is_operator,
+    is_trivia, name_before, newline_if, no_space_before, space_after, spaced_token, write_text,
     write_word,
 };
 
@@ -154,6 +155,8 @@ fn case_word(
     write_word(settings, out, ctx.write_space(), token)
 }
 
+// This and when_clause_token differ in the function that a bare word goes to. A trait of both words, with its law and an impl for each, would be longer
+// than the one function that it saves.
 pub fn case_expression_token(
     settings: &Settings,
     out: &mut [u8],
@@ -196,6 +199,7 @@ fn when_word(
     write_word(settings, out, ctx, token).write_space()
 }
 
+// Beside case_expression_token, which says why they are two.
 pub fn when_clause_token(
     settings: &Settings,
     out: &mut [u8],
@@ -380,31 +384,7 @@ fn space_between_tight(kind: u16, prev: Option<u16>) -> bool
     !suppress_space && space_between(kind, prev)
 }
 
-// White space and comments leave the local variables as they are; any other token goes after a space, where it is wanted.
-#[inline(always)]
-fn spaced_token(
-    settings: &Settings,
-    out: &mut [u8],
-    ctx: FormatterContext,
-    local: Local,
-    token: Token,
-    wanted: bool,
-) -> Arm
-    requires { Room 4 ctx }
-    ensures { ArmDone settings.now token.entry (spaced_token wanted) local ctx out.old result out.new }
-{
-    if is_trivia(token.kind) {
-        return Arm {
-            context: emit_trivia(settings, out, ctx, token),
-            local,
-        };
-    }
-    Arm {
-        context: emit_spaced(settings, out, ctx, token, wanted),
-        local: Local::after(token.kind),
-    }
-}
-
+// This and inline_token are no plainer as one: they differ in the test that they call.
 pub fn inline_tight_parens_token(
     settings: &Settings,
     out: &mut [u8],
@@ -416,7 +396,8 @@ pub fn inline_tight_parens_token(
     ensures { ArmDone settings.now token.entry inline_tight_parens_token local ctx out.old result out.new }
 {
     let wanted = space_between_tight(token.kind, local.prev);
-    spaced_token(settings, out, ctx, local, token, wanted)
+    let left = Local::after(token.kind);
+    spaced_token(settings, out, ctx, local, token, wanted, left)
 }
 
 pub fn inline_token(
@@ -430,7 +411,8 @@ pub fn inline_token(
     ensures { ArmDone settings.now token.entry inline_token local ctx out.old result out.new }
 {
     let wanted = space_between(token.kind, local.prev);
-    spaced_token(settings, out, ctx, local, token, wanted)
+    let left = Local::after(token.kind);
+    spaced_token(settings, out, ctx, local, token, wanted, left)
 }
 
 // ---- format_passthrough

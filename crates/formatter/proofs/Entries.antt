@@ -1,13 +1,11 @@
 -- From the walk to the call.
-use mathlib.Core.Bool.{Bool, true}
 use mathlib.Core.Path.{◌≡◌, refl, sym, ap, subst, ◌∙◌}
 use mathlib.Core.List.{List, [], ◌∷◌, ◌++◌, map}
 use Prim.Native.Nat.{ℕ, zero, suc, ◌+◌, ◌*◌, ◌^◌, ◌≤◌, ◌<◌}
 use native.Mathlib.Omega.{arith}
+use Rattle.std.proofs.lemmas.Bool.Decides.{nat_tests}
 use lib.ListN.{length, take, drop, set, replicate, length-map}
-use lib.Dec.{leb}
 use lib.Seq.{length-take-le, take_all, take-append_seam, take-take}
-use borrow.Author.Tests.{le-leb, lt-leb, lt-ltb, ne_eqb}
 use Rattle.utf8.specs.Trimming.{trimmed_length}
 use Rattle.utf8.proofs.Trimming.{trimmed-le}
 use Rattle.context.specs.Cells.{Cell, bytes_of}
@@ -20,7 +18,7 @@ use Rattle.context.proofs.Splicing.{splice-covers}
 use Rattle.context.proofs.Trimming.{after_none}
 use Rattle.tape.specs.declared.Head.{Head}
 use Rattle.tape.specs.declared.Passed.{Passed}
-use Rattle.std.specs.Prelude.{Result as Answered, Ok, Err}
+use Rattle.std.specs.Prelude.{Ok, Err}
 use Rattle.tape.specs.declared.Refusal.{Refusal}
 use Rattle.tape.specs.Tree.{Tree, tokens}
 use Rattle.tape.specs.NodeFacts.{Noted, NotedOf}
@@ -33,20 +31,19 @@ use Rattle.layout.specs.declared.Refused.TheVariants.{Input}
 use Rattle.layout.specs.FormatNode.{format_node}
 use Rattle.layout.specs.Calls.{calls}
 use Rattle.layout.specs.Layout.{original, pieces_of, format}
-use Rattle.layout.specs.Run.{run}
 use Rattle.layout.specs.TokenMap.{places_from, no_spot, entry, token_map}
-use Rattle.layout.specs.MapCall.{flat, numbers_of, numbers, Mapped, map_fitted, mapped_as, mapped}
-use Rattle.layout.specs.Outcome.{Outcome, refusal, laid, of_read, config_of, outcome, Result, answer_of, fitted, laid_out}
+use Rattle.layout.specs.MapCall.{flat, numbers, Mapped, mapped}
+use Rattle.layout.specs.Outcome.{refusal, laid, of_read, config_of, outcome, Result, answer_of, laid_out}
 use Rattle.layout.specs.SpanStarts.{SpansStart}
 use Rattle.layout.proofs.EachCall.{each-call}
 use Rattle.layout.proofs.TokenMaps.{tokens-size, places_count, map-count}
 use Rattle.layout.proofs.PieceStarts.{StartsAt, TokenStarts, spans_start}
+use Rattle.layout.proofs.TwoCalls.{got_same}
 use Rattle.layout.proofs.Running.{after, run-appends, kept, finish-none, finish-length, finish-stored}
 use Rattle.formatter.specs.declared.Walk.{Walk}
-use Rattle.token_map.specs.Notes.{note_all}
 use Rattle.token_map.specs.Spots.{spots}
 use Rattle.token_map.proofs.NotedSpots.{noted-spots}
-use Rattle.formatter.specs.RoutinePromises.{NodeReady, NodeDone, seat}
+use Rattle.formatter.specs.RoutinePromises.{NodeReady, NodeDone}
 use Rattle.formatter.specs.Entry.{Ready, all_cells, Trims, Notes, WalkedInto, Holds, Fills, LaysOut, MapFits, Placed, MapFills, MapsOut}
 
 -- ── lists
@@ -54,9 +51,8 @@ use Rattle.formatter.specs.Entry.{Ready, all_cells, Trims, Notes, WalkedInto, Ho
 take-splice : (k : ℕ) (bs xs : List ℕ) → k ≤ length bs → k ≤ length xs → take k (splice 0 bs xs) ≡ take k bs
 unfolding splice
 take-splice zero bs xs h l = refl
-take-splice (suc k) [] xs h l = absurd (omega arith)
-take-splice (suc k) (b ∷ bs) [] h l = absurd (omega arith)
 take-splice (suc k) (b ∷ bs) (x ∷ xs) h l = ap {B = List ℕ} (λ r. b ∷ r) (take-splice k bs xs (omega arith) (omega arith))
+take-splice (suc k) _ _ h l = absurd (omega arith)
 
 -- ── the walk from the start
 
@@ -77,9 +73,6 @@ root-ready {text} {tape} {facts} {config} p q e =
       ap (λ (x : Head). x.kind) q,
     )
 
-same-tree : {t u : Tree} {p q : ℕ} → ◌≡◌ {A = Read Tree} (got t p) (got u q) → t ≡ u
-same-tree e = cc
-
 record Walked (bs xs : List ℕ) (w : Walk) (ys : List ℕ) : Type 0 where
   trimmed : w.context.position.trimmed ≡ trimmed_length bs
   bytes : ys ≡ splice 0 bs xs
@@ -91,15 +84,13 @@ unfolding pieces_of original appended advanced
 walked {text} {tape} {facts} {config} {c} {xs} {ys} {w = w} r e d t p q =
     let a = r.accepted in
     let u = d.all a.tree.kids a.kids in
-    let k : a.tree ≡ t = same-tree (sym a.read ∙ q) in
+    let k : a.tree ≡ t = got_same (sym a.read ∙ q) in
     let s : SpansStart text t = subst (SpansStart text) k r.starts in
     let X = all_cells config text t in
     let v : ◌≡◌ {A = Store} (w.context, ys) (appended (after config text (calls format_node text t) new_state) (bytes_of X) (new, xs)) =
-    u.did
-    ∙ ap (λ (h : Head). run config text (calls format_node text (record { head = h; kids = a.tree.kids })) (c, xs)) (sym a.root.head)
-    ∙ ap (λ (z : Tree). run config text (calls format_node text z) (c, xs)) k
-    ∙ ap (λ (z : FormatterContext). run config text (calls format_node text t) (z, xs)) e
-    ∙ run-appends config text (calls format_node text t) (new, xs) (each-call (TokenStarts config text) (StartsAt config text) format_node text t s.tokens s.copies) in
+    let f = run-appends config text (calls format_node text t) (new, xs) (each-call (TokenStarts config text) (StartsAt config text) format_node text t s.tokens s.copies) in
+    let h : a.tree ≡ record { head = head_at tape 0; kids = a.tree.kids } = ap (λ (h : Head). record { head = h; kids = a.tree.kids }) a.root.head in
+    cc (u.did) in
     let n : w.context.position.trimmed ≡ trimmed_length (bytes_of X) =
     ap (λ (z : Store). z.0.position.trimmed) v ∙ after_none (trimmed_length (bytes_of X)) in
     let l : w.context.position.length ≡ 0 + length (bytes_of X) = ap (λ (z : Store). z.0.position.length) v in
@@ -118,10 +109,9 @@ walked_notes {text} {tape} {config} {c} {ms = ms} r e d =
     record {
       all =
           λ t p q.
-          (d.all a.tree.kids a.kids).notes
-          ∙ ap (λ (h : Head). note_all (places_from config text format_node (record { head = h; kids = a.tree.kids }) (seat c)) ms) (sym a.root.head)
-          ∙ ap (λ (z : Tree). note_all (places_from config text format_node z (seat c)) ms) (same-tree (sym a.read ∙ q))
-          ∙ ap (λ (z : FormatterContext). note_all (places_from config text format_node t (seat z)) ms) e;
+          let h : a.tree ≡ record { head = head_at tape 0; kids = a.tree.kids } = ap (λ (h : Head). record { head = h; kids = a.tree.kids }) a.root.head in
+          let k : a.tree ≡ t = got_same (sym a.read ∙ q) in
+          cc ((d.all a.tree.kids a.kids).notes);
     }
 
 module _ {text tape facts : List ℕ} {config : FormatConfig} {c : FormatterContext} {w : Walk} (r : Ready text tape facts config) (e : c ≡ new) where
@@ -155,10 +145,7 @@ module _ {text tape : List ℕ} {config : FormatConfig} (k : ℕ) (n : Trims tex
             let lx = length-take-le k xs (omega arith) in
             let lb = length-take-le k bs fits in
             let same : splice 0 (take k vs) (take k xs) ≡ splice 0 bs (take k xs) =
-            ap (λ (s : List ℕ). splice 0 s (take k xs)) (d.all t p q l)
-            ∙ splice-covers (take k bs) (take k xs) (omega arith)
-            ∙ take-take (length (take k xs)) k bs (omega arith)
-            ∙ sym (splice-covers bs (take k xs) (omega arith)) in
+            cc (d.all t p q l, splice-covers (take k bs) (take k xs) (omega arith), take-take (length (take k xs)) k bs (omega arith), splice-covers bs (take k xs) (omega arith)) in
             e ∙ finish-stored X k xs (splice 0 (take k vs) (take k xs)) (n.all t p q) (λ x. omega arith) (omega arith) same;
       }
 
@@ -180,22 +167,17 @@ module _ (X : List Cell) (k : ℕ) (n : k ≡ kept X) where
 
   pub laid_none : (xs : List ℕ) → k ≡ 0 → ◌≡◌ {A = Result} (record { answer = record { number = 0; value = 0 }; space = xs }) (laid_out (laid (finish X)) xs)
   unfolding laid_out
-  laid_none xs z = rw (finish-none X (sym n ∙ z), le-leb 0 (length xs) (omega arith))
+  laid_none xs z = rw (finish-none X (sym n ∙ z)) (grind (arith, nat_tests))
 
   pub laid-short : (xs : List ℕ) → (k ≡ 0 → ⊥) → length xs ≤ k
       → ◌≡◌ {A = Result} (record { answer = record { number = 13; value = k + 1 }; space = xs }) (laid_out (laid (finish X)) xs)
   unfolding laid_out
-  laid-short xs z h =
-      ap (λ (m : ℕ). record { answer = record { number = 13; value = m }; space = xs }) (sym (length_some z))
-      ∙ ap (λ (b : Bool). fitted b (finish X) xs) (sym (lt-leb (length (finish X)) (length xs) (omega (arith, length_some z))))
+  laid-short xs z h = let l = length_some z in grind (arith, nat_tests)
 
   pub laid_done : (xs ys : List ℕ) → (k ≡ 0 → ⊥) → k < length xs → ys ≡ bytes_of (finish X) ++ drop (length (finish X)) xs
       → ◌≡◌ {A = Result} (record { answer = record { number = 0; value = k + 1 }; space = ys }) (laid_out (laid (finish X)) xs)
   unfolding laid_out
-  laid_done xs ys z h e =
-      rw e
-      (ap (λ (m : ℕ). record { answer = record { number = 0; value = m }; space = bytes_of (finish X) ++ drop (length (finish X)) xs }) (sym (length_some z))
-      ∙ ap (λ (b : Bool). fitted b (finish X) xs) (sym (le-leb (length (finish X)) (length xs) (omega (arith, length_some z)))))
+  laid_done xs ys z h e = let l = length_some z in grind (arith, nat_tests)
 
 -- ── the map where the tape is accepted
 
@@ -206,7 +188,7 @@ root-at r = let a = r.accepted in record { len = _; kids = a.tree.kids; inside =
 pub map-fits : {text tape facts : List ℕ} {config : FormatConfig} {j : Passed} → Ready text tape facts config → Skipped tape 0 j → MapFits text tape (2 * j.tokens)
 map-fits r s =
     let a = r.accepted in
-    record { all = λ t p q. ap (λ (n : ℕ). 2 * n) (s.counted _ a.tree.kids a.kids ∙ ap (λ (z : Tree). length (tokens z.kids)) (same-tree (sym a.read ∙ q))) }
+    record { all = λ t p q. ap (λ (n : ℕ). 2 * n) (s.counted _ a.tree.kids a.kids ∙ ap (λ (z : Tree). length (tokens z.kids)) (got_same (sym a.read ∙ q))) }
 
 pub tokens-few : {text tape facts : List ℕ} {config : FormatConfig} {j : Passed} → Ready text tape facts config → Skipped tape 0 j → j.tokens ≤ length tape
 tokens-few r s = let a = r.accepted in omega (arith, s.counted _ a.tree.kids a.kids, tokens-size a.tree.kids, a.whole)
@@ -222,8 +204,7 @@ placed {text} {tape} {config} {m} {n} {ns} f l o =
           λ t p q k bs.
           let ps = places_from config text format_node t (new_state, 0) in
           let size : m ≡ 2 * length ps = f.all t p q ∙ ap (λ (x : ℕ). 2 * x) (sym (places_count config text format_node t (new_state, 0))) in
-          ap (spots k bs) (ap (take m) (o.all t p q) ∙ ap (λ (x : ℕ). take x (note_all ps (replicate n 0))) size)
-          ∙ noted-spots k bs ps n (omega arith);
+          cc (o.all t p q, noted-spots k bs ps n (omega arith));
     }
 
 -- all of it, where the map itself was noted in
@@ -241,17 +222,12 @@ map-fills {text} {tape} {config} {k} {xs} {ys} {ns} {ls} trims z f o e =
           let X = all_cells config text t in
           let bs = bytes_of (finish X) in
           let all : length bs ≡ k + 1 = length-map (finish X) (λ (c : Cell). c.byte) ∙ length_some X k (trims.all t p q) (λ u. omega arith) in
-          let first : take (k + 1) ys ≡ bs =
-          ap (take (k + 1)) (f.all t p q) ∙ ap (λ (x : ℕ). take x (bs ++ drop (length (finish X)) xs)) (sym all) ∙ take-append_seam bs (drop (length (finish X)) xs) in
-          e
-          ∙ ap (λ (l : List ℕ). spots k l ns) first
-          ∙ o.all t p q k bs
-          ∙ ap (λ (j : ℕ). flat (map (entry j bs) (places_from config text format_node t (new_state, 0)))) (trims.all t p q);
+          let first = take-append_seam bs (drop (length (finish X)) xs) in
+          cc (f.all t p q, o.all t p q k bs, trims.all t p q);
     }
 
 no_spot_lem : (p : ℕ) (bs : List ℕ) → entry 0 bs p ≡ no_spot
-no_spot_lem zero bs = refl
-no_spot_lem (suc p) bs = rw (ne_eqb (suc p) 0 (λ e. omega (arith, e)), lt-ltb 0 (suc p) (omega arith))
+no_spot_lem p bs = grind (arith, nat_tests)
 
 no_spots : (bs ps : List ℕ) → replicate (2 * length ps) 0 ≡ flat (map (entry 0 bs) ps)
 no_spots bs [] = refl
@@ -269,21 +245,15 @@ module _ {text tape : List ℕ} {config : FormatConfig} {k : ℕ} (n : Trims tex
             λ t p q.
             let X = all_cells config text t in
             let l = length_some X k (n.all t p q) (λ e. omega arith) in
-            ap (λ (m : ℕ). record { answer = record { number = 13; value = m }; space = xs; map = ms }) (sym l)
-            ∙ ap (λ (b : Bool). map_fitted b (leb (length (flat (token_map original config text t))) (length ms)) (finish X) (flat (token_map original config text t)) xs ms)
-            (sym (lt-leb (length (finish X)) (length xs) (omega (arith, l))));
+            grind (arith, nat_tests);
       }
 
   laid-fits : (xs : List ℕ) → (0 < k → k < length xs) → (t : Tree) (p : ℕ) → read_tree (length text) tape ≡ got t p → length (format original config text t) ≤ length xs
   unfolding format
-  laid-fits xs h t p q = go k refl
-    where
-      X : List Cell
-      X = all_cells config text t
-
-      go : (j : ℕ) → k ≡ j → length (finish X) ≤ length xs
-      go zero e = omega (arith, ap length (finish-none X (sym (n.all t p q) ∙ e)))
-      go (suc j) e = omega (arith, length_some X k (n.all t p q) (λ u. omega arith), h (omega arith))
+  laid-fits xs h t p q =
+      let X = all_cells config text t in
+      let e = n.all t p q in
+      grind (arith, finish-none, finish-length)
 
   -- 17
   pub map-few : {xs ms : List ℕ} {c : ℕ} → (0 < k → k < length xs) → MapFits text tape c → length ms < c → MapsOut text tape config xs ms (record { number = 17; value = c }) xs ms
@@ -294,9 +264,8 @@ module _ {text tape : List ℕ} {config : FormatConfig} {k : ℕ} (n : Trims tex
             let cs = format original config text t in
             let ls = flat (token_map original config text t) in
             let size : c ≡ length ls = m.all t p q ∙ sym (map-count original config text t) in
-            ap (λ (x : ℕ). record { answer = record { number = 17; value = x }; space = xs; map = ms }) size
-            ∙ ap (λ (b : Bool). map_fitted true b cs ls xs ms) (sym (lt-leb (length ls) (length ms) (omega (arith, size))))
-            ∙ ap (λ (b : Bool). map_fitted b (leb (length ls) (length ms)) cs ls xs ms) (sym (le-leb (length cs) (length xs) (laid-fits xs h t p q)));
+            let fits = laid-fits xs h t p q in
+            grind (arith, nat_tests);
       }
 
   -- both fit
@@ -310,9 +279,8 @@ module _ {text tape : List ℕ} {config : FormatConfig} {k : ℕ} (n : Trims tex
             let cs = format original config text t in
             let ls = flat (token_map original config text t) in
             let size : c ≡ length ls = m.all t p q ∙ sym (map-count original config text t) in
-            rw (w t p q, f.all t p q, g.all t p q, size)
-            (ap (λ (b : Bool). map_fitted true b cs ls xs ms) (sym (le-leb (length ls) (length ms) (omega (arith, size))))
-            ∙ ap (λ (b : Bool). map_fitted b (leb (length ls) (length ms)) cs ls xs ms) (sym (le-leb (length cs) (length xs) (laid-fits xs h t p q))));
+            let fits = laid-fits xs h t p q in
+            rw (w t p q, f.all t p q, g.all t p q, size) (grind (arith, nat_tests));
       }
 
   pub laid-length : 0 < k → (t : Tree) (p : ℕ) → read_tree (length text) tape ≡ got t p → k + 1 ≡ length (format original config text t)
@@ -336,9 +304,7 @@ module _ {text tape : List ℕ} {config : FormatConfig} {k : ℕ} (n : Trims tex
             λ t p q.
             let ps = places_from config text format_node t (new_state, 0) in
             let bs = bytes_of (format original config text t) in
-            ap (λ (x : ℕ). replicate x 0) (m.all t p q ∙ ap (λ (x : ℕ). 2 * x) (sym (places_count config text format_node t (new_state, 0))))
-            ∙ no_spots bs ps
-            ∙ ap (λ (j : ℕ). flat (map (entry j bs) ps)) (sym z ∙ n.all t p q);
+            cc (m.all t p q, places_count config text format_node t (new_state, 0), no_spots bs ps, n.all t p q);
       }
 
 -- ── the whole calls
@@ -348,23 +314,19 @@ module _ (width case : ℕ) (text tape : List ℕ) where
   unfolding outcome
   refused-is r e = go (read_call width case text tape) e
     where
-      refusal_of : Answered (Unit {0}) Refusal → Outcome
-      refusal_of (Ok u) = laid []
-      refusal_of (Err r) = refusal r.fault r.at
-
       go : (x : Read Tree) → Err r ≡ verdict x → of_read x (format original (config_of width case) text) ≡ refusal r.fault r.at
-      go (refused g q) u = ap refusal_of (sym u)
+      go (refused g q) u = cc
       go (got t q) u = cc
 
   pub refused-layout : {r : Refusal} (xs : List ℕ) → Err r ≡ verdict (read_call width case text tape)
       → ◌≡◌ {A = Result} (record { answer = answer_of (Err (Input r)); space = xs }) (laid_out (outcome original width case text tape) xs)
   unfolding laid_out
-  refused-layout {r} xs e = sym (ap (λ (o : Outcome). laid_out o xs) (refused-is r e))
+  refused-layout {r} xs e = rw (refused-is r e)
 
   pub refused-map : {r : Refusal} (xs ms : List ℕ) → Err r ≡ verdict (read_call width case text tape)
       → ◌≡◌ {A = Mapped} (record { answer = answer_of (Err (Input r)); space = xs; map = ms }) (mapped width case text tape xs ms)
   unfolding mapped
-  refused-map {r} xs ms e = sym (ap (λ (o : Outcome). mapped_as o (numbers width case text tape) xs ms) (refused-is r e))
+  refused-map {r} xs ms e = rw (refused-is r e)
 
   module _ (e : Ok tt ≡ verdict (read_call width case text tape)) where
     call : AcceptedCall width case text tape
@@ -388,7 +350,7 @@ module _ (width case : ℕ) (text tape : List ℕ) where
         → ◌≡◌ {A = Result} (record { answer = r; space = ys }) (laid_out (outcome original width case text tape) xs)
     lays_out_lem {config} {r} {xs} {ys} c m =
         let u = subst (λ (z : FormatConfig). LaysOut text tape z xs r ys) c m in
-        u.all call.accepted.tree _ call.accepted.read ∙ ap (λ (o : Outcome). laid_out o xs) (sym accepted-is)
+        cc (u.all call.accepted.tree _ call.accepted.read, accepted-is)
 
     pub maps-out : {config : FormatConfig} {r : Answer} {xs ys ms ns : List ℕ} → config ≡ config_of width case → MapsOut text tape config xs ms r ys ns
         → ◌≡◌ {A = Mapped} (record { answer = r; space = ys; map = ns }) (mapped width case text tape xs ms)
@@ -396,6 +358,4 @@ module _ (width case : ℕ) (text tape : List ℕ) where
     maps-out {config} {r} {xs} {ys} {ms} {ns} c m =
         let u = subst (λ (z : FormatConfig). MapsOut text tape z xs ms r ys ns) c m in
         let t = call.accepted.tree in
-        u.all t _ call.accepted.read
-        ∙ ap (λ (o : Outcome). mapped_as o (flat (token_map original (config_of width case) text t)) xs ms) (sym accepted-is)
-        ∙ ap (λ (x : Read Tree). mapped_as (outcome original width case text tape) (numbers_of x (token_map original (config_of width case) text)) xs ms) (sym call.read)
+        cc (u.all t _ call.accepted.read, accepted-is, call.read)

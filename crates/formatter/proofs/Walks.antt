@@ -1,7 +1,7 @@
 -- The laws by which the routines and the dispatch meet their promises, one for each kind of need.
 use mathlib.Core.Path.{◌≡◌, refl, sym, ap, subst, ◌∙◌}
 use mathlib.Core.Bool.{Bool, true, false, cond, not, ◌&&◌, ◌||◌}
-use mathlib.Core.List.{List, ◌++◌, map}
+use mathlib.Core.List.{List, map}
 use Prim.Native.Nat.{ℕ, ◌+◌, ◌-◌, ◌*◌, ◌≤◌, ◌<◌}
 use native.Mathlib.Omega.{arith}
 use lib.ListN.{length, get_or, replicate}
@@ -62,12 +62,7 @@ module _ (config : FormatConfig) (source : Text) (r : Arms) (l : Local) (w : Sto
   run-node h kids rest N e =
       let a = r.at_node l h.kind (count_list_items kids) in
       let inside = calls format_node source (record { head = h; kids = kids }) in
-      run-append config source (map put_spacing a.1) _ w
-      ∙ ap (play (inside ++ (map put_spacing a.2 ++ walk format_node source r a.0 rest))) (run-spacing config source a.1 w)
-      ∙ run-append config source inside _ _
-      ∙ run-append config source (map put_spacing a.2) _ _
-      ∙ ap (play (walk format_node source r a.0 rest)) (run-spacing config source a.2 _)
-      ∙ ap (λ (n : Local × List Spacing × List Spacing). play (walk format_node source r n.0 rest) (run_spacing n.2 (play inside (run_spacing n.1 w)))) e
+      rw (run-append config source (map put_spacing a.1), run-append config source inside, run-append config source (map put_spacing a.2), run-spacing config source a.1, run-spacing config source a.2, e)
 
 -- ── the places of a row of children's tokens
 
@@ -93,8 +88,8 @@ module _ (config : FormatConfig) (source : Text) where
     notes-token {signs} g h rest v {w} ns e =
         let a = r.at_token l (seen source h) in
         let k = note-right g l h config source v.0 v.1 in
-        ap (λ (p : ℕ). note_all (places config source format_node r a.0 rest (seat_after config source (map (act_at h) a.1) (seated v))) (noted p ns)) (sym k ∙ ap (λ (x : Store). place_by signs source h x.0.position) (sym e))
-        ∙ ap (λ (x : Seat). note_all (places config source format_node r a.0 rest x) (noted (place_by signs source h w.0.position) ns)) (seat-made (map (act_at h) a.1) v e)
+        let u = seat-made (map (act_at h) a.1) v e in
+        cc
 
     notes-node : (h : Head) (kids rest : Children) (N : Local × List Spacing × List Spacing) (v w x : Store) {y : Store} (ns : List ℕ) → r.at_node l h.kind (count_list_items kids) ≡ N
         → w ≡ run_spacing N.1 v → x ≡ run config source (calls format_node source (record { head = h; kids = kids })) w → y ≡ run_spacing N.2 x
@@ -104,11 +99,7 @@ module _ (config : FormatConfig) (source : Text) where
     notes-node h kids rest N v w x {y} ns e before inside after =
         let cs = calls format_node source (record { head = h; kids = kids }) in
         let t : Tree = record { head = h; kids = kids } in
-        ap (λ (n : Local × List Spacing × List Spacing). note_all (places_from config source format_node t (seat_after config source (map put_spacing n.1) (seated v)) ++ places config source format_node r n.0 rest (seat_after config source (map put_spacing n.2) (seat_after config source cs (seat_after config source (map put_spacing n.1) (seated v))))) ns) e
-        ∙ ap (λ (u : Seat). note_all (places_from config source format_node t u ++ places config source format_node r N.0 rest (seat_after config source (map put_spacing N.2) (seat_after config source cs u))) ns) (seat-spaced N.1 v before)
-        ∙ ap (λ (u : Seat). note_all (places_from config source format_node t (seated w) ++ places config source format_node r N.0 rest (seat_after config source (map put_spacing N.2) u)) ns) (seat-made cs w inside)
-        ∙ ap (λ (u : Seat). note_all (places_from config source format_node t (seated w) ++ places config source format_node r N.0 rest u) ns) (seat-spaced N.2 x after)
-        ∙ note_all-append (places_from config source format_node t (seated w)) _ ns
+        rw (e, seat-spaced N.1 v before, seat-made cs w inside, seat-spaced N.2 x after) (note_all-append (places_from config source format_node t (seated w)) _ ns)
 
 -- ── the loop over a node's children; Q is the routine, once it is known
 
@@ -147,12 +138,8 @@ loop_first {source} {tape} {facts} {config} {left} {at} {c} R Q xs ms p e =
           let s = spelled-one _ _ _ _ p.kids all p.spelled z in
           record {
             at-end = omega (arith, ap size s);
-            same-run =
-                ap (λ (r : Arms). run config source (walk format_node source r r.begin all) (c, xs)) (e all z)
-                ∙ ap (λ (k : Children). run config source (walk format_node source Q Q.begin k) (c, xs)) (sym s);
-            same-notes =
-                ap (λ (r : Arms). note_all (places config source format_node r r.begin all (seat c)) ms) (e all z)
-                ∙ ap (λ (k : Children). note_all (places config source format_node Q Q.begin k (seat c)) ms) (sym s);
+            same-run = let k = e all z in cc;
+            same-notes = let k = e all z in cc;
           };
     }
 
@@ -209,17 +196,13 @@ module _ {source tape facts : List ℕ} {config : FormatConfig} {left at : ℕ} 
         rest = λ all y. record {
           at-end = omega (arith, (v.rest all y).at-end, ap size z.1);
           same-run =
-              (v.rest all y).same-run
-              ∙ ap (λ (x : Children). run config source (walk format_node source Q l x) (ctx, ys)) (z.1 ∙ ap (λ (x : Head). token x z.0) (sym q))
-              ∙ run-token config source Q l (ctx, ys) h z.0
-              ∙ ap (run config source (walk format_node source Q (Q.at_token l (seen source h)).0 z.0)) (sym d.did)
-              ∙ ap (λ (x : Local). run config source (walk format_node source Q x z.0) (a, zs)) (sym m);
+              let e = (v.rest all y).same-run in
+              let t = run-token config source Q l (ctx, ys) h z.0 in
+              cc;
           same-notes =
-              (v.rest all y).same-notes
-              ∙ ap (λ (x : Children). note_all (places config source format_node Q l x (seat ctx)) ns) (z.1 ∙ ap (λ (x : Head). token x z.0) (sym q))
-              ∙ notes-token config source Q l g h z.0 (ctx, ys) ns d.did
-              ∙ ap (note_all (places config source format_node Q (Q.at_token l (seen source h)).0 z.0 (seat a))) (sym o)
-              ∙ ap (λ (x : Local). note_all (places config source format_node Q x z.0 (seat a)) ls) (sym m);
+              let e = (v.rest all y).same-notes in
+              let t = notes-token config source Q l g h z.0 (ctx, ys) ns d.did in
+              cc;
         };
       }
 
@@ -283,22 +266,15 @@ module _ {source tape facts : List ℕ} {config : FormatConfig} {left at : ℕ} 
         rest = λ all x. record {
           at-end = omega (arith, (v.rest all x).at-end, ap size z.2, y.at);
           same-run =
-              (v.rest all x).same-run
-              ∙ ap (λ (t : Children). run config source (walk format_node source Q l t) (ctx, ys)) (z.2 ∙ ap (λ (t : Head). node t z.0 z.1) (sym q))
-              ∙ run-node config source Q l (ctx, ys) h z.0 z.1 N (j z.0 z.4)
-              ∙ ap (λ (u : Store). run config source (walk format_node source Q N.0 z.1) (run_spacing N.2 (run config source (calls format_node source (record { head = h; kids = z.0 })) u))) (sym before.did)
-              ∙ ap (λ (t : Head). run config source (walk format_node source Q N.0 z.1) (run_spacing N.2 (run config source (calls format_node source (record { head = t; kids = z.0 })) (a, zs)))) q
-              ∙ ap (λ (u : Store). run config source (walk format_node source Q N.0 z.1) (run_spacing N.2 u)) (sym y.did)
-              ∙ ap (run config source (walk format_node source Q N.0 z.1)) (sym after.did)
-              ∙ ap (λ (t : Local). run config source (walk format_node source Q t z.1) (b, vs)) (sym kept);
+              let r = (v.rest all x).same-run in
+              let t = run-node config source Q l (ctx, ys) h z.0 z.1 N (j z.0 z.4) in
+              cc (before.did, y.did, after.did);
           same-notes =
-              (v.rest all x).same-notes
-              ∙ ap (λ (t : Children). note_all (places config source format_node Q l t (seat ctx)) ns) (z.2 ∙ ap (λ (t : Head). node t z.0 z.1) (sym q))
-              ∙ notes-node config source Q l h z.0 z.1 N (ctx, ys) (a, zs) (w.context, us) ns (j z.0 z.4) before.did
-              (y.did ∙ ap (λ (t : Head). run config source (calls format_node source (record { head = t; kids = z.0 })) (a, zs)) (sym q)) after.did
-              ∙ ap (λ (t : Head). note_all (places config source format_node Q N.0 z.1 (seat b)) (note_all (places_from config source format_node (record { head = t; kids = z.0 }) (seat a)) ns)) q
-              ∙ ap (note_all (places config source format_node Q N.0 z.1 (seat b))) (sym y.notes)
-              ∙ ap (λ (t : Local). note_all (places config source format_node Q t z.1 (seat b)) ls) (sym kept);
+              let r = (v.rest all x).same-notes in
+              let t =
+              notes-node config source Q l h z.0 z.1 N (ctx, ys) (a, zs) (w.context, us) ns (j z.0 z.4) before.did
+              (y.did ∙ ap (λ (t : Head). run config source (calls format_node source (record { head = t; kids = z.0 })) (a, zs)) (sym q)) after.did in
+              cc (y.notes);
         };
       }
 
@@ -314,10 +290,8 @@ module _ {source tape facts : List ℕ} {config : FormatConfig} {left at : ℕ} 
         grew = omega (arith, d.spent.level, d.spent.length);
         all = λ all x. record {
           at = omega (arith, (v.rest all x).at-end, ap size z);
-          did =
-              d.did ∙ sym (run-done config source Q l (ctx, ys))
-              ∙ ap (λ (k : Children). run config source (walk format_node source Q l k) (ctx, ys)) (sym z) ∙ sym (v.rest all x).same-run;
-          notes = sym ((v.rest all x).same-notes ∙ ap (λ (k : Children). note_all (places config source format_node Q l k (seat ctx)) ns) z);
+          did = cc (d.did, run-done config source Q l (ctx, ys), (v.rest all x).same-run);
+          notes = cc ((v.rest all x).same-notes);
         };
       }
 
@@ -333,9 +307,9 @@ Decided source tape i kind b = (kids : Children) → SpelledAt (length source) t
 
 -- by what the check has noted, and the kind that the caller read
 module _ {source tape facts : List ℕ} {config : FormatConfig} {left at kind : ℕ} {c : FormatterContext} (p : NodeReady source tape facts config left at c) (q : kind ≡ (head_at tape at).kind) where
-  pub decided : {r b : Bool} → r ≡ noted_copied kind (facts_at facts at) → r ≡ b → Decided source tape at kind b
-  decided e t kids z =
-      sym t ∙ e
+  pub decided : {r b : Bool} {f : ℕ} → f ≡ facts_at facts at → r ≡ noted_copied kind f → r ≡ b → Decided source tape at kind b
+  decided s e t kids z =
+      sym t ∙ e ∙ ap (noted_copied kind) s
       ∙ ap (λ (x : Bool). x && not (eqb kind QueryList)) ((node-noted p kids z).error ∙ ap (λ (x : ℕ). eqb x Error || has_error_child kids) (sym q))
       ∙ copied-noted kind kids
 
@@ -345,8 +319,7 @@ by_kind : (config : FormatConfig) (source : Text) (h : Head) (kids : Children) (
     ≡ run config source (calls format_node source (record { head = h; kids = kids })) w
 unfolding calls
 by_kind config source h kids w {kind} q e =
-    ap (λ (x : Bool). run config source (cond x (format_error_verbatim h) (walk format_node source (format_node kind kids) (format_node kind kids).begin kids)) w) e
-    ∙ ap (λ (x : ℕ). run config source (cond (copied x kids) (format_error_verbatim h) (walk format_node source (format_node x kids) (format_node x kids).begin kids)) w) q
+    cc
 
 -- the same of the places
 by_kind_places : (config : FormatConfig) (source : Text) (h : Head) (kids : Children) (w : Seat) (ms : List ℕ) {kind : ℕ} {b : Bool} → kind ≡ h.kind → b ≡ copied kind kids
@@ -354,8 +327,7 @@ by_kind_places : (config : FormatConfig) (source : Text) (h : Head) (kids : Chil
     ≡ note_all (places_from config source format_node (record { head = h; kids = kids }) w) ms
 unfolding places_from
 by_kind_places config source h kids w ms {kind} q e =
-    ap (λ (x : Bool). note_all (cond x (no_places config source kids) (places config source format_node (format_node kind kids) (format_node kind kids).begin kids w)) ms) e
-    ∙ ap (λ (x : ℕ). note_all (cond (copied x kids) (no_places config source kids) (places config source format_node (format_node x kids) (format_node x kids).begin kids w)) ms) q
+    cc
 
 pub node-copied : {source tape facts : List ℕ} {config : FormatConfig} {left at kind : ℕ} {j : Passed} {c a : FormatterContext} {h : Head} {xs ys ms ns : List ℕ}
     → NodeReady source tape facts config left at c → kind ≡ (head_at tape at).kind → h ≡ head_at tape at → Decided source tape at kind true
@@ -368,12 +340,11 @@ node-copied {source} {tape} {config} {at = at} {c = c} {xs = xs} {ms = ms} p q e
       grew = omega (arith, d.spent.level, d.spent.length, s.past _ p.kids p.spelled, some_size p.kids);
       all = λ kids z. record {
         at = s.past _ kids z;
-        did =
-            d.did ∙ ap (λ (x : Head). run config source (format_error_verbatim x) (c, xs)) e
-            ∙ by_kind config source (head_at tape at) kids (c, xs) q (o kids z);
+        did = let k = by_kind config source (head_at tape at) kids (c, xs) q (o kids z) in cc (d.did);
         notes =
-            n ∙ ap (λ (x : ℕ). note_all (replicate x 0) ms) (s.counted _ kids z)
-            ∙ by_kind_places config source (head_at tape at) kids (seat c) ms q (o kids z);
+            let k = by_kind_places config source (head_at tape at) kids (seat c) ms q (o kids z) in
+            let u = s.counted _ kids z in
+            cc;
       };
     }
 
@@ -390,19 +361,13 @@ node_by {source} {tape} {config} {at} {kind} {c} {xs} {ms = ms} r q o e d =
           let y = d.all kids z in
           record {
             at = y.at;
-            did =
-                y.did
-                ∙ ap (λ (x : Routine). run config source (walk format_node source (arms_of x kids) (arms_of x kids).begin kids) (c, xs)) e
-                ∙ by_kind config source (head_at tape at) kids (c, xs) q (o kids z);
-            notes =
-                y.notes
-                ∙ ap (λ (x : Routine). note_all (places config source format_node (arms_of x kids) (arms_of x kids).begin kids (seat c)) ms) e
-                ∙ by_kind_places config source (head_at tape at) kids (seat c) ms q (o kids z);
+            did = let k = by_kind config source (head_at tape at) kids (c, xs) q (o kids z) in cc (y.did);
+            notes = let k = by_kind_places config source (head_at tape at) kids (seat c) ms q (o kids z) in cc (y.notes);
           };
     }
 
 -- the dispatch found r for the kind, which is s, and that the node is not copied
-pub routine_done : {source tape facts : List ℕ} {config : FormatConfig} {left at kind : ℕ} {c : FormatterContext} {r s : Routine} {copies : Bool} {xs ys ms ns : List ℕ} {w : Walk}
-    → NodeReady source tape facts config left at c → kind ≡ (head_at tape at).kind → r ≡ routine_of kind → r ≡ s → copies ≡ noted_copied kind (facts_at facts at) → copies ≡ false
+pub routine_done : {source tape facts : List ℕ} {config : FormatConfig} {left at kind : ℕ} {c : FormatterContext} {r s : Routine} {copies : Bool} {f : ℕ} {xs ys ms ns : List ℕ} {w : Walk}
+    → NodeReady source tape facts config left at c → kind ≡ (head_at tape at).kind → r ≡ routine_of kind → r ≡ s → f ≡ facts_at facts at → copies ≡ noted_copied kind f → copies ≡ false
     → RoutineDone source tape config at (arms_of s) c xs ms w ys ns → NodeDone source tape config at c xs ms w ys ns
-routine_done p q o e n f d = node_by _ q (decided p q n f) (sym e ∙ o) d
+routine_done p q o e g n f d = node_by _ q (decided p q g n f) (sym e ∙ o) d

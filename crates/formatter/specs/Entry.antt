@@ -20,8 +20,7 @@ use Rattle.token_map.specs.Spots.{spots}
 use Rattle.layout.specs.Outcome.{Result, laid, laid_out}
 use Rattle.formatter.specs.RoutinePromises.{Sizes}
 
--- the tape is accepted, its spans begin at bounds of characters, the check has noted what is true of each node of its tree, and the lent
--- table is the keyword list
+-- the tape is accepted, its spans begin at bounds of characters, and the check has noted what is true of each node of its tree
 pub record Ready (text tape facts : List ℕ) (config : FormatConfig) : Type 0 where
   pub sizes : Sizes text tape facts config
   pub accepted : AcceptedTape (length text) tape

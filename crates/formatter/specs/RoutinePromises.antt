@@ -34,8 +34,7 @@ pub record Grew (n i : ℕ) (c : FormatterContext) (j : ℕ) (r : FormatterConte
   pub level : r.state.indent_level + i + n ≤ c.state.indent_level + j
   pub length : r.position.length + 2 ^ 32 * (i + n) ≤ c.position.length + 2 ^ 32 * j
 
--- a node opens at i, the tape spells its children after it, at most so many levels deep, the check has noted what is true of each, and the lent
--- table is the keyword list
+-- a node opens at i, the tape spells its children after it, at most so many levels deep, and the check has noted what is true of each
 pub record NodeReady (source tape facts : List ℕ) (config : FormatConfig) (left i : ℕ) (c : FormatterContext) : Type 0 where
   pub sizes : Sizes source tape facts config
   pub inside : i + 11 ≤ length tape

@@ -1,7 +1,9 @@
 // What each routine does with its children, by the routine: its local variables at first; the arms of a token; what goes before and after a
 // child node; what becomes of the local variables then; its end. `multi` is what a list clause looks ahead for: whether it holds no list and
 // several nodes. `several` is whether the child node is its list and holds several items. No other routine asks for either.
-ghost use Rattle.std.specs.Prelude.{◌≡◌, ◌*◌, ◌<◌, Bool, length};
+// Each is a `match`, and no trait or closure stands for the routine: the loop and `node` call each other (tried: "in a cycle of calls whose functions differ
+// in their type parameters or bounds").
+ghost use Rattle.std.specs.Prelude.{◌≡◌, Bool};
 ghost use Rattle.context.specs.Store.{Room};
 ghost use Rattle.tape.specs.NodeFacts.{facts_at};
 ghost use Rattle.token_map.specs.Signed.{Signed};
@@ -24,6 +26,7 @@ use expressions::{
     paren_list_token, passthrough_token, subquery_token, unary_expression_token, when_clause_token,
 };
 use layout::{Local, Routine};
+use tape::facts::Facts;
 use tape::syntax_kind;
 use token_map::Signs;
 use tokens::{Arm, Settings, Token, emit_other, space_after, space_if};
@@ -38,27 +41,24 @@ pub(crate) fn begin(routine: Routine) -> Local
     }
 }
 
-// Whether a list clause holds no list and several nodes, by what the check has noted of it.
+// `multi_item` of a list clause; of no other routine.
 #[inline(always)]
-pub(crate) fn multi(facts: &[u8], at: usize, routine: Routine) -> bool
-    requires { at < 11 * length facts.now }
-    ensures { result ≡ noted_multi routine (facts_at facts.now at) }
+pub(crate) fn multi(facts: Facts, routine: Routine) -> bool
+    ensures { result ≡ noted_multi routine (facts_at facts.entry.facts.now facts.entry.at) }
 {
     match routine {
-        Routine::ListClause(list) => multi_item(facts, at, list),
+        Routine::ListClause(list) => multi_item(facts, list),
         _ => false,
     }
 }
 
-// Whether the child node that opens at `at` is the list of a list clause and holds several items, by what the check has noted of it.
+// `several_items` of a list clause; of no other routine.
 #[inline(always)]
-#[inline(always)]
-pub(crate) fn several(facts: &[u8], at: usize, routine: Routine, kind: u16) -> bool
-    requires { at < 11 * length facts.now }
-    ensures { result ≡ noted_several routine kind (facts_at facts.now at) }
+pub(crate) fn several(facts: Facts, routine: Routine, kind: u16) -> bool
+    ensures { result ≡ noted_several routine kind (facts_at facts.entry.facts.now facts.entry.at) }
 {
     match routine {
-        Routine::ListClause(list) => several_items(facts, at, list, kind),
+        Routine::ListClause(list) => several_items(facts, list, kind),
         _ => false,
     }
 }

@@ -1,7 +1,8 @@
 // format_node.rs: the loop over the children of a node, and the dispatch. They form one cycle of calls over the tape: with each call of
 // `node` a level less is left, and each pass of the loop moves on along the tape. `map` is where the places of tokens are noted; a plain layout
-// lends one of no numbers.
-ghost use Rattle.std.specs.Prelude.{◌≡◌, ◌*◌, ◌<◌, length};
+// lends one of no numbers. A walk goes by places on the tape, by which it also finds what is noted of a node: a pass moves on by what it has read, or
+// to where `node` ends.
+ghost use Rattle.std.specs.Prelude.{◌≡◌};
 ghost use Rattle.tape.specs.NodeFacts.{facts_at};
 ghost use Rattle.tape.specs.Tape.{head_at};
 ghost use Rattle.layout.specs.FormatNode.{arms_of, routine_of};
@@ -14,7 +15,7 @@ use context::FormatterContext;
 use dispatch::routine_of;
 use layout::Routine;
 use tape::commands::{CLOSE, TOKEN, head_at};
-use tape::facts::has_error;
+use tape::facts::Facts;
 use tape::scan::skip;
 use tape::syntax_kind;
 use token_map::{note_none, note_token};
@@ -37,7 +38,7 @@ fn children(
     requires { NodeReady source.now tape.now facts.now settings.now.config left at c × (routine ≡ routine_of (head_at tape.now at).kind) }
     ensures { RoutineDone source.now tape.now settings.now.config at (arms_of routine) c out.old map.old result out.new map.new }
 {
-    let multi = multi(facts, at, routine);
+    let multi = multi(Facts::at(facts, at), routine);
     let mut i = at + 11;
     let mut ctx = c;
     let mut local = begin(routine);
@@ -48,10 +49,10 @@ fn children(
             let a = token(settings, out, routine, multi, ctx, local, t);
             ctx = a.context;
             local = a.local;
-            note_token(map, source, h, ctx.position, signs(routine));
+            note_token(map, t.kind, t.text, ctx.position, signs(routine));
             i += 11;
         } else {
-            let several = several(facts, i, routine, h.kind);
+            let several = several(Facts::at(facts, i), routine, h.kind);
             let a = before(out, routine, multi, several, ctx, local, h.kind);
             let w = node(
                 source,
@@ -76,13 +77,12 @@ fn children(
     }
 }
 
-// Whether a node of the kind that opens at `at` is copied as typed: an Error node, or one that has an Error node as child and is no QueryList.
+// Whether a node of the kind is copied as typed: an Error node, or one that has an Error node as child and is no QueryList.
 #[inline(always)]
-fn is_copied(facts: &[u8], at: usize, kind: u16) -> bool
-    requires { at < 11 * length facts.now }
-    ensures { result ≡ noted_copied kind (facts_at facts.now at) }
+fn is_copied(facts: Facts, kind: u16) -> bool
+    ensures { result ≡ noted_copied kind (facts_at facts.entry.facts.now facts.entry.at) }
 {
-    has_error(facts, at) && kind != syntax_kind::QUERY_LIST
+    facts.has_error() && kind != syntax_kind::QUERY_LIST
 }
 
 // format_node. The caller has read the node's kind.
@@ -102,7 +102,7 @@ pub(crate) fn node(
     requires { NodeReady source.now tape.now facts.now settings.now.config left at c × (kind ≡ (head_at tape.now at).kind) }
     ensures { NodeDone source.now tape.now settings.now.config at c out.old map.old result out.new map.new }
 {
-    if is_copied(facts, at, kind) {
+    if is_copied(Facts::at(facts, at), kind) {
         let h = head_at(tape, at);
         let end = skip(tape, at);
         note_none(map, end.tokens);
@@ -114,330 +114,40 @@ pub(crate) fn node(
     }
     // A call for each routine, with the routine as a constant, so that the compiler makes a loop of its own for each: one that asks in each pass which
     // routine it is takes 15 % more instructions.
+    macro_rules! children_of {
+        ($routine:expr) => {
+            children(
+                source, settings, tape, facts, out, map, left, at, $routine, c,
+            )
+        };
+    }
     match routine_of(kind) {
-        Routine::File => children(
-            source,
-            settings,
-            tape,
-            facts,
-            out,
-            map,
-            left,
-            at,
-            Routine::File,
-            c,
-        ),
-        Routine::QueryList => children(
-            source,
-            settings,
-            tape,
-            facts,
-            out,
-            map,
-            left,
-            at,
-            Routine::QueryList,
-            c,
-        ),
-        Routine::SelectStatement => children(
-            source,
-            settings,
-            tape,
-            facts,
-            out,
-            map,
-            left,
-            at,
-            Routine::SelectStatement,
-            c,
-        ),
-        Routine::SelectClause => children(
-            source,
-            settings,
-            tape,
-            facts,
-            out,
-            map,
-            left,
-            at,
-            Routine::SelectClause,
-            c,
-        ),
-        Routine::SimpleClause => children(
-            source,
-            settings,
-            tape,
-            facts,
-            out,
-            map,
-            left,
-            at,
-            Routine::SimpleClause,
-            c,
-        ),
-        Routine::ListClause(list) => children(
-            source,
-            settings,
-            tape,
-            facts,
-            out,
-            map,
-            left,
-            at,
-            Routine::ListClause(list),
-            c,
-        ),
-        Routine::SettingsClause => children(
-            source,
-            settings,
-            tape,
-            facts,
-            out,
-            map,
-            left,
-            at,
-            Routine::SettingsClause,
-            c,
-        ),
-        Routine::WithClause => children(
-            source,
-            settings,
-            tape,
-            facts,
-            out,
-            map,
-            left,
-            at,
-            Routine::WithClause,
-            c,
-        ),
-        Routine::JoinClause => children(
-            source,
-            settings,
-            tape,
-            facts,
-            out,
-            map,
-            left,
-            at,
-            Routine::JoinClause,
-            c,
-        ),
-        Routine::Inline => children(
-            source,
-            settings,
-            tape,
-            facts,
-            out,
-            map,
-            left,
-            at,
-            Routine::Inline,
-            c,
-        ),
-        Routine::CommaList => children(
-            source,
-            settings,
-            tape,
-            facts,
-            out,
-            map,
-            left,
-            at,
-            Routine::CommaList,
-            c,
-        ),
-        Routine::InlineCommaList => children(
-            source,
-            settings,
-            tape,
-            facts,
-            out,
-            map,
-            left,
-            at,
-            Routine::InlineCommaList,
-            c,
-        ),
-        Routine::BinaryExpression => children(
-            source,
-            settings,
-            tape,
-            facts,
-            out,
-            map,
-            left,
-            at,
-            Routine::BinaryExpression,
-            c,
-        ),
-        Routine::UnaryExpression => children(
-            source,
-            settings,
-            tape,
-            facts,
-            out,
-            map,
-            left,
-            at,
-            Routine::UnaryExpression,
-            c,
-        ),
-        Routine::FunctionCall => children(
-            source,
-            settings,
-            tape,
-            facts,
-            out,
-            map,
-            left,
-            at,
-            Routine::FunctionCall,
-            c,
-        ),
-        Routine::CaseExpression => children(
-            source,
-            settings,
-            tape,
-            facts,
-            out,
-            map,
-            left,
-            at,
-            Routine::CaseExpression,
-            c,
-        ),
-        Routine::WhenClause => children(
-            source,
-            settings,
-            tape,
-            facts,
-            out,
-            map,
-            left,
-            at,
-            Routine::WhenClause,
-            c,
-        ),
-        Routine::Subquery => children(
-            source,
-            settings,
-            tape,
-            facts,
-            out,
-            map,
-            left,
-            at,
-            Routine::Subquery,
-            c,
-        ),
-        Routine::ParenList => children(
-            source,
-            settings,
-            tape,
-            facts,
-            out,
-            map,
-            left,
-            at,
-            Routine::ParenList,
-            c,
-        ),
-        Routine::BracketList => children(
-            source,
-            settings,
-            tape,
-            facts,
-            out,
-            map,
-            left,
-            at,
-            Routine::BracketList,
-            c,
-        ),
-        Routine::InlineNoSpaces => children(
-            source,
-            settings,
-            tape,
-            facts,
-            out,
-            map,
-            left,
-            at,
-            Routine::InlineNoSpaces,
-            c,
-        ),
-        Routine::BraceList => children(
-            source,
-            settings,
-            tape,
-            facts,
-            out,
-            map,
-            left,
-            at,
-            Routine::BraceList,
-            c,
-        ),
-        Routine::DataType => children(
-            source,
-            settings,
-            tape,
-            facts,
-            out,
-            map,
-            left,
-            at,
-            Routine::DataType,
-            c,
-        ),
-        Routine::InlineTightParens => children(
-            source,
-            settings,
-            tape,
-            facts,
-            out,
-            map,
-            left,
-            at,
-            Routine::InlineTightParens,
-            c,
-        ),
-        Routine::AlterCommandList => children(
-            source,
-            settings,
-            tape,
-            facts,
-            out,
-            map,
-            left,
-            at,
-            Routine::AlterCommandList,
-            c,
-        ),
-        Routine::UnionClause => children(
-            source,
-            settings,
-            tape,
-            facts,
-            out,
-            map,
-            left,
-            at,
-            Routine::UnionClause,
-            c,
-        ),
-        Routine::Passthrough => children(
-            source,
-            settings,
-            tape,
-            facts,
-            out,
-            map,
-            left,
-            at,
-            Routine::Passthrough,
-            c,
-        ),
+        Routine::File => children_of!(Routine::File),
+        Routine::QueryList => children_of!(Routine::QueryList),
+        Routine::SelectStatement => children_of!(Routine::SelectStatement),
+        Routine::SelectClause => children_of!(Routine::SelectClause),
+        Routine::SimpleClause => children_of!(Routine::SimpleClause),
+        Routine::ListClause(list) => children_of!(Routine::ListClause(list)),
+        Routine::SettingsClause => children_of!(Routine::SettingsClause),
+        Routine::WithClause => children_of!(Routine::WithClause),
+        Routine::JoinClause => children_of!(Routine::JoinClause),
+        Routine::Inline => children_of!(Routine::Inline),
+        Routine::CommaList => children_of!(Routine::CommaList),
+        Routine::InlineCommaList => children_of!(Routine::InlineCommaList),
+        Routine::BinaryExpression => children_of!(Routine::BinaryExpression),
+        Routine::UnaryExpression => children_of!(Routine::UnaryExpression),
+        Routine::FunctionCall => children_of!(Routine::FunctionCall),
+        Routine::CaseExpression => children_of!(Routine::CaseExpression),
+        Routine::WhenClause => children_of!(Routine::WhenClause),
+        Routine::Subquery => children_of!(Routine::Subquery),
+        Routine::ParenList => children_of!(Routine::ParenList),
+        Routine::BracketList => children_of!(Routine::BracketList),
+        Routine::InlineNoSpaces => children_of!(Routine::InlineNoSpaces),
+        Routine::BraceList => children_of!(Routine::BraceList),
+        Routine::DataType => children_of!(Routine::DataType),
+        Routine::InlineTightParens => children_of!(Routine::InlineTightParens),
+        Routine::AlterCommandList => children_of!(Routine::AlterCommandList),
+        Routine::UnionClause => children_of!(Routine::UnionClause),
+        Routine::Passthrough => children_of!(Routine::Passthrough),
     }
 }

@@ -1,4 +1,5 @@
-// Laying out: `format` of mod.rs, from bytes to an answer and a filled space.
+// Laying out: `format` of mod.rs, from bytes to an answer and a filled space. Text, tape, width and case are four parameters, as the C interface has them,
+// and each lent space is one, since some lie on the stack and some are the caller's.
 #![tactic(auto)]
 
 mod arms;
@@ -37,7 +38,7 @@ struct Accepted<'a> {
     facts: &'a [u8],
 }
 
-// The same from a space that a walk has written to.
+// The k bytes that trimming leaves, from a space that a walk has written to, and the newline after them, which stands at k.
 fn copy_layout(written: &[u8], out: &mut [u8], k: usize)
     requires { (k ≤ length written.now) × (k < length out.old) }
     ensures { out.new ≡ set (splice 0 (take k written.now) (take k out.old) ++ drop k out.old) k 10 }
@@ -73,7 +74,8 @@ impl Accepted<'_> {
         p.trimmed
     }
 
-    // The k bytes that trimming leaves, and the newline after them, by one more walk.
+    // The k bytes that trimming leaves, and the newline after them, by one more walk. What is known of k speaks of the tape's tree, as `Ready` does, and so
+    // is no ghost field either.
     fn write_layout(self, out: &mut [u8], map: &mut [u64], k: usize)
         requires ready { Ready self.text.now self.tape.now self.facts.now self.config }
         requires trims { Trims self.text.now self.tape.now self.config k × (0 < k) × (k < length out.old) }
@@ -181,7 +183,8 @@ fn config_of(width: u64, case: u64) -> FormatConfig
     }
 }
 
-// `facts` has room for what the check notes of each node. What is walked first goes into `space`.
+// `facts` has room for what the check notes of each node, where 5 lets the tape pass. That hangs on the tape's length, so no type of `facts` says it. What
+// is walked first goes into `space`.
 fn layout_in(
     text: &[u8],
     tape: &[u8],
@@ -204,7 +207,7 @@ fn layout_in(
     accepted.layout(space, out)
 }
 
-// With arrays of its own on the stack for these, which are filled with zeros at each call.
+// With arrays of its own on the stack for these, since there is no heap; they are filled with zeros at each call.
 fn layout_sized<const FACTS: usize, const SPACE: usize>(
     text: &[u8],
     tape: &[u8],
@@ -245,7 +248,7 @@ pub fn layout(
     layout_sized::<23832, 16384>(text, tape, width, case, out)
 }
 
-// `facts` has room for what the check notes of each node. What is walked first goes into `space` and `notes`.
+// layout_in with a map; not one with it, since the promises differ (`Result`, `Mapped`). What is walked first goes into `space` and `notes`.
 fn layout_map_in(
     text: &[u8],
     tape: &[u8],
@@ -270,7 +273,7 @@ fn layout_map_in(
     accepted.layout_map(space, notes, out, map)
 }
 
-// With arrays of its own on the stack for these.
+// With arrays of its own on the stack for these, as above.
 fn layout_map_sized<const FACTS: usize, const SPACE: usize, const NOTES: usize>(
     text: &[u8],
     tape: &[u8],

@@ -63,13 +63,9 @@ stands k r h =
     let p : r.place ≡ x.further = omega (arith, x.place) in
     record { inside = omega (arith, p, x.inside); begins = rw p (omega (arith, x.begins)) }
 
--- so is a word's candidate, and the word is no longer than an entry
-pub record Candidate (w : List ℕ) (r : code.Entry) : Type 0 where
-  pub short : length w ≤ 12
-  pub stands : Stands r
-
-pub candidate-stands : (w : List ℕ) (r : code.Entry) → candidate w ≡ Some r → Candidate w r
-candidate-stands w r h = go (leb 2 (length w)) (leb (length w) 12) refl h
+-- so is a word's candidate
+pub candidate-stands : (w : List ℕ) (r : code.Entry) → candidate w ≡ Some r → Stands r
+candidate-stands w r h = go (leb 2 (length w) && leb (length w) 12) h
   where
     first : code.Entry → Option code.Entry
     first e = then_some (eqb e.first (letter_at w 0)) e
@@ -78,12 +74,9 @@ candidate-stands w r h = go (leb 2 (length w)) (leb (length w) 12) refl h
     is_first true e u = same_Some e r u
     is_first false e u = absurd (none-some r u)
 
-    go : (a b : Bool) → leb (length w) 12 ≡ b → cond (a && b) (option_and_then first (entry_of (key w))) None ≡ Some r → Candidate w r
-    go true true s u =
-        option_and_then_some first (entry_of (key w)) r u (λ e q v.
-        record { short = leb→le (length w) 12 (rw s tt); stands = stands (key w) r (q ∙ ap Some (is_first (eqb e.first (letter_at w 0)) e v)) })
-    go true false s u = absurd (none-some r u)
-    go false b s u = absurd (none-some r u)
+    go : (b : Bool) → cond b (option_and_then first (entry_of (key w))) None ≡ Some r → Stands r
+    go true u = option_and_then_some first (entry_of (key w)) r u (λ e q v. stands (key w) r (q ∙ ap Some (is_first (eqb e.first (letter_at w 0)) e v)))
+    go false u = absurd (none-some r u)
 
 -- it is what stands in the array at the word's key, if that begins with the word's first letter
 pub candidate-is : (w : List ℕ) (k : ℕ) (d o : Option code.Entry) → k ≡ key w → k < 256 → get_or ENTRIES k d ≡ o → 2 ≤ length w → length w ≤ 12
@@ -237,7 +230,7 @@ module _ (w : List ℕ) where
 
   -- so the candidate decides
   pub entry_or_none : (e : code.Entry) (b : Bool) → candidate w ≡ Some e → b ≡ same w (get_or words e.place []) → then_some b e.place ≡ place_of w words
-  entry_or_none e true c h = sym (this_entry e (candidate-stands w e c).stands (sym h))
+  entry_or_none e true c h = sym (this_entry e (candidate-stands w e c) (sym h))
   entry_or_none e false c h = sym (other_entry e c (sym h))
 
   -- bytes or a word without a candidate have no place

@@ -6,6 +6,6 @@ use Rattle.keywords.specs.Words.{capitals, place_of}
 abbrev pub first_equal : ℕ → List ℕ → List (List ℕ) → Option ℕ
 first_equal n bytes list = cond (leb n (length bytes)) (place_of (take n bytes) list) None
 
--- what the walk is handed of a word of at most twelve letters: its letters in upper case, and zeros after them
+-- what the walk is handed of a word: its letters in upper case and zeros after them, twelve in all. Of a longer word it is the first twelve letters
 abbrev pub capital_letters : List ℕ → List ℕ
-capital_letters w = capitals w ++ drop (length w) (replicate 12 0)
+capital_letters w = take 12 (capitals w ++ drop (length w) (replicate 12 0))

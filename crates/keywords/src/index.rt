@@ -5,8 +5,8 @@ ghost use Rattle.keywords.specs.Index.{key};
 
 use crate::LONGEST;
 
-// An entry of the list: its place, where its length stands in the table, and the number of its first letter. A static holds no struct with a ghost
-// field, so what takes an entry asks for `Stands`.
+// An entry of the list: its place, where its length stands in the table, and the number of its first letter. That it stands in the table is no ghost
+// field (tried: "a static that holds a struct with a ghost field .. is not supported yet"), so what takes an entry asks for `Stands`.
 #[derive(Clone, Copy)]
 pub(crate) struct Entry {
     pub(crate) place: u8,
@@ -309,7 +309,7 @@ fn key_of(word: &[u8]) -> u8
     hash.wrapping_add(SHIFTS[bucket])
 }
 
-// The one entry that can be equal to a word, by the word's length and key and by its first letter, which turns most others away.
+// The one entry that can be equal to a word, by the word's length and key and by its first letter, in which most others differ.
 pub(crate) fn candidate(word: &[u8]) -> Option<Entry>
     ensures { result ≡ spec.candidate word.now }
 {

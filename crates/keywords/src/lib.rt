@@ -28,26 +28,21 @@ pub enum Word {
 pub fn is_word(word: &[u8], caps: &[u8]) -> bool
     ensures { result ≡ same (capitals word.now) caps.now }
 {
-    if word.len() != caps.len() {
-        return false;
-    }
-    for (i, b) in word.iter().enumerate() {
-        if b.to_ascii_uppercase() != caps[i] {
-            return false;
-        }
-    }
-    true
+    word.len() == caps.len()
+        && word
+            .iter()
+            .zip(caps)
+            .all(|(b, c)| b.to_ascii_uppercase() == *c)
 }
 
-// A word's letters in upper case, and zeros after them: worked out once, before the walk.
+// A word's letters in upper case, as many as an entry can have, and zeros after them, in an array since there is no heap: worked out once, before the walk.
 fn capitals_of(word: &[u8]) -> [u8; LONGEST]
-    requires { length word.now ≤ 12 }
     ensures { result ≡ capital_letters word.now }
 {
+    let n = word.len().min(LONGEST);
     let mut letters = [0u8; LONGEST];
-    for (i, b) in word.iter().enumerate() {
-        letters[i] = b.to_ascii_uppercase();
-    }
+    letters[..n].copy_from_slice(&word[..n]);
+    letters.make_ascii_uppercase();
     letters
 }
 
@@ -71,22 +66,22 @@ pub fn walk(length: usize, bytes: &[u8]) -> Option<usize>
     is_entry(entry, word).then_some(usize::from(entry.place))
 }
 
-// The same. It looks first at the entry, whichever that is.
+// What `walk` finds. It looks first at the entry, which may be any of the list.
 fn walk_from(entry: Entry, size: usize, bytes: &[u8]) -> Option<usize>
-    requires { Stands entry × (size ≤ length bytes.now) }
+    requires { Stands entry }
     ensures { result ≡ first_equal size bytes.now words }
 {
-    if is_entry(entry, &bytes[..size]) {
+    if is_entry(entry, bytes.get(..size)?) {
         return Some(usize::from(entry.place));
     }
     walk(size, bytes)
 }
 
-// The sort of a word for which there is a candidate. NULL, TRUE and FALSE stand beside each other in the list. On its own, so that `word_of`, which turns
-// most names away, goes where it is called.
+// The sort of a word for which there is a candidate. NULL, TRUE and FALSE stand beside each other in the list. On its own, so that `word_of`, which has no
+// candidate for most names, is inlined.
 #[inline(never)]
 fn word_at(entry: Entry, word: &[u8]) -> Word
-    requires { Stands entry × (length word.now ≤ 12) }
+    requires { Stands entry }
     ensures { result ≡ word_of word.now }
 {
     match walk_from(entry, word.len(), &capitals_of(word)) {

@@ -8,7 +8,6 @@ use lib.Dec.{eqb}
 use Rattle.std.specs.Prelude.{Result, Ok, Err}
 use Rattle.tape.specs.declared.Fault.{Fault}
 use Rattle.tape.specs.declared.Fault.TheVariants.{IndentWidth, CaseByte, TextTooLong, IllFormed, TapeTooLong, UnknownCommand, CutCommand, UnknownKind, KindNotCarried, SpanOutside, TooDeep, NotOneRoot, InsideCharacter, WordNotAscii}
-use Rattle.tape.specs.declared.Refusal.{Refusal}
 use Rattle.tape.specs.Faults.{number}
 use Rattle.layout.specs.declared.Answer.{Answer}
 use Rattle.layout.specs.declared.Refused.{Refused}
@@ -31,25 +30,11 @@ answer_again a =
 
 input_again : (f : Fault) (p : ℕ) → answer_again (record { number = number f; value = p }) ≡ Err (Input (record { fault = f; at = p }))
 input_again IndentWidth p = refl
-input_again CaseByte p = refl
-input_again TextTooLong p = refl
-input_again IllFormed p = refl
-input_again TapeTooLong p = refl
-input_again UnknownCommand p = refl
-input_again CutCommand p = refl
-input_again UnknownKind p = refl
-input_again KindNotCarried p = refl
-input_again SpanOutside p = refl
-input_again TooDeep p = refl
-input_again NotOneRoot p = refl
-input_again InsideCharacter p = refl
-input_again WordNotAscii p = refl
+input_again _ p = refl
 
 same_again : (r : Result ℕ Refused) → answer_again (answer_of r) ≡ r
-same_again (Ok n) = refl
 same_again (Err (Input r)) = input_again r.fault r.at
-same_again (Err (OutputSpace n)) = refl
-same_again (Err (MapSpace n)) = refl
+same_again _ = refl
 
 pub answer_of-injective : (r s : Result ℕ Refused) → answer_of r ≡ answer_of s → r ≡ s
 answer_of-injective r s e = sym (same_again r) ∙ ap answer_again e ∙ same_again s

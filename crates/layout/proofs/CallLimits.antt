@@ -2,12 +2,10 @@
 use Prim.Native.Nat.{ℕ, ◌+◌, ◌*◌, ◌≤◌, ◌<◌}
 use native.Mathlib.Omega.{arith}
 use mathlib.Core.Path.{◌≡◌, ap}
-use mathlib.Core.Bool.{Bool, true, false}
 use mathlib.Core.List.{List, [], ◌++◌}
 use lib.ListN.{length, replicate}
-use lib.Dec.{T, leb}
+use lib.Dec.{T}
 use borrow.Author.Tests.{le-leb}
-use Rattle.context.specs.Cells.{Cell}
 use Rattle.context.specs.Context.{write_newline, take_pending_blank_line, trim_end, finish}
 use Rattle.utf8.specs.Pieces.{cut}
 use Rattle.utf8.specs.Trim.{trim}
@@ -23,7 +21,7 @@ use Rattle.layout.specs.Routines.{format_file}
 use Rattle.layout.specs.FormatNode.{arms_of, routines, routine_of, format_node}
 use Rattle.layout.specs.Calls.{walk, calls}
 use Rattle.layout.specs.Layout.{do_spacing, step, pieces, written, Version, original, pieces_of, format}
-use Rattle.layout.specs.Outcome.{Outcome, laid, of_read, config_of, outcome, answer, fitted, laid_out, names_length}
+use Rattle.layout.specs.Outcome.{Outcome, laid, of_read, config_of, outcome, answer, laid_out, names_length}
 
 -- the call answers the number and the value, and leaves any lent space as it is
 abbrev pub Answered : Outcome → ℕ → ℕ → Type 0
@@ -39,14 +37,7 @@ refused-answered v width case text tape e space = rw e
 accepted-named : (v : Version) (width case : ℕ) (text tape : List ℕ) {t : Tree} {p : ℕ} → read_call width case text tape ≡ got t p
     → (space : List ℕ) → T (names_length (laid_out (outcome v width case text tape) space).answer)
 unfolding outcome laid_out
-accepted-named v width case text tape {t} e space = rw e (go (leb (length cells) (length space)))
-  where
-    cells : List Cell
-    cells = format v (config_of width case) text t
-
-    go : (fits : Bool) → T (names_length (fitted fits cells space).answer)
-    go true = tt
-    go false = tt
+accepted-named v width case text tape e space = rw e (grind arith)
 
 empty-answered : (o : Outcome) → o ≡ laid [] → Answered o 0 0
 unfolding laid_out

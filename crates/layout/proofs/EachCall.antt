@@ -9,18 +9,21 @@ use Rattle.tape.specs.Tree.{Children, done, token, node, Tree, count_list_items,
 use Rattle.layout.specs.declared.Local.{Local}
 use Rattle.layout.specs.Arms.{Spacing, Act, seen, Arms}
 use Rattle.layout.specs.Calls.{Call, put_spacing, act_at, raw, format_error_verbatim, walk, calls}
-use Rattle.layout.specs.Masking.{OfCopied, EachReachedBelow, EachReachedCopy}
+use Rattle.layout.specs.Masking.{EachCopied, OfCopied, EachReachedBelow, EachReachedCopy}
 
-pub of_copy : (t : Bool) (A B : Type 0) → (T t → A) → B → OfCopied t A B
+of_copy : (t : Bool) (A B : Type 0) → (T t → A) → B → OfCopied t A B
 of_copy true A B f y = f tt
 of_copy false A B f y = y
 
 -- what holds of each copied node holds of those that the layout reaches
-pub reached_below : (P : Head → Type 0) (c : Children) → EachNode (λ h kids. T (copied h.kind kids) → P h) c → EachReachedBelow P c
+reached_below : (P : Head → Type 0) (c : Children) → EachNode (λ h kids. T (copied h.kind kids) → P h) c → EachReachedBelow P c
 reached_below P done u = tt
 reached_below P (token h rest) u = reached_below P rest u
 reached_below P (node h kids rest) u =
     (of_copy (copied h.kind kids) (P h) (EachReachedBelow P kids) u.0 (reached_below P kids u.1), reached_below P rest u.2)
+
+pub reached_copy : (P : Head → Type 0) (t : Tree) → EachCopied P t → EachReachedCopy P t
+reached_copy P t u = of_copy (copied t.head.kind t.kids) (P t.head) (EachReachedBelow P t.kids) u.0 (reached_below P t.kids u.1)
 
 -- P of each token, Q of the span of each node that is copied
 module _ (P : Head → Type 0) (Q : ℕ → ℕ → Type 0) where

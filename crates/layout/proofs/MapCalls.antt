@@ -1,6 +1,7 @@
 -- The masking rule for two calls with a token map, from entry to exit: refusals, answers and both spaces.
 use Prim.Native.Nat.{ℕ}
-use mathlib.Core.Path.{◌≡◌, refl, sym, ap, ◌∙◌, subst₂}
+use native.Mathlib.Omega.{arith}
+use mathlib.Core.Path.{◌≡◌, refl, ap, subst₂}
 use mathlib.Core.Bool.{Bool, true, false, cond}
 use mathlib.Core.List.{List}
 use lib.ListN.{length}
@@ -13,38 +14,19 @@ use Rattle.tape.specs.Tree.{Tree}
 use Rattle.tape.specs.Tape.{Read, refused, got}
 use Rattle.tape.specs.Call.{read_call}
 use Rattle.layout.specs.Layout.{original}
-use Rattle.layout.specs.Outcome.{Outcome, refusal, laid, config_of, outcome, fitted, laid_out}
+use Rattle.layout.specs.Outcome.{Outcome, refusal, laid, config_of, outcome, laid_out}
 use Rattle.layout.specs.TokenMap.{token_map}
 use Rattle.layout.specs.Masking.{MaskedPair, MaskedPairForLayout, SameLines, cells_after}
-use Rattle.layout.specs.MapCall.{flat, numbers_of, numbers, map_fitted, mapped_as, mapped, map_cells_after, MapsAlike, MapsAlikeByLines}
+use Rattle.layout.specs.MapCall.{flat, numbers_of, numbers, mapped_as, mapped, map_cells_after, MapsAlike, MapsAlikeByLines}
 use Rattle.layout.proofs.MaskedLayouts.{original-keeps_alike, masked-lines}
 use Rattle.layout.proofs.TokenMaps.{map-count}
 use Rattle.layout.proofs.MaskedMaps.{masking_map}
 use Rattle.layout.proofs.TwoCalls.{cells_after_lem, like_lines, OutcomesLike, alike, reading, read-both, outcomes_like, pair-for_layout}
 
--- the output space is as after the layout call, unless the map does not fit
-mapped-space : (x : Outcome) (ns space map : List ℕ) → cond (leb (length ns) (length map)) (laid_out x space).space space ≡ (mapped_as x ns space map).space
-unfolding laid_out
-mapped-space (refusal f p) ns space map = go (leb (length ns) (length map))
-  where
-    go : (t : Bool) → cond t space space ≡ space
-    go true = refl
-    go false = refl
-mapped-space (laid cs) ns space map = go (leb (length cs) (length space)) (leb (length ns) (length map))
-  where
-    go : (s t : Bool) → cond t (fitted s cs space).space space ≡ (map_fitted s t cs ns space map).space
-    go true true = refl
-    go true false = refl
-    go false true = refl
-    go false false = refl
-
 -- the cells after a call are its output space
 pub map-cells_after : (x : Outcome) (ns space map : List ℕ) → bytes_of (map_cells_after x ns space map) ≡ (mapped_as x ns space map).space
-map-cells_after x ns space map = go (leb (length ns) (length map)) ∙ mapped-space x ns space map
-  where
-    go : (t : Bool) → bytes_of (cond t (cells_after x space) (fixed space)) ≡ cond t (laid_out x space).space space
-    go true = cells_after_lem x space
-    go false = bytes-fixed space
+unfolding laid_out
+map-cells_after x ns space map = grind (arith, cells_after_lem, bytes-fixed)
 
 -- ── two outcomes that are alike, with as many numbers
 
@@ -52,28 +34,13 @@ module _ (a b : Text) where
   same-answers : (x y : Outcome) (ns ms : List ℕ) → OutcomesLike a b x y → length ns ≡ length ms → (space map : List ℕ)
       → (mapped_as x ns space map).answer ≡ (mapped_as y ms space map).answer
   same-answers (refusal f p) (refusal g q) ns ms h l space map = rw (h.0, h.1)
-  same-answers (refusal f p) (laid ds) ns ms h l space map = absurd h
-  same-answers (laid cs) (refusal g q) ns ms h l space map = absurd h
-  same-answers (laid cs) (laid ds) ns ms h l space map = rw (k, l) (go (leb (length ds) (length space)) (leb (length ms) (length map)))
-    where
-      k : length cs ≡ length ds
-      k = like_length a b cs ds h
-
-      go : (s t : Bool) → (map_fitted s t cs ns space map).answer ≡ (map_fitted s t ds ms space map).answer
-      go true true = rw k
-      go true false = rw l
-      go false t = rw k
+  same-answers (laid cs) (laid ds) ns ms h l space map = let k = like_length a b cs ds h in grind arith
+  same-answers _ _ ns ms h l space map = absurd h
 
   same-maps : (x y : Outcome) (ns ms : List ℕ) → OutcomesLike a b x y → ns ≡ ms → (space map : List ℕ) → (mapped_as x ns space map).map ≡ (mapped_as y ms space map).map
   same-maps (refusal f p) (refusal g q) ns ms h e space map = refl
-  same-maps (refusal f p) (laid ds) ns ms h e space map = absurd h
-  same-maps (laid cs) (refusal g q) ns ms h e space map = absurd h
-  same-maps (laid cs) (laid ds) ns ms h e space map = rw (like_length a b cs ds h, e) (go (leb (length ds) (length space)) (leb (length ms) (length map)))
-    where
-      go : (s t : Bool) → (map_fitted s t cs ms space map).map ≡ (map_fitted s t ds ms space map).map
-      go true true = refl
-      go true false = refl
-      go false t = refl
+  same-maps (laid cs) (laid ds) ns ms h e space map = let k = like_length a b cs ds h in grind arith
+  same-maps _ _ ns ms h e space map = absurd h
 
   same-cells : (t : Bool) (X Y : List Cell) (space : List ℕ) → Like a b X Y → Like a b (cond t X (fixed space)) (cond t Y (fixed space))
   same-cells true X Y space h = h
@@ -86,11 +53,7 @@ module _ (width case : ℕ) (a b : Text) (tape : List ℕ) where
     -- as many numbers, wherever newlines stand
     numbers-length : length (numbers width case a tape) ≡ length (numbers width case b tape)
     unfolding numbers
-    numbers-length = rw (← (reading width case a b tape m)) (go (read_call width case a tape))
-      where
-        go : (r : Read Tree) → length (numbers_of r (token_map original (config_of width case) a)) ≡ length (numbers_of r (token_map original (config_of width case) b))
-        go (refused f p) = refl
-        go (got t p) = map-count original (config_of width case) a t ∙ sym (map-count original (config_of width case) b t)
+    numbers-length = rw (← (reading width case a b tape m)) (grind (arith, map-count))
 
     numbers-same : SameLines a b → numbers width case a tape ≡ numbers width case b tape
     unfolding numbers

@@ -3,18 +3,19 @@
 use Prim.Native.Nat.{ℕ, zero, suc, ◌+◌, ◌-◌, ◌≤◌, ◌<◌}
 use native.Mathlib.Omega.{arith}
 use mathlib.Core.Path.{◌≡◌, refl, sym, ap, ◌∙◌, subst}
-use mathlib.Core.Bool.{Bool, true, false, cond}
-use mathlib.Core.List.{List, [], ◌∷◌, ◌++◌, map}
+use mathlib.Core.Logic.{◌⊎◌, inl, inr}
+use mathlib.Core.Bool.{Bool, true, false}
+use mathlib.Core.List.{List, [], ◌∷◌, ◌++◌}
 use lib.ListN.{length, get_or, length-map}
-use lib.Dec.{T, eqb, eqb→eq}
-use borrow.Author.Tests.{eqb-true, eqb-false, ne_eqb}
+use lib.Dec.{T}
+use Rattle.std.proofs.lemmas.Bool.{cases_eq}
+use Rattle.std.proofs.lemmas.Bool.Decides.{nat_tests}
 use Rattle.utf8.specs.Pieces.{Starts}
 use Rattle.utf8.specs.Pieces as Chars
-use Rattle.utf8.specs.WhiteSpace.{is_white_space}
 use Rattle.utf8.specs.Trimming.{trimmed_length, trimmed_after}
 use Rattle.utf8.specs.Steps.{end_white}
 use Rattle.utf8.proofs.Trimming.{trimmed-append, trimmed-whole}
-use Rattle.context.specs.Cells.{Text, Origin, made, from, Cell, token_text, bytes_of, span_cells, copied_from, cell_in_case}
+use Rattle.context.specs.Cells.{Text, Origin, made, from, Cell, token_text, bytes_of, span_cells, copied_from}
 use Rattle.context.specs.Context.{Piece, new_state, write_token}
 use Rattle.context.specs.Context as context
 use Rattle.context.specs.Alike.{LinesAgree, Like}
@@ -22,14 +23,14 @@ use Rattle.context.specs.declared.FormatConfig.{FormatConfig}
 use Rattle.context.specs.declared.State.{State}
 use Rattle.context.proofs.Bytes.{bytes-append, bytes-span, bytes-in_case, token-length_same, token-same, trimmed-in_case}
 use Rattle.context.proofs.AlikeWrites.{like_self, like_append, like_length, span-like, keyword-like, finish-like}
-use Rattle.tape.specs.Kinds.{StringToken, QuotedIdentifier}
 use Rattle.tape.specs.declared.Head.{Head}
 use Rattle.tape.specs.Tree.{Children, done, token, node, Tree, count_list_items, copied, EachToken}
+use Rattle.tape.proofs.Trees.{each-token}
 use Rattle.layout.specs.declared.Local.{Local}
 use Rattle.layout.specs.Arms.{spacing, write_text, write_keyword, write_sign, is_read, seen, Arms}
 use Rattle.layout.specs.Calls.{Call, put_spacing, act_at, raw, walk, calls}
 use Rattle.layout.specs.Layout.{step, pieces, written, Version, original, pieces_of, format}
-use Rattle.layout.proofs.EachCall.{Every, each-call, of_copy, reached_below}
+use Rattle.layout.proofs.EachCall.{Every, each-call, reached_copy}
 use Rattle.layout.specs.SpanStarts.{SpansStart}
 use Rattle.layout.proofs.PieceStarts.{PieceStarts, none-starts, starts-append, spacing-starts, lead-starts, sign_starts, step-starts}
 use Rattle.layout.specs.Masking.{OfCopied, EachReachedBelow, EachReachedCopy, quoted, Holds, characters_of, last_is_white, Differ, EndsInWhiteSpace, Masked, MaskedForLayout, SameLines}
@@ -40,43 +41,36 @@ TokenSpans len = EachToken (λ h. (h.kind ≤ 257) × (h.start ≤ h.end) × (h.
 
 -- a test decides equality of numbers
 pub stable : (x y : ℕ) → ((x ≡ y → ⊥) → ⊥) → x ≡ y
-stable x y f = go (eqb x y) refl
-  where
-    go : (t : Bool) → eqb x y ≡ t → x ≡ y
-    go true e = eqb-true x y e
-    go false e = absurd (f (eqb-false x y e))
+stable x y f = grind arith
 
 -- a quoted token is not read
 quoted-unread : (h : Head) → T (quoted h) → is_read h.kind ≡ false
-quoted-unread h q = go (eqb h.kind StringToken) refl
-  where
-    at : (k : ℕ) → h.kind ≡ k → is_read k ≡ false → is_read h.kind ≡ false
-    at k e f = rw e f
-
-    go : (t : Bool) → eqb h.kind StringToken ≡ t → is_read h.kind ≡ false
-    go true e = at StringToken (eqb-true h.kind StringToken e) refl
-    go false e = at QuotedIdentifier (eqb→eq h.kind QuotedIdentifier (rw e at q)) refl
+quoted-unread h q = grind (arith, nat_tests)
 
 -- a text whose last character is no white space is kept whole
 ends-solid : (cs : List Chars.Piece) → (T (last_is_white cs) → ⊥) → 0 ≡ end_white cs
 unfolding end_white
 ends-solid [] n = refl
-ends-solid (c ∷ []) n = go (is_white_space c) refl n
-  where
-    go : (t : Bool) → is_white_space c ≡ t → (T t → ⊥) → 0 ≡ cond t (length (Chars.bytes_of c)) 0
-    go true e k = absurd (k tt)
-    go false e k = refl
+ends-solid (c ∷ []) n = grind arith
 ends-solid (c ∷ d ∷ cs) n = ends-solid (d ∷ cs) n
+
+-- what holds of each token, and what holds of each at some places
+pub both_tokens : (P Q : Head → Type 0) (c : Children) → EachToken P c → EachToken Q c → EachToken (λ h. P h × Q h) c
+both_tokens P Q done u v = tt
+both_tokens P Q (token h rest) u v = ((u.0, v.0), both_tokens P Q rest u.1 v.1)
+both_tokens P Q (node h kids rest) u v = (both_tokens P Q kids u.0 v.0, both_tokens P Q rest u.1 v.1)
+
+pub at_places : (P : ℕ → Head → Type 0) (D : ℕ → Type 0) (c : Children) → ((p : ℕ) → D p → EachToken (P p) c) → EachToken (λ h. (p : ℕ) → D p → P p h) c
+at_places P D done f = tt
+at_places P D (token h rest) f = (λ p d. (f p d).0, at_places P D rest (λ p d. (f p d).1))
+at_places P D (node h kids rest) f = (at_places P D kids (λ p d. (f p d).0), at_places P D rest (λ p d. (f p d).1))
 
 module _ (a b : Text) (same_length : length a ≡ length b) where
   abbrev pub trimmed : List Cell → ℕ
   trimmed cs = trimmed_length (bytes_of cs)
 
   trimmed-both : (xs ys : List Cell) → Starts (bytes_of ys) → trimmed (xs ++ ys) ≡ trimmed_after (length xs) (trimmed xs) (trimmed ys)
-  trimmed-both xs ys h =
-      ap trimmed_length (bytes-append xs ys)
-      ∙ trimmed-append (bytes_of xs) (bytes_of ys) h
-      ∙ ap (λ (n : ℕ). trimmed_after n (trimmed xs) (trimmed ys)) (length-map xs (λ (c : Cell). c.byte))
+  trimmed-both xs ys h = rw (bytes-append, trimmed-append (bytes_of xs) (bytes_of ys) h, length-map)
 
   -- ── what a masked pair gives of each token, and of each node that is copied
 
@@ -128,21 +122,14 @@ module _ (a b : Text) (same_length : length a ≡ length b) where
   same-piece : (p : Piece) → PieceStarts p → PieceLike p p
   same-piece p h = record { leads = refl; bodies = like_self a b p.body; trims = refl; starts_a = h; starts_b = h }
 
-  -- a piece and what follows it
-  from-here : (p : Piece) (rest : List Cell) → PieceStarts p → Starts (bytes_of rest) → Starts (bytes_of (p.body ++ rest))
-  from-here p rest h r = subst Starts (sym (bytes-append p.body rest)) (starts-append (bytes_of p.body) (bytes_of rest) h.1 r)
-
   written-starts_both : (ps qs : List Piece) → PiecesLike ps qs → Starts (bytes_of (written ps)) × Starts (bytes_of (written qs))
   unfolding written
   written-starts_both ps qs nil = (none-starts, none-starts)
   written-starts_both ps qs (next {p} {q} {ps = ps'} {qs = qs'} k r) =
       let w = written-starts_both ps' qs' r in (
-        all_of p (written ps') k.starts_a w.0,
-        all_of q (written qs') k.starts_b w.1,
+        starts-append p.lead _ k.starts_a.0 (starts-append p.body _ k.starts_a.1 w.0),
+        starts-append q.lead _ k.starts_b.0 (starts-append q.body _ k.starts_b.1 w.1),
       )
-    where
-      all_of : (p : Piece) (rest : List Cell) → PieceStarts p → Starts (bytes_of rest) → Starts (bytes_of (p.lead ++ (p.body ++ rest)))
-      all_of p rest h r = subst Starts (sym (bytes-append p.lead (p.body ++ rest))) (starts-append (bytes_of p.lead) (bytes_of (p.body ++ rest)) h.0 (from-here p rest h r))
 
   written-like : (ps qs : List Piece) → PiecesLike ps qs → Like a b (written ps) (written qs)
   unfolding written
@@ -158,8 +145,8 @@ module _ (a b : Text) (same_length : length a ≡ length b) where
       let w = written-starts_both ps' qs' r in
       rw (
         k.leads,
-        trimmed-both q.lead (p.body ++ written ps') (from-here p (written ps') k.starts_a w.0),
-        trimmed-both q.lead (q.body ++ written qs') (from-here q (written qs') k.starts_b w.1),
+        trimmed-both q.lead (p.body ++ written ps') (starts-append p.body _ k.starts_a.1 w.0),
+        trimmed-both q.lead (q.body ++ written qs') (starts-append q.body _ k.starts_b.1 w.1),
         trimmed-both p.body (written ps') w.0,
         trimmed-both q.body (written qs') w.1,
         k.trims,
@@ -175,12 +162,9 @@ module _ (a b : Text) (same_length : length a ≡ length b) where
   module _ (config : FormatConfig) where
     pub step-state : (c : Call) → EachAlike (c ∷ []) → (s : State) → (step config a c s).0 ≡ (step config b c s).0
     unfolding step write_token context.write_keyword Every
-    step-state (put_spacing x) w s = refl
-    step-state (act_at h (spacing x)) w s = refl
-    step-state (act_at h write_text) w s = refl
-    step-state (act_at h write_keyword) w s = refl
-    step-state (act_at h (write_sign x)) w s = refl
     step-state (raw f e) w s = rw (span_same f e w.0.0)
+    step-state (act_at h (spacing x)) w s = refl
+    step-state _ w s = refl
 
     token-piece : (h : Head) → TokenAlike h → (s : State) → PieceLike (write_token config (span_cells a h.start h.end) s).1 (write_token config (span_cells b h.start h.end) s).1
     unfolding write_token step Every
@@ -196,18 +180,14 @@ module _ (a b : Text) (same_length : length a ≡ length b) where
     keyword-piece : (h : Head) → TokenAlike h → (s : State) → PieceLike (context.write_keyword config (span_cells a h.start h.end) s).1 (context.write_keyword config (span_cells b h.start h.end) s).1
     unfolding context.write_keyword write_token step Every
     keyword-piece h w s =
-        let u = config.uppercase_keywords in
         let k = keyword-like a b (span_cells a h.start h.end) (span_cells b h.start h.end) (span-like a b same_length h.start h.end) config s in
         record {
           leads = refl;
           bodies = k.bodies;
-          trims = in_case_lem u (span_cells a h.start h.end) ∙ w.trims ∙ sym (in_case_lem u (span_cells b h.start h.end));
+          trims = simp (bytes-in_case, trimmed-in_case) w.trims;
           starts_a = step-starts config a (act_at h write_keyword) (w.starts_a, tt) s;
           starts_b = step-starts config b (act_at h write_keyword) (w.starts_b, tt) s;
         }
-      where
-        in_case_lem : (u : Bool) (cs : List Cell) → trimmed (map (cell_in_case u) cs) ≡ trimmed cs
-        in_case_lem u cs = ap trimmed_length (bytes-in_case u cs) ∙ trimmed-in_case u (bytes_of cs)
 
     pub step-piece : (c : Call) → EachAlike (c ∷ []) → (s : State) → PieceLike (step config a c s).1 (step config b c s).1
     unfolding step write_token Every
@@ -254,19 +234,12 @@ module _ (a b : Text) (same_length : length a ≡ length b) where
 
   span : (s n : ℕ) → Span s (s + n)
   span s zero = same (λ p lo hi. absurd (omega arith))
-  span s (suc n) = go (span s n) (eqb (get_or a (s + n) 0) (get_or b (s + n) 0)) refl
+  span s (suc n) = go (span s n) (cases_eq (get_or a (s + n) 0) (get_or b (s + n) 0))
     where
-      last : (p : ℕ) → p < s + suc n → (p < s + n → get_or a p 0 ≡ get_or b p 0) → get_or a (s + n) 0 ≡ get_or b (s + n) 0 → get_or a p 0 ≡ get_or b p 0
-      last p hi f e = at (eqb p (s + n)) refl
-        where
-          at : (t : Bool) → eqb p (s + n) ≡ t → get_or a p 0 ≡ get_or b p 0
-          at true u = rw (eqb-true p (s + n) u) e
-          at false u = let ne = eqb-false p (s + n) u in f (omega arith)
-
-      go : Span s (s + n) → (t : Bool) → eqb (get_or a (s + n) 0) (get_or b (s + n) 0) ≡ t → Span s (s + suc n)
-      go (masked p lo hi d) t e = masked p lo (omega arith) d
-      go (same f) true e = same (λ p lo hi. last p hi (f p lo) (eqb-true _ _ e))
-      go (same f) false e = masked (s + n) (omega arith) (omega arith) (eqb-false _ _ e)
+      go : Span s (s + n) → (get_or a (s + n) 0 ≡ get_or b (s + n) 0) ⊎ Differ a b (s + n) → Span s (s + suc n)
+      go (masked p lo hi d) e = masked p lo (omega arith) d
+      go (same f) (inl e) = same (λ p lo hi. let below : p < s + n → get_or a p 0 ≡ get_or b p 0 = f p lo in grind arith)
+      go (same f) (inr d) = masked (s + n) (omega arith) (omega arith) d
 
   abbrev SolidIfHeld : ℕ → Head → Type 0
   SolidIfHeld p h = Holds p h → (EndsInWhiteSpace a h → ⊥) × (EndsInWhiteSpace b h → ⊥)
@@ -281,13 +254,9 @@ module _ (a b : Text) (same_length : length a ≡ length b) where
 
   alike-tokens : (c : Children) → TokenSpans (length a) c → EachToken (λ h. Starts (token_text a h.start h.end)) c → EachToken (λ h. Starts (token_text b h.start h.end)) c
       → ((p : ℕ) → Differ a b p → EachToken (λ h. Holds p h → T (quoted h)) c) → ((p : ℕ) → Differ a b p → EachToken (SolidIfHeld p) c) → EachToken TokenAlike c
-  alike-tokens done s u v g w = tt
-  alike-tokens (token h rest) s u v g w =
-      (alike-token h s.0.1 u.0 v.0 (λ p d. (g p d).0) (λ p d. (w p d).0), alike-tokens rest s.1 u.1 v.1 (λ p d. (g p d).1) (λ p d. (w p d).1))
-  alike-tokens (node h kids rest) s u v g w = (
-    alike-tokens kids s.0 u.0 v.0 (λ p d. (g p d).0) (λ p d. (w p d).0),
-    alike-tokens rest s.1 u.1 v.1 (λ p d. (g p d).1) (λ p d. (w p d).1),
-  )
+  alike-tokens c s u v g w =
+      each-token (λ h k. alike-token h k.0.0.1 k.0.1.0 k.0.1.1 k.1.0 k.1.1) c
+      (both_tokens _ _ c (both_tokens _ _ c s (both_tokens _ _ c u v)) (both_tokens _ _ c (at_places _ (Differ a b) c g) (at_places _ (Differ a b) c w)))
 
   alike-copy : (h : Head) → Starts (token_text a h.start h.end) → ((p : ℕ) → Differ a b p → Holds p h → ⊥) → CopyAlike h
   alike-copy h u f = (token-same a b h.start h.end same_length (λ p lo hi. stable _ _ (λ d. f p d (lo, hi))), u)
@@ -343,22 +312,13 @@ module _ (a b : Text) where
   masked-for_layout t m =
       record {
         in_quotes = m.in_quotes;
-        not_copied =
-            λ p d.
-            let u = m.not_copied p d in
-            let P : Head → Type 0 = λ h. Holds p h → ⊥ in
-            of_copy (copied t.head.kind t.kids) (P t.head) (EachReachedBelow P t.kids) u.0 (reached_below P t.kids u.1);
+        not_copied = λ p d. reached_copy (λ h. Holds p h → ⊥) t (m.not_copied p d);
         no_white_space_end = m.no_white_space_end;
       }
 
   -- a masked place holds a newline in neither text, so newlines stand at the same places
   pub masked-lines : (t : Tree) → Masked a b t → SameLines a b
-  masked-lines t m p = go (eqb (get_or a p 0) (get_or b p 0)) refl
-    where
-      go : (x : Bool) → eqb (get_or a p 0) (get_or b p 0) ≡ x → eqb (get_or a p 0) 10 ≡ eqb (get_or b p 0) 10
-      go true e = ap (λ (n : ℕ). eqb n 10) (eqb-true (get_or a p 0) (get_or b p 0) e)
-      go false e =
-          let u = m.no_newline p (eqb-false (get_or a p 0) (get_or b p 0) e) in ne_eqb (get_or a p 0) 10 u.0 ∙ sym (ne_eqb (get_or b p 0) 10 u.1)
+  masked-lines t m p = grind (arith, nat_tests, m.no_newline p)
 
   -- newlines at the same places of both texts stand at the same origins
   pub lines-agree : SameLines a b → (o : Origin) → LinesAgree a b o

@@ -102,10 +102,9 @@ module _ (a b : Text) (same_length : length a ≡ length b) where
     like_spot : (X Y : List Cell) → Like a b X Y → (n : ℕ) (p : Spot) → spot_after (take n (bytes_of X)) p ≡ spot_after (take n (bytes_of Y)) p
     unfolding spot_after
     like_spot [] [] h n p = refl
-    like_spot [] (y ∷ ys) h n p = absurd h
-    like_spot (x ∷ xs) [] h n p = absurd h
     like_spot (x ∷ xs) (y ∷ ys) h zero p = refl
     like_spot (x ∷ xs) (y ∷ ys) h (suc n) p = rw (h.0.lines (lines-agree a b lines x.origin)) (like_spot xs ys h.1 n (turned y.byte p))
+    like_spot _ _ h n p = absurd h
 
     entries-same : (X Y : List Cell) → Like a b X Y → (k : ℕ) (ps : List ℕ) → map (entry k (bytes_of X)) ps ≡ map (entry k (bytes_of Y)) ps
     entries-same X Y h k [] = refl

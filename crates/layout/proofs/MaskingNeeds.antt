@@ -1,11 +1,11 @@
 -- The masking rule's conditions are met by a pair of texts that differ, which is put through the rule; and each is needed.
-use Prim.Native.Nat.{ℕ, zero, suc, ◌<◌}
+use Prim.Native.Nat.{ℕ}
 use native.Mathlib.Omega.{arith}
 use mathlib.Core.Path.{◌≡◌, refl, subst}
-use mathlib.Core.Bool.{Bool, true, false, not, ◌&&◌, ◌||◌}
+use mathlib.Core.Bool.{Bool, false, not, ◌&&◌}
 use mathlib.Core.List.{List, [], ◌∷◌}
-use lib.ListN.{length, get_or}
-use lib.Dec.{T, T_not, eqb, lit<}
+use lib.ListN.{length}
+use lib.Dec.{T, T_not, eqb}
 use lib.Ieee.Fits.{and_l, and_r}
 use borrow.Author.Tests.{ne_eqb}
 use Rattle.keywords.specs.Words.{same}
@@ -13,10 +13,10 @@ use Rattle.keywords.proofs.Places.{same_self}
 use Rattle.context.specs.Cells.{Text}
 use Rattle.tape.specs.Tree.{Tree}
 use Rattle.tape.specs.Tape.{Read, refused, got, read_tree}
-use Rattle.tape.specs.Call.{let_pass, read_call}
+use Rattle.tape.specs.Call.{read_call}
 use Rattle.layout.specs.Layout.{original}
 use Rattle.layout.specs.Outcome.{outcome}
-use Rattle.layout.specs.Masking.{Differ, MaskedPair, MaskedPairForLayout}
+use Rattle.layout.specs.Masking.{Differ, Masked, MaskedForLayout, TextsUnder, MaskedPair, MaskedPairForLayout}
 use Rattle.layout.specs.MapCall.{MapsAlikeByLines}
 use Rattle.layout.specs.MaskingTests.{Condition, same_length, no_newline, in_some_token, strictly_inside, in_quotes, not_copied, no_white_space_end, Asks, holds, holds_for_layout}
 use Rattle.layout.specs.MaskingNeeds.{Pair, space, map_space, Claim, claimed, map_of, MapClaim, map_claimed, conditions, of_tree, all_hold, both_pass, meets, masked, meets_for_layout, masked_for_layout, Broken, number, needed, all_needed, pairs, map_pairs, Needed, EachNeeded}
@@ -28,34 +28,12 @@ use Rattle.layout.proofs.Tables.{tables}
 -- ── from the tests to the rule's words
 
 module _ (left_out : Condition → Bool) (a b : Text) (t : Tree) where
-  held_at : (cs : List Condition) → T (all_hold left_out a b cs t) → (n : ℕ) → n < length cs
-      → T (left_out (get_or cs n same_length) || holds a b t (get_or cs n same_length))
-  held_at [] u n h = absurd (omega arith)
-  held_at (c ∷ cs) u zero h = and_l (left_out c || holds a b t c) (all_hold left_out a b cs t) u
-  held_at (c ∷ cs) u (suc n) h = held_at cs (and_r (left_out c || holds a b t c) (all_hold left_out a b cs t) u) n (omega arith)
-
-  -- each condition stands in the list
-  listed : (c : Condition) → (number c < length conditions) × (get_or conditions (number c) same_length ≡ c)
-  listed same_length = (lit< tt, refl)
-  listed no_newline = (lit< tt, refl)
-  listed in_some_token = (lit< tt, refl)
-  listed strictly_inside = (lit< tt, refl)
-  listed in_quotes = (lit< tt, refl)
-  listed not_copied = (lit< tt, refl)
-  listed no_white_space_end = (lit< tt, refl)
+  held : T (all_hold left_out a b conditions t) → (c : Condition) → left_out c ≡ false → T (holds a b t c)
+  held u same_length e = grind arith
+  held u _ e = grind arith
 
   all_asked : T (all_hold left_out a b conditions t) → (c : Condition) → left_out c ≡ false → Asks c a b t
-  all_asked u c e =
-      let k = listed c in
-      let v = subst (λ (x : Condition). T (left_out x || holds a b t x)) k.1 (held_at conditions u (number c) k.0) in
-      asked a b t c (subst (λ (s : Bool). T (s || holds a b t c)) e v)
-
-of_tree_lem : (f : Tree → Bool) (r : Read Tree) (t : Tree) (p : ℕ) → T (of_tree f r) → r ≡ got t p → T (f t)
-of_tree_lem f r t p u e = subst (λ (x : Read Tree). T (of_tree f x)) e u
-
-is_true : (x : Bool) → T x → x ≡ true
-is_true true t = refl
-is_true false t = absurd t
+  all_asked u c e = asked a b t c (held u c e)
 
 -- ── the pair that meets all conditions
 
@@ -68,57 +46,37 @@ module _ (x : Pair) where
   abbrev call : Read Tree
   call = read_call 4 1 x.first x.tape
 
-  abbrev other : Read Tree
-  other = read_call 4 1 x.second x.tape
-
-  passes : (r : Bool) → T (both_pass x && r) → (let_pass call ≡ true) × (let_pass other ≡ true)
-  passes r u =
-      let v = and_l (both_pass x) r u in (is_true (let_pass call) (and_l (let_pass call) (let_pass other) v), is_true (let_pass other) (and_r (let_pass call) (let_pass other) v))
+  -- a test of the tree gives what is asked of the texts
+  texts-under : (Rule : Text → Text → Tree → Type 0) (f : Tree → Bool) → ((t : Tree) → T (f t) → (length x.first ≡ length x.second) × Rule x.first x.second t)
+      → T (both_pass x && of_tree f call) → TextsUnder Rule 4 1 x.first x.second x.tape
+  texts-under Rule f g w =
+      let u : T (of_tree f call) = grind arith in
+      record {
+        same_length = of_some f call u (λ t v. (g t v).0);
+        pass_a = grind arith;
+        pass_b = grind arith;
+        rule = λ t p e. (g t (rw e at u)).1;
+      }
 
   meets-pair : T (meets x) → MaskedPair 4 1 x.first x.second x.tape
-  meets-pair w =
-      let u = and_r (both_pass x) (of_tree f call) w in
-      record {
-        same_length = of_some f call u (λ t v. asks t v same_length);
-        pass_a = (passes (of_tree f call) w).0;
-        pass_b = (passes (of_tree f call) w).1;
-        rule =
-            λ t p e.
-            let v = of_tree_lem f call t p u e in
-            record {
-              no_newline = asks t v no_newline;
-              in_some_token = asks t v in_some_token;
-              strictly_inside = asks t v strictly_inside;
-              in_quotes = asks t v in_quotes;
-              not_copied = asks t v not_copied;
-              no_white_space_end = asks t v no_white_space_end;
-            };
-      }
-    where
-      f : Tree → Bool
-      f = all_hold (λ c. false) x.first x.second conditions
-
-      asks : (t : Tree) → T (f t) → (c : Condition) → Asks c x.first x.second t
-      asks t v c = all_asked (λ d. false) x.first x.second t v c refl
+  meets-pair =
+      texts-under Masked (all_hold (λ c. false) x.first x.second conditions) (λ t v.
+      let asks : (c : Condition) → Asks c x.first x.second t = λ c. all_asked (λ d. false) x.first x.second t v c refl in (
+        asks same_length,
+        record {
+          no_newline = asks no_newline;
+          in_some_token = asks in_some_token;
+          strictly_inside = asks strictly_inside;
+          in_quotes = asks in_quotes;
+          not_copied = asks not_copied;
+          no_white_space_end = asks no_white_space_end;
+        },
+      ))
 
   meets-pair_for_layout : T (meets_for_layout x) → MaskedPairForLayout 4 1 x.first x.second x.tape
-  meets-pair_for_layout w =
-      let u = and_r (both_pass x) (of_tree f call) w in
-      record {
-        same_length = of_some f call u (λ t v. asked x.first x.second t same_length (and_l (l t) (h t) v));
-        pass_a = (passes (of_tree f call) w).0;
-        pass_b = (passes (of_tree f call) w).1;
-        rule = λ t p e. asked_for_layout x.first x.second t (and_r (l t) (h t) (of_tree_lem f call t p u e));
-      }
-    where
-      l : Tree → Bool
-      l t = holds x.first x.second t same_length
-
-      h : Tree → Bool
-      h t = holds_for_layout x.first x.second t
-
-      f : Tree → Bool
-      f t = l t && h t
+  meets-pair_for_layout =
+      texts-under MaskedForLayout (λ t. holds x.first x.second t same_length && holds_for_layout x.first x.second t)
+      (λ t v. (asked x.first x.second t same_length (grind arith), asked_for_layout x.first x.second t (grind arith)))
 
 pub met : MaskedPair 4 1 masked.first masked.second masked.tape
 met = meets-pair masked (and_l (meets masked) (meets_for_layout masked_for_layout) tables.met)
@@ -138,26 +96,23 @@ worked_map = maps-masked 4 1 masked.first masked.second masked.tape met space ma
 -- its texts differ
 pub masked-differs : Differ masked.first masked.second 8
 unfolding masked
-masked-differs e = T_not (eqb 0xC3 0xF0) tt (subst (λ (n : ℕ). T (eqb 0xC3 n)) e tt)
+masked-differs e = omega arith
 
 -- ── each condition is needed
+
+of_three : (x y z : Bool) → T (x && (y && z)) → T x × T y × T z
+of_three x y z t = grind arith
 
 -- of a claim that its test says
 module _ (claim : Pair → Bool) (Claimed : Pair → Type 0) (said : (x : Pair) → Claimed x → T (claim x)) where
   is-needed : (x : Broken) → T (needed claim x) → Needed Claimed x
-  is-needed x u = go (read_tree (length x.pair.first) x.pair.tape) refl (and_l read rest u)
+  is-needed x u = go (read_tree (length x.pair.first) x.pair.tape) refl w.0
     where
       f : Tree → Bool
       f = all_hold (λ c. eqb (number c) (number x.without)) x.pair.first x.pair.second conditions
 
-      read : Bool
-      read = of_tree f (read_tree (length x.pair.first) x.pair.tape)
-
-      unclaimed : Bool
-      unclaimed = not (claim x.pair)
-
-      rest : Bool
-      rest = both_pass x.pair && unclaimed
+      w : T (of_tree f (read_tree (length x.pair.first) x.pair.tape)) × T (both_pass x.pair) × T (not (claim x.pair))
+      w = of_three (of_tree f (read_tree (length x.pair.first) x.pair.tape)) (both_pass x.pair) (not (claim x.pair)) u
 
       go : (r : Read Tree) → read_tree (length x.pair.first) x.pair.tape ≡ r → T (of_tree f r) → Needed Claimed x
       go (refused y p) e v = absurd v
@@ -166,11 +121,11 @@ module _ (claim : Pair → Bool) (Claimed : Pair → Type 0) (said : (x : Pair) 
             tree = t;
             place = p;
             read = e;
-            passes = and_l (both_pass x.pair) unclaimed (and_r read rest u);
+            passes = w.1;
             others =
                 λ c ne.
                 all_asked (λ d. eqb (number d) (number x.without)) x.pair.first x.pair.second t v c (ne_eqb (number c) (number x.without) ne);
-            broken = λ k. T_not (claim x.pair) (and_r (both_pass x.pair) unclaimed (and_r read rest u)) (said x.pair k);
+            broken = λ k. T_not (claim x.pair) w.2 (said x.pair k);
           }
 
   are_needed : (xs : List Broken) → T (all_needed claim xs) → EachNeeded Claimed xs

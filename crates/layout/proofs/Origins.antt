@@ -1,12 +1,10 @@
 -- Every byte of the layout with an origin is the text's byte there, save for the case of a letter.
-use Prim.Native.Nat.{ℕ, zero, suc, ◌+◌, ◌-◌, ◌*◌, ◌<◌}
+use Prim.Native.Nat.{ℕ, zero, suc, ◌+◌, ◌<◌}
 use native.Mathlib.Omega.{arith}
-use native.Mathlib.Nat.{add-zero}
-use mathlib.Core.Path.{◌≡◌, ap, subst, ◌∙◌}
-use mathlib.Core.Bool.{Bool, true, false, cond, not, ◌&&◌}
+use mathlib.Core.Path.{◌≡◌, subst, ◌∙◌}
+use mathlib.Core.Bool.{Bool, true, false}
 use mathlib.Core.List.{List, [], ◌∷◌, ◌++◌, map}
-use lib.ListN.{length, get_or, take, drop, replicate, length-take}
-use lib.Seq.{get_or-drop, get_or-take}
+use lib.ListN.{length, get_or, take, drop, replicate}
 use lib.Dec.{leb}
 use Rattle.std.proofs.lemmas.Bool.Decides.{nat_tests}
 use Rattle.basics.specs.Case.{to_uppercase, to_lowercase}
@@ -16,29 +14,23 @@ use Rattle.context.specs.Context.{Step, new_state, write_newline, lead, write_to
 use Rattle.context.specs.Context as context
 use Rattle.context.specs.declared.FormatConfig.{FormatConfig}
 use Rattle.context.specs.declared.State.{State}
+use Rattle.context.proofs.Bytes.{token-at}
 use Rattle.tape.specs.Tree.{Tree}
 use Rattle.tape.specs.Tape.{Read, refused, got}
 use Rattle.tape.specs.Call.{read_call}
-use Rattle.layout.specs.Arms.{Spacing, newline, space, indent, dedent, note, blank_line, blank_line_before_comment, line_or_space, spacing, write_text, write_keyword, write_sign}
+use Rattle.layout.specs.Arms.{Spacing, spacing, write_text, write_keyword, write_sign}
 use Rattle.layout.specs.Calls.{Call, put_spacing, act_at, raw, calls}
-use Rattle.layout.specs.Layout.{nothing_written, newline_if, do_spacing, step, pieces, written, original, pieces_of, format}
+use Rattle.layout.specs.Layout.{do_spacing, step, pieces, written, original, pieces_of, format}
 use Rattle.layout.specs.Outcome.{of_read, config_of, outcome}
 use Rattle.layout.specs.Origins.{ComesFrom, AllComeFrom}
 use Rattle.layout.specs.Masking.{fitted_cells, cells_after}
+use Rattle.layout.proofs.PieceStarts.{each-spacing, each-lead}
 
 -- ── a change of case changes letters alone
 
-lower_upper : (x : ℕ) → to_lowercase (to_uppercase x) ≡ to_lowercase x
-unfolding to_lowercase to_uppercase
-lower_upper x = grind (arith, nat_tests)
-
-lower_lower : (x : ℕ) → to_lowercase (to_lowercase x) ≡ to_lowercase x
-unfolding to_lowercase
-lower_lower x = grind (arith, nat_tests)
-
 lower_case : (u : Bool) (x : ℕ) → to_lowercase (to_case u x) ≡ to_lowercase x
-lower_case true x = lower_upper x
-lower_case false x = lower_lower x
+unfolding to_lowercase to_uppercase
+lower_case u x = grind (arith, nat_tests)
 
 -- ── lists of cells
 
@@ -58,13 +50,10 @@ module _ (t : Text) where
   all-copied : (p : ℕ) (bs : List ℕ) → ((i : ℕ) → i < length bs → get_or bs i 0 ≡ get_or t (p + i) 0) → All (copied_from p bs)
   all-copied p [] h = tt
   all-copied p (b ∷ bs) h =
-      (ap to_lowercase (h 0 (omega arith) ∙ ap (λ (q : ℕ). get_or t q 0) (add-zero p)), all-copied (suc p) bs (λ i k. h (suc i) (omega arith) ∙ ap (λ (q : ℕ). get_or t q 0) (omega arith)))
+      (let e = h 0 (omega arith) in grind arith, all-copied (suc p) bs (λ i k. let e = h (suc i) (omega arith) in grind arith))
 
   all-span : (s e : ℕ) → All (span_cells t s e)
-  unfolding token_text
-  all-span s e = all-copied s (take (e - s) (drop s t)) (λ i h.
-      let k : i < e - s = omega (arith, length-take (e - s) (drop s t)) in
-      rw (get_or-take, get_or-drop))
+  all-span s e = all-copied s (token_text t s e) (token-at t s e)
 
   all-in_case : (u : Bool) (X : List Cell) → All X → All (map (cell_in_case u) X)
   all-in_case u [] k = tt
@@ -75,13 +64,12 @@ module _ (t : Text) where
       one (from p) w = lower_case u c.byte ∙ w
 
   all_take : (n : ℕ) (X : List Cell) → All X → All (take n X)
-  all_take zero X u = tt
-  all_take (suc n) [] u = tt
   all_take (suc n) (c ∷ X) u = (u.0, all_take n X u.1)
+  all_take _ _ u = tt
 
   all-trim : (X : List Cell) → All X → All (trim_end X)
   unfolding trim_end
-  all-trim X u = all_take (trimmed_length (bytes_of X)) X u
+  all-trim X = all_take (trimmed_length (bytes_of X)) X
 
   all_end : (X : List Cell) → All X → All (end_line X)
   all_end [] u = tt
@@ -92,38 +80,12 @@ module _ (t : Text) where
   abbrev Good : Step → Type 0
   Good r = All r.1.lead × All r.1.body
 
-  good_newline : (s : State) → Good (write_newline s)
-  unfolding write_newline
-  good_newline s = (tt, (tt, tt))
-
-  good_newline_if : (b : Bool) (s : State) → Good (newline_if b s)
-  good_newline_if true s = good_newline s
-  good_newline_if false s = (tt, tt)
-
   good_spacing : (x : Spacing) (s : State) → Good (do_spacing x s)
-  unfolding do_spacing
-  good_spacing newline s = good_newline s
-  good_spacing space s = (tt, tt)
-  good_spacing indent s = (tt, tt)
-  good_spacing dedent s = (tt, tt)
-  good_spacing (note b) s = (tt, tt)
-  good_spacing blank_line s = good_newline_if (take_pending_blank_line s).0 (take_pending_blank_line s).1
-  good_spacing blank_line_before_comment s =
-      good_newline_if ((take_pending_blank_line s).0 && not (take_pending_blank_line s).1.at_line_start) (take_pending_blank_line s).1
-  good_spacing line_or_space s = go (take_pending_newline s).0 (take_pending_newline s).1
-    where
-      go : (b : Bool) (r : State) → Good (cond b (newline_if (not r.at_line_start) r) (nothing_written (write_space r)))
-      go true r = good_newline_if (not r.at_line_start) r
-      go false r = (tt, tt)
+  unfolding write_newline
+  good_spacing = each-spacing Good (λ s. (tt, (tt, tt))) (λ s. (tt, tt))
 
   all-lead : (config : FormatConfig) (s : State) → All (lead config s)
-  unfolding lead
-  all-lead config s = go s.at_line_start s.needs_space
-    where
-      go : (b c : Bool) → All (cond b (replicate (s.indent_level * config.indent_width) (fresh 32)) (cond c (fresh 32 ∷ []) []))
-      go true c = all-fresh (s.indent_level * config.indent_width) 32
-      go false true = (tt, tt)
-      go false false = tt
+  all-lead = each-lead All (λ n. all-fresh n 32)
 
   good_step : (config : FormatConfig) (c : Call) (s : State) → Good (step config t c s)
   unfolding step write_token context.write_keyword write_raw

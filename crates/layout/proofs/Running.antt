@@ -50,10 +50,12 @@ module _ (config : FormatConfig) (source : Text) where
       let r = step config source c w.0.state in
       let s = after cs r.0 in
       let x = written (pieces config source cs r.0) in
-      run-appends cs (stored r w) h.1
-      ∙ appended-twice s r.0 (bytes_of (r.1.lead ++ r.1.body)) (bytes_of x) w (written-starts config source cs h.1 r.0)
-      ∙ ap (λ (l : List ℕ). appended s l w)
-      (sym (bytes-append (r.1.lead ++ r.1.body) x) ∙ ap bytes_of (append_assoc r.1.lead r.1.body x))
+      cc (
+        run-appends cs (stored r w) h.1,
+        appended-twice s r.0 (bytes_of (r.1.lead ++ r.1.body)) (bytes_of x) w (written-starts config source cs h.1 r.0),
+        bytes-append (r.1.lead ++ r.1.body) x,
+        append_assoc r.1.lead r.1.body x,
+      )
 
 -- ── finish
 
@@ -73,22 +75,16 @@ unfolding trim_end
 cut-bytes X = sym (take-map (λ (c : Cell). c.byte) (kept X) X)
 
 end-some : (Y : List Cell) → (length Y ≡ 0 → ⊥) → end_line Y ≡ Y ++ (fresh 10 ∷ [])
-end-some [] h = absurd (h refl)
-end-some (y ∷ Y) h = refl
-
-end_none : (Y : List Cell) → length Y ≡ 0 → end_line Y ≡ []
-end_none [] h = refl
-end_none (y ∷ Y) h = absurd (omega arith)
+end-some Y h = grind arith
 
 -- nothing is kept: nothing is laid out; else one byte more
 pub finish-none : (X : List Cell) → kept X ≡ 0 → finish X ≡ []
 unfolding finish
-finish-none X h = end_none (trim_end X) (cut-length X ∙ h)
+finish-none X h = let e = cut-length X in grind arith
 
 pub finish-length : (X : List Cell) → (kept X ≡ 0 → ⊥) → length (finish X) ≡ kept X + 1
 unfolding finish
-finish-length X h =
-    ap length (end-some (trim_end X) (λ e. h (sym (cut-length X) ∙ e))) ∙ length-append (trim_end X) (fresh 10 ∷ []) ∙ ap (λ (n : ℕ). n + 1) (cut-length X)
+finish-length X h = let e = cut-length X in grind (arith, length-append)
 
 -- the first k bytes of the space were lent for a layout of which k bytes are kept, and the newline is stored after them
 pub finish-stored : (X : List Cell) (k : ℕ) (space ys : List ℕ) → k ≡ kept X → (k ≡ 0 → ⊥) → k + 1 ≤ length space → ys ≡ splice 0 (bytes_of X) (take k space)
@@ -99,8 +95,8 @@ finish-stored X k space ys p z h q =
     let i = trimmed-le (bytes_of X) in
     let e : ys ≡ bytes_of (trim_end X) = q ∙ splice-covers (bytes_of X) (take k space) (omega arith) ∙ ap (λ (n : ℕ). take n (bytes_of X)) (t ∙ p) ∙ sym (cut-bytes X) in
     let tl = cut-length X in
-    let l : length ys ≡ k = ap length e ∙ length-map (trim_end X) (λ (c : Cell). c.byte) ∙ tl ∙ sym p in
-    let f = end-some (trim_end X) (λ (n : length (trim_end X) ≡ 0). z (p ∙ sym tl ∙ n)) in
-    let m : length (trim_end X ++ (fresh 10 ∷ [])) ≡ suc k = length-append (trim_end X) (fresh 10 ∷ []) ∙ omega arith in
+    let l : length ys ≡ k = omega (arith, ap length e, length-map (trim_end X) (λ (c : Cell). c.byte)) in
+    let f = end-some (trim_end X) (omega arith) in
+    let m : length (trim_end X ++ (fresh 10 ∷ [])) ≡ suc k = omega (arith, length-append (trim_end X) (fresh 10 ∷ [])) in
     rw (f, m, drop-cons space k 0 (omega arith), bytes-append (trim_end X) (fresh 10 ∷ []), ← e)
     (set_at ys (get_or space k 0) (drop (suc k) space) 10 k l ∙ sym (append_assoc ys (10 ∷ []) (drop (suc k) space)))

@@ -1,12 +1,11 @@
 -- The token map has two numbers for each token of the tree: what 17 counts.
 use Prim.Native.Nat.{ℕ, suc, ◌*◌, ◌≤◌}
 use native.Mathlib.Omega.{arith}
-use mathlib.Core.Path.{◌≡◌, refl, sym, ap, ◌∙◌}
-use mathlib.Core.Bool.{Bool, true, false, cond}
+use mathlib.Core.Path.{◌≡◌, refl, ap}
+use mathlib.Core.Bool.{Bool, cond}
 use mathlib.Core.List.{List, [], ◌∷◌, map}
 use lib.ListN.{length, length-append, length-map, length-replicate}
 use Rattle.context.specs.Cells.{Text}
-use Rattle.context.specs.Context.{new_state}
 use Rattle.context.specs.declared.FormatConfig.{FormatConfig}
 use Rattle.tape.specs.Tree.{Children, done, token, node, Tree, size, tokens, count_list_items, copied}
 use Rattle.layout.specs.declared.Local.{Local}
@@ -20,8 +19,7 @@ use Rattle.layout.specs.MapCall.{flat}
 module _ (config : FormatConfig) (text : Text) (pick : ℕ → Children → Arms) where
   -- below a node, copied or not
   below : (t : Bool) (kids : Children) (X : List ℕ) → length X ≡ length (tokens kids) → length (cond t (no_places config text kids) X) ≡ length (tokens kids)
-  below true kids X e = length-replicate (length (tokens kids)) 0
-  below false kids X e = e
+  below t kids X e = grind (arith, length-replicate)
 
   places-length : (c : Children) (r : Arms) (l : Local) (w : Seat) → length (places config text pick r l c w) ≡ length (tokens c)
   unfolding places tokens
@@ -35,8 +33,9 @@ module _ (config : FormatConfig) (text : Text) (pick : ℕ → Children → Arms
       let after = seat_after config text (map put_spacing n.2) (seat_after config text (cond t (format_error_verbatim h) (walk pick text q q.begin kids)) inside) in
       let X = places config text pick q q.begin kids inside in
       let Y = places config text pick r n.0 rest after in
-      length-append (cond t (no_places config text kids) X) Y
-      ∙ rw (below t kids X (places-length kids q q.begin inside), places-length rest r n.0 after) (sym (length-append (tokens kids) (tokens rest)))
+      let u = below t kids X (places-length kids q q.begin inside) in
+      let v = places-length rest r n.0 after in
+      simp length-append (omega arith)
 
   pub places_count : (t : Tree) (w : Seat) → length (places_from config text pick t w) ≡ length (tokens t.kids)
   unfolding places_from
@@ -58,5 +57,4 @@ flat-length (p ∷ ps) = omega (arith, flat-length ps)
 pub map-count : (v : Version) (config : FormatConfig) (text : Text) (t : Tree) → length (flat (token_map v config text t)) ≡ 2 * length (tokens t.kids)
 unfolding token_map
 map-count v config text t =
-    flat-length (token_map v config text t)
-    ∙ ap (λ (n : ℕ). 2 * n) (length-map (places_from config text v.pick t (new_state, 0)) _ ∙ places_count config text v.pick t (new_state, 0))
+    grind (arith, flat-length, length-map, places_count)

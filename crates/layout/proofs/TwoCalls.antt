@@ -1,8 +1,9 @@
 -- The masking rule for two calls, from entry to exit: refusals, answers and output spaces.
 use Prim.Native.Nat.{ℕ, zero, suc}
+use native.Mathlib.Omega.{arith}
 use mathlib.Core.Path.{◌≡◌, refl, sym, ap, ◌∙◌, subst, subst₂}
 use mathlib.Core.Bool.{Bool, true, false}
-use mathlib.Core.List.{List, [], ◌∷◌, ◌++◌}
+use mathlib.Core.List.{List, [], ◌∷◌}
 use lib.ListN.{length, drop}
 use lib.Dec.{leb}
 use Rattle.context.specs.Cells.{Text, Cell, bytes_of, fixed}
@@ -15,7 +16,7 @@ use Rattle.tape.specs.Call.{read_call}
 use Rattle.tape.proofs.Trees.{tokens-fit}
 use Rattle.tape.proofs.Acceptance.{accepted-call, same-reading}
 use Rattle.layout.specs.Layout.{Version, original, format}
-use Rattle.layout.specs.Outcome.{Outcome, refusal, laid, of_read, config_of, outcome, fitted, laid_out}
+use Rattle.layout.specs.Outcome.{Outcome, refusal, laid, of_read, config_of, outcome, laid_out}
 use Rattle.layout.specs.Masking.{MaskedForLayout, MaskedPair, MaskedPairForLayout, fitted_cells, cells_after, SameLines, Alike, AlikeByLines}
 use Rattle.layout.specs.SpanStarts.{SpansStart}
 use Rattle.layout.proofs.PieceStarts.{spans_start}
@@ -24,12 +25,7 @@ use Rattle.layout.proofs.MaskedLayouts.{TokenSpans, KeepsAlike, original-keeps_a
 -- the cells after a call are the space after it
 pub cells_after_lem : (x : Outcome) (space : List ℕ) → bytes_of (cells_after x space) ≡ (laid_out x space).space
 unfolding laid_out
-cells_after_lem (refusal f p) space = bytes-fixed space
-cells_after_lem (laid cs) space = go (leb (length cs) (length space))
-  where
-    go : (t : Bool) → bytes_of (fitted_cells t cs space) ≡ (fitted t cs space).space
-    go true = bytes-append cs (fixed (drop (length cs) space)) ∙ ap (λ (r : List ℕ). bytes_of cs ++ r) (bytes-fixed (drop (length cs) space))
-    go false = bytes-fixed space
+cells_after_lem x space = grind (arith, bytes-append, bytes-fixed)
 
 -- ── two lists of cells that are alike
 
@@ -37,29 +33,25 @@ module _ (a b : Text) where
   -- line for line: where newlines stand at the same places of both texts, they do in both outputs
   pub like_lines : SameLines a b → (X Y : List Cell) → Like a b X Y → SameLines (bytes_of X) (bytes_of Y)
   like_lines w [] [] h i = refl
-  like_lines w [] (y ∷ ys) h i = absurd h
-  like_lines w (x ∷ xs) [] h i = absurd h
   like_lines w (x ∷ xs) (y ∷ ys) h zero = h.0.lines (lines-agree a b w x.origin)
   like_lines w (x ∷ xs) (y ∷ ys) h (suc i) = like_lines w xs ys h.1 i
+  like_lines w _ _ h i = absurd h
 
   -- ── two outcomes
 
   -- refused alike, or laid out alike
   abbrev pub OutcomesLike : Outcome → Outcome → Type 0
   OutcomesLike (refusal f p) (refusal g q) = (f ≡ g) × (p ≡ q)
-  OutcomesLike (refusal f p) (laid ds) = ⊥
-  OutcomesLike (laid cs) (refusal g q) = ⊥
   OutcomesLike (laid cs) (laid ds) = Like a b cs ds
+  OutcomesLike _ _ = ⊥
 
   pub alike : (x y : Outcome) → OutcomesLike x y → (space : List ℕ) → Alike a b x y space
   unfolding laid_out
   alike (refusal f p) (refusal g q) h space =
       record { answers = rw (h.0, h.1); spaces = like_self a b (fixed space); lines = λ w i. refl }
-  alike (refusal f p) (laid ds) h space = absurd h
-  alike (laid cs) (refusal g q) h space = absurd h
   alike (laid cs) (laid ds) h space =
       record {
-        answers = rw l (same_answer_lem (leb (length ds) (length space)));
+        answers = grind (arith, l);
         spaces = spaces;
         lines = λ w. subst₂ SameLines (cells_after_lem (laid cs) space) (cells_after_lem (laid ds) space) (like_lines w (cells_after (laid cs) space) (cells_after (laid ds) space) spaces);
       }
@@ -67,21 +59,25 @@ module _ (a b : Text) where
       l : length cs ≡ length ds
       l = like_length a b cs ds h
 
-      same_answer_lem : (t : Bool) → (fitted t cs space).answer ≡ (fitted t ds space).answer
-      same_answer_lem true = rw l
-      same_answer_lem false = rw l
-
       same-space : (t : Bool) → Like a b (fitted_cells t cs space) (fitted_cells t ds space)
       same-space true = rw l (like_append a b cs ds (fixed (drop (length ds) space)) (fixed (drop (length ds) space)) h (like_self a b (fixed (drop (length ds) space))))
       same-space false = like_self a b (fixed space)
 
       spaces : Like a b (cells_after (laid cs) space) (cells_after (laid ds) space)
       spaces = rw l (same-space (leb (length ds) (length space)))
+  alike _ _ h space = absurd h
 
 -- ── the rule
 
 pub got_same : {t u : Tree} {p q : ℕ} → got t p ≡ got u q → t ≡ u
 got_same e = cc
+
+-- what the checks give of the spans of a tree that is read
+pub read-spans : (width case : ℕ) (text : Text) (tape : List ℕ) (t : Tree) (p : ℕ) → read_call width case text tape ≡ got t p → TokenSpans (length text) t.kids × SpansStart text t
+read-spans width case text tape t p e =
+    let k = accepted-call width case text tape (ap verdict e) in
+    let same : k.accepted.tree ≡ t = got_same (sym k.read ∙ e) in
+    subst (λ (u : Tree). TokenSpans (length text) u.kids × SpansStart text u) same (tokens-fit (length text) tape 11 k.accepted.tree.kids k.accepted.kids, spans_start k)
 
 module _ (width case : ℕ) (a b : Text) (tape : List ℕ) where
   module _ (m : MaskedPairForLayout width case a b tape) where
@@ -91,16 +87,9 @@ module _ (width case : ℕ) (a b : Text) (tape : List ℕ) where
     -- what is known of the tree that both calls read
     pub read-both : (t : Tree) (p : ℕ) → read_call width case a tape ≡ got t p → TokenSpans (length a) t.kids × SpansStart a t × SpansStart b t × MaskedForLayout a b t
     read-both t p e =
-        let k = accepted-call width case a tape (ap verdict e) in
-        let j = accepted-call width case b tape (ap verdict (sym reading ∙ e)) in
-        let same : k.accepted.tree ≡ t = got_same (sym k.read ∙ e) in
-        let other : j.accepted.tree ≡ t = got_same (sym j.read ∙ sym reading ∙ e) in
-        let spans = tokens-fit (length a) tape 11 k.accepted.tree.kids k.accepted.kids in (
-          subst (λ (u : Tree). TokenSpans (length a) u.kids) same spans,
-          subst (SpansStart a) same (spans_start k),
-          subst (SpansStart b) other (spans_start j),
-          m.rule t p e,
-        )
+        let k = read-spans width case a tape t p e in
+        let j = read-spans width case b tape t p (sym reading ∙ e) in
+        (k.0, k.1, j.1, m.rule t p e)
 
     pub outcomes_like : (v : Version) → KeepsAlike a b m.same_length v → OutcomesLike a b (outcome v width case a tape) (outcome v width case b tape)
     unfolding outcome

@@ -7,9 +7,9 @@ ghost use Rattle.layout.specs.Outcome.{answer_of, refused_number, refused_value}
 ghost use Rattle.layout.specs.Routines.{after, flagged};
 
 use tape::Refusal;
-use tape::check::number;
 
-// The local variables of a routine: its flag (which the source names differently in each) and prev_kind.
+// The local variables of a routine: its flag (which the source names differently in each) and prev_kind. Each has its own use: the flag does not say
+// whether a kind went before.
 #[derive(Clone, Copy)]
 pub struct Local {
     pub flag: bool,
@@ -83,13 +83,15 @@ impl From<Refusal> for Refused {
     }
 }
 
+// Methods and no trait: desk_job and book have such pairs of numbers too. A trait with its law would be ten lines, and two more in each of the three types,
+// and would save none, since each type has both methods to write in any case.
 impl Refused {
     // The refusal's number: 1 to 12, 15 or 16; 13; or 17.
     pub fn number(self) -> u64
         ensures { result ≡ refused_number self }
     {
         match self {
-            Refused::Input(refusal) => number(refusal.fault),
+            Refused::Input(refusal) => refusal.fault.number(),
             Refused::OutputSpace(_) => 13,
             Refused::MapSpace(_) => 17,
         }
@@ -108,7 +110,7 @@ impl Refused {
     }
 }
 
-// What both calls answer, as two numbers: 0 and a length, or a refusal's number and its second number.
+// What both calls answer, as two numbers, since the C interface has them so: 0 and a length, or a refusal's number and its second number.
 #[repr(C)]
 #[derive(Clone, Copy, PartialEq, Eq)]
 pub struct Answer {

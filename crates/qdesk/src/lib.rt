@@ -1,4 +1,4 @@
-// Every entry of the library, each thin over a proved function. `qdesk_c` hands them to C.
+// Every entry of the library: each calls a proved function and makes numbers of its answer. `qdesk_c` hands them to C.
 #![tactic(auto)]
 
 ghost use Rattle.std.specs.Prelude.{◌≡◌, ltb};
@@ -37,7 +37,7 @@ pub fn qdesk_layout_map(
 pub fn qdesk_word(word: &[u8]) -> Answer
     ensures { result ≡ word_answer (word_of word.now) }
 {
-    // Not a `From`, since both types are of other crates.
+    // The sort is a number, as the C interface has it. Not a `From`: it would stand in layout, which has no use for it, and its definition with it.
     match word_of(word) {
         Word::Plain => Answer {
             number: 0,

@@ -1,4 +1,4 @@
-// The C interface: each function of `qdesk` under its name in C (include/qdesk.h), with the same clauses.
+// The C interface: each function of `qdesk` under its name in C (include/qdesk.h), with the same clauses. Its parameters stand apart, as they do in C.
 #![tactic(auto)]
 
 ghost use Rattle.std.specs.Prelude.{◌≡◌, ltb};
@@ -46,7 +46,6 @@ pub extern "C" fn qdesk_word(word: &[u8]) -> Answer
     qdesk::qdesk_word(word)
 }
 
-// The tally is four numbers here, in the record's order. `more` is 0, or the book goes on after these bytes.
 #[unsafe(no_mangle)]
 pub extern "C" fn qdesk_report(
     book: &[u8],

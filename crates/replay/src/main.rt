@@ -4,6 +4,7 @@
 use std::io;
 use std::io::Write;
 
+// The arrays lie on the stack, since there is no heap.
 fn main(rt: HostRuntime) -> io::Result<()> {
     let mut list = [0u8; 1048576];
     let mut line = [0u8; 128];

@@ -12,7 +12,7 @@ use Rattle.basics.proofs.Same.{same-equal}
 use Rattle.keywords.specs.Words.{same}
 use Rattle.layout.specs.declared.Answer.{Answer}
 use Rattle.layout.specs.Outcome.{answers, Outcome, Result, laid_out}
-use Rattle.replay_list.specs.Agreement.{calls_agree, same_result, no_space_number}
+use Rattle.replay_list.specs.Agreement.{calls_agree, no_space_number}
 
 -- the layout, and 255 up to so many bytes
 abbrev pub expected : List ℕ → ℕ → List ℕ
@@ -59,10 +59,21 @@ pub compares : (o : Outcome) (number value : ℕ) (layout : List ℕ) (room : �
     → ((p && q) && s) ≡ calls_agree o number value layout room
 unfolding calls_agree
 compares o number value layout room m a left after n p q s hm hl hn hp hq hs =
-    and-grouped p q s
-    ∙ ap (λ (x : Bool). x && (q && s)) hp
-    ∙ ap (λ (x : Bool). answers m n value && (x && s)) hq
-    ∙ ap (λ (x : Bool). answers m n value && (answers a number value && x)) hs
-    ∙ ap (λ (k : ℕ). answers m k value && same_result (record { answer = a; space = after }) number value layout) hn
-    ∙ ap (λ (x : Result). answers x.answer (no_space_number number value) value && same_result (record { answer = a; space = after }) number value layout) hm
-    ∙ ap (λ (x : Result). answers (laid_out o []).answer (no_space_number number value) value && same_result x number value layout) hl
+    rw (and-grouped p q s, hp, hq, hs, hn, ← hm, ← hl)
+
+-- the three ways through the comparison, one after the other: `start` is the record's space before its call
+module _ (o : Outcome) (number value : ℕ) (layout : List ℕ) (room : ℕ) (m a : Answer) (left start after : List ℕ) (n : ℕ)
+    (hb : start ≡ replicate room 255) (hm : ◌≡◌ {A = Result} (record { answer = m; space = left }) (laid_out o [])) (hl : ◌≡◌ {A = Result} (record { answer = a; space = after }) (laid_out o start)) (hn : n ≡ no_space_number number value) where
+  by_parts : (p q s : Bool) → p ≡ answers m n value → q ≡ answers a number value → s ≡ same after (expected layout (length after)) → ((p && q) && s) ≡ calls_agree o number value layout room
+  by_parts p q s = compares o number value layout room m a left after n p q s hm (hl ∙ ap (laid_out o) hb) hn
+
+  module _ (p : Bool) (hp : p ≡ answers m n value) where
+    pub differs_in_none : p ≡ false → false ≡ calls_agree o number value layout room
+    differs_in_none t = rw t at (by_parts p _ _ hp refl refl)
+
+    module _ (tp : p ≡ true) (q : Bool) (hq : q ≡ answers a number value) where
+      pub differs_laid : q ≡ false → false ≡ calls_agree o number value layout room
+      differs_laid t = rw (tp, t) at (by_parts p q _ hp hq refl)
+
+      pub compares_space : q ≡ true → (s : Bool) → s ≡ same after (expected layout (length after)) → s ≡ calls_agree o number value layout room
+      compares_space t s hs = rw (tp, t) at (by_parts p q s hp hq hs)

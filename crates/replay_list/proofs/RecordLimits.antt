@@ -21,25 +21,28 @@ pub record Within (head : RecordHead) : Type 0 where
   pub space : head.space ≤ 4096
   pub layout : layout_length head ≤ head.space
 
-pub run-within : (run : Run) → run_fits run ≡ true → RunWithin run
+-- the test comes first in each, by which the check finds the law
+pub run_within : (run : Run) → run_fits run ≡ true → (run_fits run ≡ true) × RunWithin run
 unfolding run_fits
-run-within run h =
+run_within run h =
     let q = and_parts (leb run.stored 4096) (leb (run.stored + run.zeros) 262145) h in
-    record { stored = leb-true _ _ q.0; whole = leb-true _ _ q.1 }
+    (h, record { stored = leb-true _ _ q.0; whole = leb-true _ _ q.1 })
 
-pub within-limits : (head : RecordHead) → fitting head ≡ true → Within head
+pub within_limits : (head : RecordHead) → fitting head ≡ true → (fitting head ≡ true) × Within head
 unfolding fitting
-within-limits head h =
+within_limits head h =
     let t = run_fits head.text in
     let u = run_fits head.tape in
     let p = and_parts (t && u && leb head.space 4096) (leb (layout_length head) head.space) h in
     let q = and_parts (t && u) (leb head.space 4096) p.0 in
-    let s = and_parts t u q.0 in
-    record {
-      text-fits = s.0;
-      tape-fits = s.1;
-      text = run-within head.text s.0;
-      tape = run-within head.tape s.1;
-      space = leb-true _ _ q.1;
-      layout = leb-true _ _ p.1;
-    }
+    let s = and_parts t u q.0 in (
+      h,
+      record {
+        text-fits = s.0;
+        tape-fits = s.1;
+        text = (run_within head.text s.0).1;
+        tape = (run_within head.tape s.1).1;
+        space = leb-true _ _ q.1;
+        layout = leb-true _ _ p.1;
+      },
+    )

@@ -1,15 +1,15 @@
 -- A record's runs, what a record comes to, and the replay from a record on.
 use mathlib.Core.Path.{◌≡◌, refl, sym, ap, subst, ◌∙◌}
 use mathlib.Core.Bool.{Bool, true, false, cond, ◌&&◌, ◌||◌}
-use mathlib.Core.List.{List, ◌∷◌, ◌++◌}
-use Prim.Native.Nat.{ℕ, zero, suc, ◌+◌, ◌-◌, ◌≤◌, ◌<◌}
+use mathlib.Core.List.{List, ◌++◌}
+use Prim.Native.Nat.{ℕ, suc, ◌+◌, ◌-◌, ◌≤◌, ◌<◌}
 use native.Mathlib.Omega.{arith}
-use native.Mathlib.Nat.{le_of_suc-le-suc, not-suc-le-zero}
 use lib.ListN.{length, take, drop, replicate, length-drop, length-take}
 use lib.Dec.{leb, ltb, eqb}
 use lib.Seq.{take_all, take-append-add}
 use borrow.Author.Tests.{le-leb, lt-leb, lt-ltb, le-ltb, leb-true, eqb-true, eqb-false}
 use Rattle.std.proofs.lemmas.Bool.{and_parts}
+use Rattle.std.proofs.lemmas.List.{take-replicate, drop-replicate}
 use Rattle.layout.specs.Layout.{original}
 use Rattle.layout.specs.Outcome.{outcome}
 use Rattle.std.specs.Prelude.{Option, Some, None, Ok}
@@ -21,17 +21,6 @@ use Rattle.replay_list.specs.Agreement.{calls_agree}
 use Rattle.replay_list.specs.Replay.{record_agrees, verdict_on, verdict, counted, bad_at, after_record, replayed_from, no_records, replayed}
 
 -- ── a run that is copied into zeros
-
-take-zeros : (n k : ℕ) → n ≤ k → take n (replicate {A = ℕ} k 0) ≡ replicate n 0
-take-zeros zero k h = refl
-take-zeros (suc n) zero h = absurd (not-suc-le-zero h)
-take-zeros (suc n) (suc k) h = ap (λ (l : List ℕ). 0 ∷ l) (take-zeros n k (le_of_suc-le-suc h))
-
-take-drop_zeros : (n s k : ℕ) → s + n ≤ k → take n (drop s (replicate {A = ℕ} k 0)) ≡ replicate n 0
-take-drop_zeros n zero k h = take-zeros n k (omega (arith, h))
-take-drop_zeros zero (suc s) zero h = refl
-take-drop_zeros (suc n) (suc s) zero h = absurd (omega (arith, h))
-take-drop_zeros n (suc s) (suc k) h = take-drop_zeros n s k (omega (arith, h))
 
 pub length-between : (start end : ℕ) (bytes : List ℕ) → end ≤ length bytes → length (between start end bytes) ≡ end - start
 length-between start end bytes h =
@@ -46,29 +35,25 @@ between-same bytes a s b e p q = rw (p, q) refl
 -- the front of an array of zeros after a run was copied to it
 in_zeros : (run : List ℕ) (zeros room n : ℕ) → n ≡ length run + zeros → n ≤ room → take n (run ++ drop (length run) (replicate room 0)) ≡ run ++ replicate zeros 0
 in_zeros run zeros room n e h =
-    ap (λ (k : ℕ). take k (run ++ drop (length run) (replicate room 0))) e
-    ∙ take-append-add run (drop (length run) (replicate room 0)) zeros
-    ∙ ap (λ (l : List ℕ). run ++ l) (take-drop_zeros zeros (length run) room (omega (arith, e, h)))
+    rw (
+      e,
+      take-append-add run (drop (length run) (replicate room 0)) zeros,
+      drop-replicate {X = ℕ} (length run) room 0,
+      take-replicate {X = ℕ} zeros (room - length run) 0 (omega (arith, e, h)),
+    )
 
 -- the same of the part from a to b
 pub run-copied : {out : List ℕ} (bytes : List ℕ) (zeros room n a s b e : ℕ) → a ≡ s → b ≡ e → e ≤ length bytes → n ≡ e - s + zeros → n ≤ room
     → out ≡ between a b bytes ++ drop (length (between a b bytes)) (replicate room 0) → take n out ≡ between s e bytes ++ replicate zeros 0
 run-copied {out} bytes zeros room n a s b e p q l m h w =
-    let k = length-between a b bytes (omega (arith, q, l)) in
-    ap (λ (x : List ℕ). take n x) w
-    ∙ in_zeros (between a b bytes) zeros room n (omega (arith, k, p, q, m)) h
-    ∙ ap (λ (x : List ℕ). x ++ replicate zeros 0) (between-same bytes a s b e p q)
+    rw (w, p, q) (in_zeros (between s e bytes) zeros room n (omega (arith, length-between s e bytes l, m)) h)
 
 -- the two calls of a record, by the parts that they were given
 pub record_agrees-of : {r : Bool} {text tape layout : List ℕ} {room : ℕ} (bytes : List ℕ) (head : RecordHead) → text ≡ text_of bytes head → tape ≡ tape_of bytes head → layout ≡ layout_of bytes head → room ≡ head.space
     → r ≡ calls_agree (outcome original head.width head.case text tape) head.number head.value layout room → r ≡ record_agrees bytes head
 unfolding record_agrees
 record_agrees-of {r} {text} {tape} {layout} {room} bytes head e f g k h =
-    h
-    ∙ ap (λ (t : List ℕ). calls_agree (outcome original head.width head.case t tape) head.number head.value layout room) e
-    ∙ ap (λ (t : List ℕ). calls_agree (outcome original head.width head.case (text_of bytes head) t) head.number head.value layout room) f
-    ∙ ap (λ (l : List ℕ). calls_agree (outcome original head.width head.case (text_of bytes head) (tape_of bytes head)) head.number head.value l room) g
-    ∙ ap (λ (n : ℕ). calls_agree (outcome original head.width head.case (text_of bytes head) (tape_of bytes head)) head.number head.value (layout_of bytes head) n) k
+    h ∙ rw (e, f, g, k)
 
 -- ── what a record comes to
 

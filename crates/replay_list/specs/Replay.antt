@@ -1,5 +1,6 @@
 -- What a list comes to, record by record.
-use Rattle.std.specs.Prelude.{ℕ, zero, suc, ◌+◌, Bool, cond, ◌&&◌, ◌||◌, Option, Some, None, Result, Ok, Err, List, length, drop, leb, ltb, eqb}
+use Rattle.std.specs.Prelude.{ℕ, zero, suc, ◌+◌, Bool, cond, ◌&&◌, ◌||◌, Option, Some, None, Result, Ok, Err, List, length, drop, leb, ltb}
+use Rattle.std.specs.Option.{option_or}
 use Rattle.layout.specs.Layout.{original}
 use Rattle.layout.specs.Outcome.{outcome}
 use Rattle.replay_list.specs.declared.RecordHead.{RecordHead}
@@ -27,7 +28,7 @@ unfoldable pub counted : Tally → Bool → Tally
 counted t agrees =
     cond agrees
     (record { records = t.records + 1; differ = t.differ; first = t.first })
-    (record { records = t.records + 1; differ = t.differ + 1; first = cond (eqb t.differ 0) t.records t.first })
+    (record { records = t.records + 1; differ = t.differ + 1; first = option_or t.first (Some t.records) })
 
 abbrev pub bad_at : ℕ → Result Tally BadRecord
 bad_at n = Err (record { at = n })
@@ -43,7 +44,7 @@ replayed_from more zero bytes t = cond (more || ltb 0 (length bytes)) (bad_at t.
 replayed_from more (suc left) bytes t = after_record (verdict bytes) bytes t (replayed_from more left)
 
 abbrev pub no_records : Tally
-no_records = record { records = 0; differ = 0; first = 0 }
+no_records = record { records = 0; differ = 0; first = None }
 
 -- the number of records, and then the records
 unfoldable pub replayed : Bool → List ℕ → Result Tally BadRecord

@@ -9,7 +9,7 @@ use crate::RecordHead;
 use formatter::layout;
 use layout::Answer;
 
-// In no space a layout is refused with 13, unless it needs no byte.
+// In no space a layout is refused with 13, unless it needs no byte. Two numbers and no Result: a record may hold any two, and a wrong one is to differ.
 fn no_space_number(head: RecordHead) -> u64
     ensures { result ≡ no_space_number head.number head.value }
 {

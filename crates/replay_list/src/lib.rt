@@ -34,19 +34,19 @@ pub struct RecordHead {
     pub value: u64,
 }
 
-// What a whole record within the limits comes to: whether both calls agree with it, and where it ends.
+// What a whole record within the limits comes to: whether both calls agree with it, and where it ends. Both hold of each.
 #[derive(Clone, Copy)]
 pub struct Compared {
     pub agreed: bool,
     pub end: usize,
 }
 
-// So many records, so many of which differ, and the number of the first of these, or 0.
-#[derive(Clone, Copy)]
+// So many records, so many of which differ, and the number of the first of these where there is one.
+#[derive(Clone, Copy, Default)]
 pub struct Tally {
     pub records: u64,
     pub differ: u64,
-    pub first: u64,
+    pub first: Option<u64>,
 }
 
 // The list is bad at a record.
@@ -57,6 +57,7 @@ pub struct BadRecord {
 
 // Puts the line that is printed for the list into `out`, as far as that goes, and answers how many bytes it has put.
 // `more`: whether the input goes on after the list's bytes.
+#[tactic(auto, unfolding(crate::specs::Line::replayed_line))]
 pub fn print_replayed(list: &[u8], more: bool, out: &mut [u8]) -> usize
     ensures { ◌≡◌ {A = Written} (record { end = result; space = out.new }) (written 0 (replayed_line (replayed more list.now)) out.old) }
 {

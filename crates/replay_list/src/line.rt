@@ -17,7 +17,7 @@ pub(crate) fn print_bad(at: u64, out: &mut [u8]) -> usize
 }
 
 // The first record that differs is named where there is one.
-pub(crate) fn print_end(count: u64, differ: u64, first: u64, out: &mut [u8]) -> usize
+pub(crate) fn print_end(count: u64, differ: u64, first: Option<u64>, out: &mut [u8]) -> usize
     ensures { ◌≡◌ {A = Written} (record { end = result; space = out.new }) (written 0 (end_line count differ first) out.old) }
 {
     let mut writer = Writer::new(out);
@@ -25,7 +25,7 @@ pub(crate) fn print_end(count: u64, differ: u64, first: u64, out: &mut [u8]) -> 
     writer.put_all(b" vectors, ");
     writer.put_decimal(20, differ);
     writer.put_all(b" differ");
-    if differ != 0 {
+    if let Some(first) = first {
         writer.put_all(b", the first is ");
         writer.put_decimal(20, first);
     }

@@ -1,9 +1,10 @@
-// A record's nine numbers, and whether they keep to the limits that the list promises.
+// A record's nine numbers, each at its fixed place, and whether they keep to the limits that the list promises.
 ghost use Rattle.std.specs.Prelude.{◌≡◌, true, None, ◌+◌, ◌≤◌, length, MatchOption};
 ghost use Rattle.replay_list.specs.Record.{number_at, run_at, head_of, run_fits, fitting, layout_length, tape_start, layout_start, record_end};
 ghost use Rattle.replay_list.specs.Replay.{verdict};
 
 use crate::{RecordHead, Run};
+use tape::commands::bytes_at;
 
 // The numbers of a record that keeps to the limits.
 #[derive(Clone, Copy)]
@@ -16,16 +17,7 @@ pub(crate) fn u64_at(bytes: &[u8], at: usize) -> u64
     requires { at + 8 ≤ length bytes.now }
     ensures { result ≡ number_at bytes.now at }
 {
-    u64::from_le_bytes([
-        bytes[at],
-        bytes[at + 1],
-        bytes[at + 2],
-        bytes[at + 3],
-        bytes[at + 4],
-        bytes[at + 5],
-        bytes[at + 6],
-        bytes[at + 7],
-    ])
+    u64::from_le_bytes(bytes_at(bytes, at))
 }
 
 fn run_at(bytes: &[u8], at: usize) -> Run
@@ -38,7 +30,8 @@ fn run_at(bytes: &[u8], at: usize) -> Run
     }
 }
 
-fn read_head(bytes: &[u8]) -> RecordHead
+#[tactic(auto, unfolding(crate::specs::Record::head_of))]
+pub fn read_head(bytes: &[u8]) -> RecordHead
     requires { 72 ≤ length bytes.now }
     ensures { result ≡ head_of bytes.now }
 {
@@ -62,6 +55,7 @@ impl Run {
     }
 
     // The length of a run that fits, with its zeros.
+    #[tactic(auto, using(crate::proofs::RecordLimits::run_within))]
     pub(crate) fn length(self) -> usize
         requires { run_fits self ≡ true }
         ensures { result ≡ self.stored + self.zeros }
@@ -71,7 +65,7 @@ impl Run {
 }
 
 impl RecordHead {
-    // How many bytes of layout are stored.
+    // How many bytes of layout are stored: none where the call is refused. By the number as it is stored, as in agree.rt.
     fn layout_length(self) -> u64
         ensures { result ≡ layout_length self }
     {
@@ -106,18 +100,21 @@ impl FittingHead {
     }
 
     // Where the runs of the record begin, and where it ends.
+    #[tactic(auto, using(crate::proofs::RecordLimits::within_limits))]
     pub(crate) fn tape_start(self) -> usize
         ensures { result ≡ tape_start self.head }
     {
         72 + self.head.text.stored as usize
     }
 
+    #[tactic(auto, using(crate::proofs::RecordLimits::within_limits))]
     pub(crate) fn layout_start(self) -> usize
         ensures { result ≡ layout_start self.head }
     {
         self.tape_start() + self.head.tape.stored as usize
     }
 
+    #[tactic(auto, using(crate::proofs::RecordLimits::within_limits))]
     pub(crate) fn end(self) -> usize
         ensures { result ≡ record_end self.head }
     {

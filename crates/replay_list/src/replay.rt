@@ -15,7 +15,8 @@ fn copy_to_front(space: &mut [u8], stored: &[u8])
     space[..stored.len()].copy_from_slice(stored);
 }
 
-// Makes both calls of a whole record. The arrays hold zeros behind what is copied into them.
+// Makes both calls of a whole record. The arrays lie on the stack, since there is no heap, and hold zeros behind what is copied into them.
+#[tactic(auto, using(crate::proofs::RecordLimits::within_limits))]
 fn record_agrees(bytes: &[u8], fitting: FittingHead) -> bool
     requires { record_end fitting.head ≤ length bytes.now }
     ensures { result ≡ record_agrees bytes.now fitting.head }
@@ -69,11 +70,7 @@ impl Tally {
         Tally {
             records,
             differ: self.differ + 1,
-            first: if self.differ == 0 {
-                self.records
-            } else {
-                self.first
-            },
+            first: self.first.or(Some(self.records)),
         }
     }
 }
@@ -87,11 +84,7 @@ pub(crate) fn replay_list(list: &[u8], more: bool) -> Result<Tally, BadRecord>
     }
     let records = u64_at(list, 0);
     let mut rest = &list[8..];
-    let mut tally = Tally {
-        records: 0,
-        differ: 0,
-        first: 0,
-    };
+    let mut tally = Tally::default();
     for at in 0..records {
         let Some(compared) = replay_record(rest) else {
             return Err(BadRecord { at });

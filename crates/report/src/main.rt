@@ -5,6 +5,7 @@ use book::Tally;
 use std::io;
 use std::io::Write;
 
+// The arrays lie on the stack, since there is no heap.
 fn main(rt: HostRuntime) -> io::Result<()> {
     let mut book = [0u8; 65536];
     let mut work = [0u8; 65536];

@@ -4,7 +4,7 @@ use Prim.Native.Nat.{ℕ, ◌-◌, ◌≤◌, ◌<◌}
 use native.Mathlib.Nat.{le_trans}
 use native.Mathlib.Omega.{arith}
 use mathlib.Core.Path.{◌≡◌, refl, sym, ap, ap₂, ◌∙◌}
-use mathlib.Core.Bool.{Bool, true, false, true≢false, false≢true, cond, not, ◌&&◌, ◌||◌, and-false}
+use mathlib.Core.Bool.{Bool, true, false, false≢true, cond, not, ◌&&◌, ◌||◌, and-false}
 use mathlib.Core.List.{List, []}
 use lib.ListN.{length, take, drop, get_or}
 use lib.Dec.{leb, ltb, eqb}
@@ -13,9 +13,7 @@ use Rattle.std.proofs.lemmas.Bool.{or_parts}
 use Rattle.basics.specs.Bytes.{token_text}
 use Rattle.utf8.specs.Table.{is_ascii, holds}
 use Rattle.utf8.specs.Pieces.{pieces, WellFormed, inside, is_trailing, Boundary, Starts}
-use Rattle.utf8.proofs.Cutting.{ill_none}
-use Rattle.utf8.proofs.Bounds.{inside-trailing, span-starts, span-well}
-use Rattle.utf8.proofs.CharacterLength.{ascii-bytes}
+use Rattle.utf8.proofs.Bounds.{inside-trailing, span-starts}
 use Rattle.utf8.proofs.AsciiStart.{start-boundary, start-part}
 use Rattle.tape.specs.declared.Head.{Head}
 use Rattle.tape.specs.declared.Fault.TheVariants.{UnknownKind, KindNotCarried, SpanOutside, TooDeep, InsideCharacter, WordNotAscii}

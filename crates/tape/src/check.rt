@@ -12,11 +12,11 @@ use crate::{Fault, Refusal};
 use arrayvec::ArrayVec;
 use utf8::{first_ill_formed, is_ascii};
 
-// The number that the caller is told.
+// What `Fault::number` answers, for callers outside these crates that name the function.
 pub fn number(fault: Fault) -> u64
     ensures { result ≡ number fault }
 {
-    fault as u64
+    fault.number()
 }
 
 // 6 to 12, 15 and 16: the tape is read once from its start, and the first faulty command decides. `open` has the index of each open node's byte in
@@ -74,7 +74,7 @@ fn check(text: WellFormedText, tape: &[u8], facts: &mut [u8]) -> Result<(), Refu
     Ok(())
 }
 
-// How many bytes at the text's start are ASCII: all of them, or it is not told.
+// A number of bytes at the text's start that are ASCII: all of them, or 0, which is true of any text.
 fn ascii_start(text: &[u8]) -> usize
     ensures { AsciiStart text.now result }
 {

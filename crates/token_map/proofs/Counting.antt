@@ -3,7 +3,7 @@ use Prim.Native.Nat.{ℕ, zero, suc, ◌+◌, ◌-◌, ◌≤◌, ◌<◌}
 use native.Mathlib.Omega.{arith}
 use native.Mathlib.Numerals.{add-one, unary_clauses}
 use mathlib.Core.Path.{◌≡◌, refl, sym, ap, ◌∙◌, subst}
-use mathlib.Core.Bool.{Bool, true, false}
+use mathlib.Core.Bool.{true, false}
 use mathlib.Core.List.{List, [], ◌∷◌, ◌++◌}
 use lib.ListN.{length, get_or, set, take, drop, length-drop}
 use lib.Seq.{take-suc, take_all, length-take-le}
@@ -11,6 +11,7 @@ use lib.Dec.{eqb}
 use borrow.Author.Tests.{ne_eqb, le-ltb}
 use Rattle.std.proofs.Common.{min, inl, inr}
 use Rattle.std.proofs.lemmas.Bool.{cases_lt}
+use Rattle.std.proofs.lemmas.Bool.Decides.{nat_tests}
 use Rattle.layout.specs.Lines.{Spot, first_spot, turned, spot_after, spot_at}
 use Rattle.layout.specs.TokenMap.{entry}
 use Rattle.token_map.specs.Spots.{spots, EndsAt, LineOf}
@@ -37,11 +38,7 @@ spot_past bs m n h k = ap (λ (l : List ℕ). spot_after l first_spot) (take_all
 
 -- there are no more lines than bytes gone over, and one
 turned-few : (b : ℕ) (p : Spot) → (turned b p).line ≤ p.line + 1
-turned-few b p = go (eqb b 10) refl
-  where
-    go : (t : Bool) → eqb b 10 ≡ t → (turned b p).line ≤ p.line + 1
-    go true e = rw e (omega arith)
-    go false e = rw e (omega arith)
+turned-few b p = grind (arith, nat_tests)
 
 after-few : (bs : List ℕ) (p : Spot) → (spot_after bs p).line ≤ p.line + length bs
 unfolding spot_after

@@ -4,3 +4,4 @@ pub mod Counting
 pub mod NotedSpots
 pub mod Placing
 pub mod SignedRoutines
+pub mod PlaceOfToken

@@ -2,20 +2,15 @@
 use Prim.Native.Nat.{ℕ, zero, suc, ◌+◌, ◌-◌, ◌*◌, ◌≤◌, ◌<◌}
 use native.Mathlib.Omega.{arith}
 use mathlib.Core.Path.{◌≡◌, refl, sym, ap, ◌∙◌}
-use mathlib.Core.Bool.{Bool, true, false}
 use mathlib.Core.List.{List, [], ◌∷◌, ◌++◌}
 use lib.ListN.{length, get_or, set, replicate, length-set, length-replicate, get_or-replicate}
 use lib.Seq.{get_or-set_same, get_or-set_other}
 use lib.Dec.{ltb}
 use borrow.Author.Tests.{lt-ltb, le-ltb}
+use Rattle.std.proofs.lemmas.Bool.{cond_both}
 use Rattle.token_map.specs.Notes.{noted, note_all}
 
 -- ── one note
-
-pub noted-none : (place : ℕ) (m : List ℕ) → length m ≡ 0 → m ≡ noted place m
-unfolding noted
-noted-none place [] e = refl
-noted-none place (x ∷ m) e = absurd (omega arith)
 
 module _ (place : ℕ) (m : List ℕ) where
   pub noted_one : get_or m (length m - 1) 0 < length m - 1
@@ -29,11 +24,9 @@ module _ (place : ℕ) (m : List ℕ) where
 
   pub length-noted : length (noted place m) ≡ length m
   unfolding noted
-  length-noted = go (ltb (get_or m (length m - 1) 0) (length m - 1)) refl
-    where
-      go : (t : Bool) → ltb (get_or m (length m - 1) 0) (length m - 1) ≡ t → length (noted place m) ≡ length m
-      go true e = rw e (simp length-set)
-      go false e = rw e
+  length-noted =
+      let next = get_or m (length m - 1) 0 in
+      cond_both (ltb next (length m - 1)) (set (set m next place) (length m - 1) (next + 2)) m (λ x. length x ≡ length m) (λ _. simp length-set) (λ _. refl)
 
 -- ── many
 
@@ -50,7 +43,7 @@ length-note_all (p ∷ ps) m = length-note_all ps (noted p m) ∙ length-noted p
 pub note_all-none : (ps m : List ℕ) → length m ≡ 0 → m ≡ note_all ps m
 unfolding note_all
 note_all-none [] m e = refl
-note_all-none (p ∷ ps) m e = rw (← noted-none p m e) (note_all-none ps m e)
+note_all-none (p ∷ ps) m e = rw (← noted-full p m (omega (arith, e))) (note_all-none ps m e)
 
 -- one token without a place more
 pub note_all-more : (n : ℕ) (m : List ℕ) → noted 0 (note_all (replicate n 0) m) ≡ note_all (replicate (suc n) 0) m

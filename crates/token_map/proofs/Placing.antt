@@ -27,6 +27,8 @@ use Rattle.layout.specs.Arms.{Spacing, newline, space, indent, dedent, note, bla
 use Rattle.layout.specs.Arms as arms
 use Rattle.layout.specs.Tokens.{is_line_comment}
 use Rattle.layout.specs.Calls.{Call, act_at}
+use Rattle.std.proofs.lemmas.Bool.{cond_both}
+use Rattle.std.proofs.lemmas.Bool.Decides.{nat_tests}
 use Rattle.layout.specs.Layout.{newline_if, do_spacing, step}
 use Rattle.layout.specs.Run.{run}
 use Rattle.layout.specs.TokenMap.{Seat, later_of, seat_after, written_at, place_of}
@@ -65,12 +67,7 @@ unfolding write_newline is_white_byte
 newline-white s = trimmed-one 10
 
 newline_if-white : (b : Bool) (s : State) → White (newline_if b s)
-newline_if-white true s = newline-white s
-newline_if-white false s = trimmed-nothing
-
-either_white : (b : Bool) (x y : Step) → White x → White y → White (cond b x y)
-either_white true x y h k = h
-either_white false x y h k = k
+newline_if-white b s = cond_both b _ _ White (λ _. newline-white s) (λ _. trimmed-nothing)
 
 spacing-white : (x : Spacing) (s : State) → White (do_spacing x s)
 unfolding do_spacing
@@ -84,7 +81,7 @@ spacing-white blank_line_before_comment s =
     newline_if-white ((take_pending_blank_line s).0 && not (take_pending_blank_line s).1.at_line_start) (take_pending_blank_line s).1
 spacing-white line_or_space s =
     let taken = take_pending_newline s in
-    either_white taken.0 (newline_if (not taken.1.at_line_start) taken.1) _ (newline_if-white (not taken.1.at_line_start) taken.1) trimmed-nothing
+    cond_both taken.0 (newline_if (not taken.1.at_line_start) taken.1) _ White (λ _. newline_if-white (not taken.1.at_line_start) taken.1) (λ _. trimmed-nothing)
 
 -- ── a token with its lead
 
@@ -148,8 +145,7 @@ place-back t from k p e f = go (trimmed_length t) refl
 -- ── the acts for a token
 
 later-none : (q : ℕ) → later_of 0 q ≡ q
-later-none zero = refl
-later-none (suc q) = rw (eqb-suc-zero q)
+later-none q = grind (arith, nat_tests)
 
 module _ (config : FormatConfig) (text : Text) (h : Head) where
   abbrev runs : List Act → Store → Store

@@ -46,6 +46,10 @@ place_as written.Nothing t p = 0
 place_as written.Sign t p = p.trimmed
 place_as written.Text t p = cond (eqb (trimmed_length t) 0) (p.length - length t + 1) (p.trimmed - trimmed_length t + 1)
 
--- the place of a token, from the position after its arm; none for a token with empty text
+-- the place of a token of the kind with the text, from the position after its arm; none for an empty text
+unfoldable pub place_from : Signs → ℕ → Text → Position → ℕ
+place_from s k t p = cond (eqb (length t) 0) 0 (place_as (written_as s k) t p)
+
+-- the same of a token in a text
 unfoldable pub place_by : Signs → Text → Head → Position → ℕ
 place_by s text h p = cond (eqb h.start h.end) 0 (place_as (written_as s h.kind) (token_text text h.start h.end) p)

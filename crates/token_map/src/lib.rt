@@ -1,18 +1,18 @@
 // The token map: what the loops of the routines note while the tree is walked, and lines and columns of what was noted. A plain layout lends a map of
-// no numbers.
+// no numbers. A place is a number from 1 here and in the map, and 0 says none: the map is the C interface's array of numbers, and there is no other memory.
 #![tactic(auto)]
 
 ghost use Rattle.std.specs.Prelude.{◌≡◌, cond, ◌+◌, ◌-◌, ◌≤◌, ◌<◌, ◌^◌, ◌||◌, eqb, length, replicate, take};
 ghost use Rattle.basics.specs.Match.{among};
 ghost use Rattle.tape.specs.Kinds;
-ghost use Rattle.token_map.specs.Signs.{dropped_kinds, place_as, place_by, sign_kinds, written_as};
+ghost use Rattle.token_map.specs.Signs.{dropped_kinds, place_as, place_from, sign_kinds, written_as};
 ghost use Rattle.token_map.specs.Notes.{note_all, noted};
 ghost use Rattle.layout.specs.TokenMap.{entry};
 ghost use Rattle.token_map.specs.Spots.{EndsAt, LineOf, spots};
 
-use context::{Position, token_text};
-use tape::{Head, syntax_kind};
-use utf8::trimmed_from_end;
+use context::Position;
+use tape::syntax_kind;
+use utf8::trimmed_length;
 
 // For which kinds a routine writes a fixed sign. One with NoSemicolon writes none, and nothing for a Semicolon.
 #[derive(Clone, Copy)]
@@ -122,17 +122,17 @@ fn place_of_text(text: &[u8], p: Position) -> usize
     requires { 0 < length text.now }
     ensures { result ≡ place_as Written.Text text.now p }
 {
-    let j = trimmed_from_end(text);
+    let j = trimmed_length(text);
     if j == 0 {
         return place_before(p.length, text.len());
     }
     place_before(p.trimmed, j)
 }
 
-// The place of the token for which an arm wrote, from the position after it.
-#[tactic(auto, unfolding(crate::specs::Signs::place_as))]
-fn place_by(text: &[u8], kind: u16, p: Position, signs: Signs) -> usize
-    ensures { result ≡ cond (eqb (length text.now) 0) 0 (place_as (written_as signs kind) text.now p) }
+// The place of a token of the kind with the text, from the position after its arm; 0, which is no place, for an empty text.
+#[tactic(auto, unfolding(crate::specs::Signs::place_as, crate::specs::Signs::place_from))]
+fn place_from(signs: Signs, kind: u16, text: &[u8], p: Position) -> usize
+    ensures { result ≡ place_from signs kind text.now p }
 {
     if text.is_empty() {
         return 0;
@@ -144,43 +144,43 @@ fn place_by(text: &[u8], kind: u16, p: Position, signs: Signs) -> usize
     }
 }
 
-// A place more. The last number of the map is the index of the next pair: there is no memory beside the map, and a plain layout lends none. By index,
-// since the library tells nothing of a slice after a write by get_mut.
+// A place more. The last number of the map is the index of the next pair: there is no memory beside the map, and a plain layout lends none.
+#[tactic(auto, using(std::proofs::lemmas::Bool::Decides::nat_tests), unfolding(crate::specs::Notes::noted))]
 fn note_place(map: &mut [u64], place: usize)
     ensures { map.new ≡ noted place map.old }
 {
-    let n = map.len();
-    if n == 0 {
+    let Some((last, places)) = map.split_last_mut() else {
         return;
-    }
-    let last = n - 1;
-    let next = map[last] as usize;
-    if next < last {
-        map[next] = place as u64;
-        map[last] = next as u64 + 2;
+    };
+    let next = *last as usize;
+    if next < places.len() {
+        places[next] = place as u64;
+        *last = next as u64 + 2;
     }
 }
 
-fn note_written(map: &mut [u64], source: &[u8], token: Head, p: Position, signs: Signs)
-    requires { (token.start ≤ token.end) × (token.end ≤ length source.now) }
-    ensures { map.new ≡ noted (place_by signs source.now token p) map.old }
+#[inline(never)]
+fn note_written(map: &mut [u64], kind: u16, text: &[u8], p: Position, signs: Signs)
+    ensures { map.new ≡ noted (place_from signs kind text.now p) map.old }
 {
-    let text = token_text(source, token.start, token.end);
-    note_place(map, place_by(text, token.kind, p, signs));
+    note_place(map, place_from(signs, kind, text, p));
 }
 
-// Notes a token, right after its arm: p is the position then. Only the test goes into the loops of the routines.
-pub fn note_token(map: &mut [u64], source: &[u8], token: Head, p: Position, signs: Signs)
-    requires { (token.start ≤ token.end) × (token.end ≤ length source.now) }
-    ensures { map.new ≡ noted (place_by signs source.now token p) map.old }
+// Notes a token of the kind with the text, right after its arm: p is the position then. Only the test goes into the loops of the routines. Kind and text
+// stand apart, since a struct of both would go through memory at each token.
+#[inline(always)]
+#[tactic(auto, using(std::proofs::lemmas::Bool::Decides::nat_tests), unfolding(crate::specs::Notes::noted))]
+pub fn note_token(map: &mut [u64], kind: u16, text: &[u8], p: Position, signs: Signs)
+    ensures { map.new ≡ noted (place_from signs kind text.now p) map.old }
 {
     if map.is_empty() {
         return;
     }
-    note_written(map, source, token, p, signs);
+    note_written(map, kind, text, p, signs);
 }
 
 // Notes so many tokens without a place.
+#[tactic(auto, unfolding(crate::specs::Notes::note_all))]
 pub fn note_none(map: &mut [u64], tokens: usize)
     ensures { map.new ≡ note_all (replicate tokens 0) map.old }
 {
@@ -207,7 +207,7 @@ pub fn copy_front(map: &mut [u64], notes: &[u64])
     map.copy_from_slice(&notes[..map.len()]);
 }
 
-// Where a line that goes on at an offset ends. Most of the time goes into this search.
+// Where a line that goes on at an offset ends, as an offset of all bytes, since columns are told by these. Most of the time goes into this search.
 fn newline_from(out: &[u8], from: usize) -> usize
     requires { from ≤ length out.now }
     ensures { EndsAt out.now from result }
@@ -221,6 +221,7 @@ fn newline_from(out: &[u8], from: usize) -> usize
 
 impl<'a> Lines<'a> {
     // At the first line.
+    #[tactic(auto, unfolding(layout::specs::Lines::spot_after))]
     fn new(out: &'a [u8]) -> Self
         ensures same { result.out.now ≡ out.now }
         ensures start { result.line.start ≡ 0 }
@@ -259,6 +260,7 @@ impl<'a> Lines<'a> {
         if at < self.line.start {
             *self = Lines::new(self.out);
         }
+        // No plainer over an iterator of lines: the line where the search stands is kept in any case, and each pass finds where the next one ends.
         while self.line.end < at {
             self.advance();
         }

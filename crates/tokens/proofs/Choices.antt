@@ -1,22 +1,22 @@
 -- What the routines' definitions come to in each arm, and spacing that may be none.
 use Prim.Native.Nat.{ℕ}
 use mathlib.Core.Path.{◌≡◌, refl, sym, ap, ◌∙◌}
-use mathlib.Core.Bool.{Bool, true, false, cond, ◌||◌, false≢true}
+use mathlib.Core.Bool.{Bool, true, false, cond, false≢true}
 use mathlib.Core.List.{List, [], ◌∷◌, ◌++◌, map}
 use lib.Dec.{eqb}
 use native.Mathlib.Omega.{arith}
-use mathlib.Core.Logic.{◌⊎◌, inl, inr}
-use borrow.Author.Tests.{eqb-true, ne_eqb}
-use Rattle.keywords.specs.Words.{is_word}
+use mathlib.Core.Logic.{◌⊎◌}
+use Rattle.std.proofs.lemmas.Bool.Decides.{nat_tests}
+use borrow.Author.Tests.{ne_eqb}
 use Rattle.context.specs.declared.FormatterContext.{FormatterContext}
 use Rattle.context.proofs.Writes.{spent-none}
 use Rattle.context.specs.Cells.{Text}
 use Rattle.tape.specs.declared.Head.{Head}
 use Rattle.tape.specs.Kinds.{Whitespace, Comment, BareWord}
 use Rattle.layout.specs.declared.Local.{Local}
-use Rattle.layout.specs.Arms.{Spacing, newline, space, indent, dedent, Act, spacing, write_text, write_keyword, Seen}
-use Rattle.layout.specs.Tokens.{note_skipped_whitespace, emit_comment, emit_other, emit_token, is_operator}
-use Rattle.layout.specs.Routines.{flagged, keyword_space, space_if, spaced, or_else, binary_token, case_word, when_word}
+use Rattle.layout.specs.Arms.{Spacing, space, Act, spacing, write_text, Seen}
+use Rattle.layout.specs.Tokens.{emit_other, emit_token, is_operator}
+use Rattle.layout.specs.Routines.{flagged, space_if, spaced, or_else, binary_token}
 use Rattle.tokens.specs.declared.Arm.{Arm}
 use Rattle.tokens.specs.declared.settings.Settings.{Settings}
 use Rattle.tokens.specs.declared.token.Token.{Token}
@@ -39,78 +39,39 @@ no_unwritten = record { did = λ xs. refl; spent = spent-none }
 -- what goes before and after a child node, where a test says which of two it is
 module _ (l m : Local) (x y z w : List Spacing) where
   pub before_either : (t : Bool) → (cond {A = Local × List Spacing × List Spacing} t (l, x, y) (m, z, w)).1 ≡ cond t x z
-  before_either true = refl
-  before_either false = refl
+  before_either t = grind arith
 
   pub after_either : (t : Bool) → (cond {A = Local × List Spacing × List Spacing} t (l, x, y) (m, z, w)).2 ≡ cond t y w
-  after_either true = refl
-  after_either false = refl
+  after_either t = grind arith
 
 -- ── arms
 
 -- a space before acts, where it is wanted
 pub spaced-as : (wanted r : Bool) (acts : List Act) → r ≡ wanted → spaced wanted acts ≡ map spacing (space_if r) ++ acts
-spaced-as wanted true acts e = rw (← e)
-spaced-as wanted false acts e = rw (← e)
+spaced-as wanted r acts e = grind arith
 
 module _ (l : Local) (t : Seen) where
   -- a last arm that leaves the local variables as they are
   pub or_else-acts : (or_else l t (l, emit_token t)).1 ≡ emit_other t
   unfolding emit_other
-  or_else-acts = go (eqb t.kind Whitespace) (eqb t.kind Comment)
-    where
-      go : (p q : Bool) → (cond {A = Local × List Act} p (l, note_skipped_whitespace t.bytes) (cond q (l, emit_comment t.bytes) (l, emit_token t))).1
-          ≡ cond p (note_skipped_whitespace t.bytes) (cond q (emit_comment t.bytes) (emit_token t))
-      go true q = refl
-      go false true = refl
-      go false false = refl
+  or_else-acts = grind arith
 
   pub or_else-local : (x : List Act) → l ≡ (or_else l t (l, x)).0
-  or_else-local x = go (eqb t.kind Whitespace) (eqb t.kind Comment)
-    where
-      go : (p q : Bool) → l ≡ (cond {A = Local × List Act} p (l, note_skipped_whitespace t.bytes) (cond q (l, emit_comment t.bytes) (l, x))).0
-      go true q = refl
-      go false true = refl
-      go false false = refl
+  or_else-local x = grind arith
 
 pub trivia_is : (kind : ℕ) → is_trivia kind ≡ true → (kind ≡ Whitespace) ⊎ (kind ≡ Comment)
-trivia_is kind e = go (eqb kind Whitespace) (eqb kind Comment) refl refl e
-  where
-    go : (p q : Bool) → eqb kind Whitespace ≡ p → eqb kind Comment ≡ q → (p || q) ≡ true → (kind ≡ Whitespace) ⊎ (kind ≡ Comment)
-    go true q f g u = inl (eqb-true kind Whitespace f)
-    go false true f g u = inr (eqb-true kind Comment g)
-    go false false f g u = absurd (false≢true u)
+trivia_is kind e = grind (arith, nat_tests)
 
 pub trivia_not : (kind : ℕ) → is_trivia kind ≡ false → (eqb kind Whitespace ≡ false) × (eqb kind Comment ≡ false)
-trivia_not kind e = go (eqb kind Whitespace) (eqb kind Comment) e
-  where
-    go : (p q : Bool) → (p || q) ≡ false → (p ≡ false) × (q ≡ false)
-    go true q u = absurd (false≢true (sym u))
-    go false true u = absurd (false≢true (sym u))
-    go false false u = (refl, refl)
+trivia_not kind e = grind arith
 
 -- white space or a comment, and any other token
 module _ (kind : ℕ) (text : List ℕ) where
   or_else-trivia : (l : Local) (x : Local × List Act) → is_trivia kind ≡ true → or_else l (seen_as kind text) x ≡ (l, emit_trivia (eqb kind Whitespace) text)
-  or_else-trivia l x e = go (eqb kind Whitespace) (eqb kind Comment) e
-    where
-      bytes : Bool → List ℕ
-      bytes read = cond read text []
-
-      go : (p q : Bool) → (p || q) ≡ true
-          → cond p (l, note_skipped_whitespace (bytes (p || q || eqb kind BareWord))) (cond q (l, emit_comment (bytes (p || q || eqb kind BareWord))) x)
-          ≡ (l, emit_trivia p text)
-      go true q u = refl
-      go false true u = refl
-      go false false u = absurd (false≢true u)
+  or_else-trivia l x e = grind arith
 
   or_else-other : (l : Local) (x : Local × List Act) → is_trivia kind ≡ false → or_else l (seen_as kind text) x ≡ x
-  or_else-other l x e = go (eqb kind Whitespace) (eqb kind Comment) e _ _
-    where
-      go : (p q : Bool) → (p || q) ≡ false → (y z : Local × List Act) → cond p y (cond q z x) ≡ x
-      go true q u = absurd (false≢true (sym u))
-      go false true u = absurd (false≢true (sym u))
-      go false false u = λ y z. refl
+  or_else-other l x e = grind arith
 
   pub other_trivia : is_trivia kind ≡ true → emit_other (seen_as kind text) ≡ emit_trivia (eqb kind Whitespace) text
   other_trivia e = sym (or_else-acts (flagged false) (seen_as kind text)) ∙ ap (λ (x : Local × List Act). x.1) (or_else-trivia (flagged false) _ e)
@@ -154,21 +115,13 @@ module _ {settings : Settings} {token : Token} {l : Local} {c : FormatterContext
   arm_as at_token e d =
       record { acted = acted 4 _ (omega arith) (ap (λ (x : Local × List Act). x.1) e) d.acted; local = d.local ∙ sym (ap (λ (x : Local × List Act). x.0) e) }
 
-other_w : is_operator Whitespace ≡ false
+no_operators : (is_operator Whitespace ≡ false) × (is_operator Comment ≡ false) × (is_operator BareWord ≡ false)
 unfolding is_operator
-other_w = refl
-
-other_c : is_operator Comment ≡ false
-unfolding is_operator
-other_c = refl
-
-other_b : is_operator BareWord ≡ false
-unfolding is_operator
-other_b = refl
+no_operators = (refl, refl, refl)
 
 -- an operator is neither white space, nor a comment, nor a bare word
 pub operator_acts : (kind : ℕ) (text : List ℕ) → is_operator kind ≡ true → binary_token (seen_as kind text) ≡ spacing space ∷ write_text ∷ spacing space ∷ []
 unfolding binary_token
 operator_acts kind text e =
     let no : (x : ℕ) → is_operator x ≡ false → eqb kind x ≡ false = λ x f. ne_eqb kind x (λ q. false≢true (sym f ∙ ap is_operator (sym q) ∙ e)) in
-    rw (no Whitespace other_w, no Comment other_c, no BareWord other_b, e)
+    rw (no Whitespace no_operators.0, no Comment no_operators.1, no BareWord no_operators.2, e)

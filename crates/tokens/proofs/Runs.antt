@@ -2,12 +2,13 @@
 use Prim.Native.Nat.{ℕ, ◌+◌, ◌^◌, ◌≤◌, ◌<◌}
 use native.Mathlib.Omega.{arith}
 use mathlib.Core.Path.{◌≡◌, refl, sym, ap, ◌∙◌}
-use mathlib.Core.Bool.{Bool, true, false, cond, not, ◌&&◌, false≢true}
+use mathlib.Core.Bool.{Bool, true, false, cond}
 use mathlib.Core.List.{List, [], ◌∷◌, ◌++◌, map}
-use lib.ListN.{length, get_or, replicate}
+use lib.ListN.{length, replicate}
 use lib.Dec.{eqb}
-use borrow.Author.Tests.{eqb-true, ne_eqb, le-leb, lt-leb}
-use Rattle.keywords.specs.Words.{is_keyword, is_value_keyword}
+use borrow.Author.Tests.{le-leb, lt-leb}
+use Rattle.std.proofs.lemmas.List.{map-append}
+use Rattle.std.proofs.lemmas.Bool.Decides.{nat_tests}
 use Rattle.context.specs.Cells.{Text, count, fixed, fresh, bytes_of, token_text, span_cells}
 use Rattle.context.specs.Splice.{splice}
 use Rattle.context.specs.Context.{Step, lead, write_newline, write_token, write_space, note_skipped_whitespace, take_pending_newline, take_pending_blank_line, indent, dedent, write_raw}
@@ -19,7 +20,7 @@ use Rattle.context.specs.declared.State.{State}
 use Rattle.context.proofs.Splicing.{splice-past}
 use Rattle.context.proofs.Bytes.{bytes-span}
 use Rattle.context.proofs.Writes.{appended-none, spent-none, spent-twice, stored-token, stored-keyword, stored-raw, token-put, keyword-put}
-use Rattle.tape.specs.Kinds.{Whitespace, BareWord}
+use Rattle.tape.specs.Kinds.{Whitespace}
 use Rattle.tape.specs.declared.Head.{Head}
 use Rattle.layout.specs.Arms as arms
 use Rattle.layout.specs.Arms.{Spacing, Act, spacing, write_text, write_keyword, write_sign, Sign, sign_byte, Seen, is_read, seen}
@@ -31,7 +32,6 @@ use Rattle.layout.proofs.Running.{run-append}
 use Rattle.tokens.specs.TokenPromises.{Ran, SpacedUnwritten, Spaced, PutText, Acted, ActedOn, ArmActed, IsTokenAt, seen_as, write_by, casing_of, emit_trivia, in_case}
 use Rattle.tokens.specs.declared.settings.Settings.{Settings}
 use Rattle.tokens.specs.declared.token.Token.{Token}
-use Rattle.tokens.specs.declared.Casing.TheVariants.{AsTyped, Listed}
 
 -- ── spacing
 
@@ -100,12 +100,8 @@ module _ (config : FormatConfig) (source : Text) (token : Head) where
   act_spacing [] w = refl
   act_spacing (y ∷ x) w = act_spacing x _
 
-  map-append : (x y : List Act) → map (act_at token) (x ++ y) ≡ map (act_at token) x ++ map (act_at token) y
-  map-append [] y = refl
-  map-append (a ∷ x) y = ap {B = List Call} (λ r. act_at token a ∷ r) (map-append x y)
-
   run-acts : (x y : List Act) (w : Store) → run config source (map (act_at token) (x ++ y)) w ≡ run config source (map (act_at token) y) (run config source (map (act_at token) x) w)
-  run-acts x y w = ap (λ (l : List Call). run config source l w) (map-append x y) ∙ run-append config source (map (act_at token) x) (map (act_at token) y) w
+  run-acts x y w = ap (λ (l : List Call). run config source l w) (map-append (act_at token) x y) ∙ run-append config source (map (act_at token) x) (map (act_at token) y) w
 
 -- ── acts at whatever token has the text
 
@@ -206,16 +202,12 @@ start_is d e = sym (e ∙ ap (λ (q : FormatterContext). q.state.at_line_start) 
 -- a newline where it is wanted, as a step
 pub newline-step : {c r : FormatterContext} {xs ys : List ℕ} (t : Bool) → Spaced 1 (cond t (arms.newline ∷ []) []) c xs r ys → Wrote 1 (stored (newline_if t c.state) (c, xs)) c r ys
 unfolding do_spacing
-newline-step {c} {r} {xs} {ys} t d = go t d
-  where
-    go : (t : Bool) → Spaced 1 (cond t (arms.newline ∷ []) []) c xs r ys → Wrote 1 (stored (newline_if t c.state) (c, xs)) c r ys
-    go true w = record { did = w.did; spent = w.spent }
-    go false w = record { did = w.did ∙ appended-none c.state c xs; spent = w.spent }
+newline-step true w = record { did = w.did; spent = w.spent }
+newline-step {c} {xs = xs} false w = record { did = w.did ∙ appended-none c.state c xs; spent = w.spent }
 
 comment_acts : (b : List ℕ) (t : Bool) → is_line_comment b ≡ t → emit_comment b ≡ map spacing (arms.line_or_space ∷ []) ++ ((write_text ∷ []) ++ map spacing (cond t (arms.newline ∷ []) []))
 unfolding emit_comment
-comment_acts b true e = rw e
-comment_acts b false e = rw e
+comment_acts b t e = grind arith
 
 pub did-comment : {config : FormatConfig} {text : List ℕ} {c a b r : FormatterContext} {xs ys zs us : List ℕ} {t : Bool} → Spaced 1 (arms.line_or_space ∷ []) c xs a ys
     → Wrote 1 (stored (write_token config (fixed text) a.state) (a, ys)) a b zs → t ≡ is_line_comment text → Spaced 1 (cond t (arms.newline ∷ []) []) b zs r us
@@ -223,29 +215,9 @@ pub did-comment : {config : FormatConfig} {text : List ℕ} {c a b r : Formatter
 did-comment {text = text} {t = t} first second e third =
     acted 3 _ (omega arith) (comment_acts text t (sym e)) (then (as_acts first) (then (did-text second) (as_acts third)))
 
--- the case of a bare word is changed
-abbrev changes_case : ℕ → List ℕ → Bool
-changes_case k b = eqb k BareWord && (is_keyword b && not (is_value_keyword b))
-
-casing_is : (k : ℕ) (b : List ℕ) → in_case (casing_of k) b ≡ changes_case k b
-casing_is k b = go (eqb k BareWord)
-  where
-    go : (t : Bool) → in_case (cond t Listed AsTyped) b ≡ (t && (is_keyword b && not (is_value_keyword b)))
-    go true = refl
-    go false = refl
-
 pub token-acts : (kind : ℕ) (text : List ℕ) → (kind ≡ Whitespace → ⊥) → emit_token (seen_as kind text) ≡ write_by (in_case (casing_of kind) text)
 unfolding emit_token
-token-acts kind text h =
-    ap (λ (t : Bool). cond t [] (write_by (changes_case kind bytes))) (ne_eqb kind Whitespace h) ∙ go (eqb kind BareWord) refl
-    ∙ sym (ap write_by (casing_is kind text))
-  where
-    bytes : List ℕ
-    bytes = cond (is_read kind) text []
-
-    go : (t : Bool) → eqb kind BareWord ≡ t → write_by (t && (is_keyword bytes && not (is_value_keyword bytes))) ≡ write_by (t && (is_keyword text && not (is_value_keyword text)))
-    go true e = rw (eqb-true kind BareWord e)
-    go false e = refl
+token-acts kind text h = grind (arith, nat_tests)
 
 -- white space without a newline changes nothing
 unnoted : (bs : List ℕ) (c : FormatterContext) → count 10 bs ≡ 0 → c ≡ with_state (note_skipped_whitespace bs c.state) c

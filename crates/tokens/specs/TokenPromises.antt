@@ -14,6 +14,7 @@ use Rattle.layout.specs.declared.Local.{Local}
 use Rattle.layout.specs.Arms.{Spacing, Act, write_text, write_keyword, Seen, is_read, seen}
 use Rattle.layout.specs.Tokens.{note_skipped_whitespace, emit_comment, emit_token}
 use Rattle.layout.specs.Calls.{Call, act_at}
+use Rattle.layout.specs.Routines.{or_else, spaced}
 use Rattle.layout.specs.Run.{run_spacing, run}
 use Rattle.tokens.specs.declared.Arm.{Arm}
 use Rattle.tokens.specs.declared.token.Token.{Token}
@@ -98,3 +99,7 @@ is_trivia k = eqb k Kinds.Whitespace || eqb k Kinds.Comment
 -- white space, or a comment
 abbrev pub emit_trivia : Bool → List ℕ → List Act
 emit_trivia white b = cond white (note_skipped_whitespace b) (emit_comment b)
+
+-- a token after a space, where it is wanted; `left` is what it leaves in the local variables
+abbrev pub spaced_token : Bool → Local → Local → Seen → Local × List Act
+spaced_token wanted left l t = or_else l t (left, spaced wanted (emit_token t))

@@ -1,4 +1,4 @@
-// The token helpers of format_node.rs.
+// The token helpers of format_node.rs. What `Room n` is, and why the context goes by value: context/src/lib.rt.
 #![tactic(auto)]
 
 mod settings;
@@ -14,7 +14,7 @@ ghost use Rattle.layout.specs.Arms.{blank_line, blank_line_before_comment, line_
 ghost use Rattle.layout.specs.Calls.{format_error_verbatim};
 ghost use Rattle.layout.specs.Routines.{name_before, space_after, space_if, spaced};
 ghost use Rattle.layout.specs.Tokens.{emit_comment, emit_other, emit_token, is_line_comment, is_operator, no_space_after, no_space_before};
-ghost use Rattle.tokens.specs.TokenPromises.{ActedOn, ArmActed, PutText, Ran, Spaced, SpacedUnwritten, casing_of, emit_trivia, emit_uncommented, in_case, is_trivia, write_by};
+ghost use Rattle.tokens.specs.TokenPromises.{ActedOn, ArmActed, ArmDone, PutText, Ran, Spaced, SpacedUnwritten, casing_of, emit_trivia, emit_uncommented, in_case, is_trivia, spaced_token, write_by};
 
 use context::{FormatConfig, FormatterContext, put, put_in_case, put_short, token_text};
 use keywords::{Word, word_of};
@@ -104,7 +104,8 @@ pub fn name_before(prev: Option<u16>) -> bool
     )
 }
 
-// write_space where it is wanted.
+// write_space where it is wanted. One function for this, newline_if, and indent_if and dedent_if of clauses would take a closure, which each call had to
+// write out.
 pub fn space_if(ctx: FormatterContext, wanted: bool) -> FormatterContext
     ensures { SpacedUnwritten 0 (space_if wanted) ctx result }
 {
@@ -147,7 +148,7 @@ fn is_cased(text: &[u8]) -> bool
 }
 
 // So many blanks and a text from offset `at` on, in upper or lower case where that is wanted. The answer is that of `put`. A text that is handed on as
-// `&text[..]` stays in registers.
+// `&text[..]` stays in registers. So do the numbers, which a struct would not: this and put_text are calls of their own.
 #[inline(never)]
 fn put_any(
     out: &mut [u8],
@@ -172,8 +173,8 @@ fn put_any(
     put(out, at, blanks, &text[..])
 }
 
-// The same. Where nothing is written any more the case does not matter, and the list is not looked at. Most texts are short and as typed, and are written
-// or measured here, where few registers are needed. On its own, so that what calls it stays in the loop over a node's children.
+// What put_any does. Where nothing is written any more the case does not matter, and the list is not looked at. Most texts are short and as typed, and are
+// written or measured here, where few registers are needed. On its own, so that what calls it stays in the loop over a node's children.
 #[inline(never)]
 fn put_text(
     out: &mut [u8],
@@ -237,7 +238,7 @@ pub fn write_text(
     write(settings, out, ctx, token, Casing::AsTyped)
 }
 
-// write_keyword of the token's text.
+// write_keyword of the token's text. Not by `write`, which would take it through put_text: with that group-by-63 took about 30 % more.
 #[inline(always)]
 pub fn write_word(
     settings: &Settings,
@@ -270,7 +271,7 @@ pub fn emit_token(
     write(settings, out, ctx, token, Casing::of(token.kind))
 }
 
-// The same after a space, where it is wanted.
+// emit_token after a space, where it is wanted.
 #[inline(always)]
 pub fn emit_spaced(
     settings: &Settings,
@@ -397,7 +398,7 @@ pub fn emit_other(
     emit_token(settings, out, ctx, token)
 }
 
-// The same in a routine without a comment arm, which writes a comment as any other token.
+// emit_other in a routine without a comment arm, which writes a comment as any other token.
 #[inline(always)]
 pub fn emit_uncommented(
     settings: &Settings,
@@ -412,6 +413,32 @@ pub fn emit_uncommented(
         return emit_token(settings, out, ctx, token);
     }
     emit_other(settings, out, ctx, token)
+}
+
+// White space and comments leave the local variables as they are. Any other token goes after a space, where it is wanted, and `left` is what it leaves.
+#[inline(always)]
+pub fn spaced_token(
+    settings: &Settings,
+    out: &mut [u8],
+    ctx: FormatterContext,
+    local: Local,
+    token: Token,
+    wanted: bool,
+    left: Local,
+) -> Arm
+    requires { Room 4 ctx }
+    ensures { ArmDone settings.now token.entry (spaced_token wanted left) local ctx out.old result out.new }
+{
+    if is_trivia(token.kind) {
+        return Arm {
+            context: emit_trivia(settings, out, ctx, token),
+            local,
+        };
+    }
+    Arm {
+        context: emit_spaced(settings, out, ctx, token, wanted),
+        local: left,
+    }
 }
 
 // The text of a node whose span, if it does not run backwards, lies within the text.

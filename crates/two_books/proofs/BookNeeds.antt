@@ -1,15 +1,15 @@
 -- Each condition on two books is needed.
-use mathlib.Core.Path.{◌≡◌, refl, sym, subst}
+use mathlib.Core.Path.{◌≡◌, refl}
 use mathlib.Core.Bool.{Bool, true, false, not, ◌&&◌, ◌||◌}
 use mathlib.Core.List.{List, [], ◌∷◌}
-use Prim.Native.Nat.{ℕ, zero, suc}
+use Prim.Native.Nat.{ℕ, zero, suc, ◌-◌}
 use lib.ListN.{length, take, drop}
 use lib.Dec.{T, T_not, eqb, eqb→eq}
-use lib.Ieee.Fits.{and_l, and_r}
+use lib.Ieee.Bits.{is_true}
 use Rattle.keywords.specs.Names.{names}
 use Rattle.keywords.specs.Words.{words as listed_words, same, listed}
 use Rattle.basics.specs.Case.{to_uppercase, to_lowercase}
-use Rattle.basics.proofs.Same.{same-equal}
+use Rattle.basics.proofs.Same.{both, same-equal}
 use Rattle.keywords.proofs.Places.{same_self}
 use Rattle.context.specs.Cells.{Text, token_text}
 use Rattle.context.specs.Context.{write_newline, lead, write_token, write_keyword, write_space, note_skipped_whitespace, take_pending_newline, take_pending_blank_line, indent, dedent, write_raw, trim_end, finish}
@@ -48,27 +48,17 @@ use Rattle.two_books.specs.BookNeeds.{lines_of, Differ, OfBooks, one_length, one
 
 -- ── from the tests to the rule's words
 
-is_true : (x : Bool) → T x → x ≡ true
-is_true true t = refl
-is_true false t = absurd t
-
-holds-true : (x : Bool) → x ≡ true → T x
-holds-true x e = subst T (sym e) tt
-
 commands-agree : (k : ℕ) (a b : List ℕ) (at : ℕ) → T (commands_agree k a b at) → SameCommands k a b at
 commands-agree zero a b at u = tt
 commands-agree (suc k) a b at u =
     let x = same (take 5 (drop at a)) (take 5 (drop at b)) in
-    let rest = commands_agree k a b (job_end a at) in
-    let v = and_r x (not (is_whole a at) || rest) u in (
-      same-equal (take 5 (drop at a)) (take 5 (drop at b)) (is_true x (and_l x (not (is_whole a at) || rest) u)),
-      λ w. commands-agree k a b (job_end a at) (subst (λ (s : Bool). T (not s || rest)) w v),
+    let v = both x (not (is_whole a at) || commands_agree k a b (job_end a at)) u in (
+      same-equal (take 5 (drop at a)) (take 5 (drop at b)) (is_true x v.0),
+      λ w. commands-agree k a b (job_end a at) (rw w at v.1),
     )
 
 reports_differ_lem : (a b : List ℕ) → T (reports_differ a b) → Differ a b
-reports_differ_lem a b u e =
-    T_not (same (lines_of a) (lines_of b)) u
-    (subst (λ (x : List ℕ). T (same (lines_of a) x)) e (holds-true (same (lines_of a) (lines_of a)) (same_self (lines_of a))))
+reports_differ_lem a b u e = T_not (same (lines_of a) (lines_of b)) u (rw (← e, same_self (lines_of a)) tt)
 
 abbrev is_fault : Result ℕ BookFault → Bool
 is_fault (Err f) = true
@@ -76,9 +66,9 @@ is_fault (Ok count) = false
 
 -- of a refused book no job is asked for
 no_jobs : (commands : ℕ) (a b : List ℕ) → T (is_fault (opened false a)) → AsksOfBooks commands each_pair a b
-no_jobs commands a b f count e = absurd (subst (λ (o : Result ℕ BookFault). T (is_fault o)) e f)
+no_jobs commands a b f count e = absurd (rw e at f)
 
--- ── what is computed
+-- ── what is computed: each fact by its name, since one line of what unfolds serves all, and `search` stops at its limit on them
 
 record Computed : Type 0 where
   cut_fault : T (is_fault (opened false cut_short))
@@ -146,22 +136,20 @@ with_256 each_pair = no_jobs 256 last18 last19 computed.last_fault
 -- ── jobs
 
 module _ (a b : List ℕ) (u : T (jobs_show a b)) where
-  abbrev one : Bool
-  one = eqb (length (book_of a)) (length (book_of b))
-
-  abbrev walks : Bool
-  walks = commands_agree 257 (book_of a) (book_of b) 0
-
-  abbrev told : Bool
-  told = reports_differ (book_of a) (book_of b)
+  -- the lengths, the commands and the reports
+  shown : T (eqb (length (book_of a)) (length (book_of b))) × T (commands_agree 257 (book_of a) (book_of b) 0) × T (reports_differ (book_of a) (book_of b))
+  shown =
+      let commands = commands_agree 257 (book_of a) (book_of b) 0 in
+      let x = both (eqb (length (book_of a)) (length (book_of b))) (commands && reports_differ (book_of a) (book_of b)) u in
+      let y = both commands (reports_differ (book_of a) (book_of b)) x.1 in (x.0, y.0, y.1)
 
   without-jobs : (c : OfBooks) → (book_number c ≡ book_number each_pair → ⊥) → AsksOfBooks 257 c (book_of a) (book_of b)
-  without-jobs one_length ne = eqb→eq (length (book_of a)) (length (book_of b)) (and_l one (walks && told) u)
-  without-jobs one_walk ne = commands-agree 257 (book_of a) (book_of b) 0 (and_l walks told (and_r one (walks && told) u))
+  without-jobs one_length ne = eqb→eq (length (book_of a)) (length (book_of b)) shown.0
+  without-jobs one_walk ne = commands-agree 257 (book_of a) (book_of b) 0 shown.1
   without-jobs each_pair ne = absurd (ne refl)
 
   jobs-needed : NeededOfBooks each_pair (book_of a) (book_of b)
-  jobs-needed = record { others = without-jobs; differ = reports_differ_lem (book_of a) (book_of b) (and_r walks told (and_r one (walks && told) u)) }
+  jobs-needed = record { others = without-jobs; differ = reports_differ_lem (book_of a) (book_of b) shown.2 }
 
 -- one text twice is a masked pair
 one_text : (text : Text) (tape : List ℕ) → let_pass (read_call 4 1 text tape) ≡ true → MaskedPair 4 1 text text tape
@@ -186,42 +174,40 @@ plain-texts : MaskedPair 4 1 (97 ∷ []) (97 ∷ []) (drop 10 plain_job)
 unfolding holds_byte character_length cut first_ill_formed is_trailing kinds not_carried head_at command_at check_open checked_at read_children read_tape read_input read_call
 plain-texts = one_text (97 ∷ []) (drop 10 plain_job) refl
 
-module _ (first second : List ℕ) (s : drop 10 first ≡ drop 10 second) (t : MaskedPair 4 1 (take 1 (drop 9 first)) (take 1 (drop 9 second)) (drop 10 first)) where
-  without-first : read_header false second ≡ accepted 4 1 10 → (c : OfJobs) → (job_number c ≡ job_number header_a → ⊥) → AsksOfJobs c first second 4 1 10
-  without-first h header_a ne = absurd (ne refl)
-  without-first h header_b ne = h
-  without-first h same_tape ne = s
-  without-first h texts ne = t
+-- the conditions on two jobs but for one
+module _ (without : OfJobs) (a b : List ℕ) (end : ℕ)
+    (h : (0 ≡ job_number without → ⊥) → read_header false a ≡ accepted 4 1 end)
+    (g : (1 ≡ job_number without → ⊥) → read_header false b ≡ accepted 4 1 end)
+    (s : (2 ≡ job_number without → ⊥) → drop end a ≡ drop end b)
+    (t : (3 ≡ job_number without → ⊥) → MaskedPair 4 1 (take (end - 9) (drop 9 a)) (take (end - 9) (drop 9 b)) (drop end a)) where
+  other-jobs : (c : OfJobs) → (job_number c ≡ job_number without → ⊥) → AsksOfJobs c a b 4 1 end
+  other-jobs header_a = h
+  other-jobs header_b = g
+  other-jobs same_tape = s
+  other-jobs texts = t
 
-  without-second : read_header false first ≡ accepted 4 1 10 → (c : OfJobs) → (job_number c ≡ job_number header_b → ⊥) → AsksOfJobs c first second 4 1 10
-  without-second h header_a ne = h
-  without-second h header_b ne = absurd (ne refl)
-  without-second h same_tape ne = s
-  without-second h texts ne = t
+  job-needed : T (jobs_show a b) → NeededOfJobs without end a b
+  job-needed u = record { others = other-jobs; books = jobs-needed a b u }
 
 plain-header : read_header false plain_job ≡ accepted 4 1 10
 unfolding has_command text_end read_header
 plain-header = refl
 
-without-tape : (c : OfJobs) → (job_number c ≡ job_number same_tape → ⊥) → AsksOfJobs c plain_job (job_with 4 17 1 1 4) 4 1 10
-unfolding has_command text_end read_header
-without-tape header_a ne = refl
-without-tape header_b ne = refl
-without-tape same_tape ne = absurd (ne refl)
-without-tape texts ne = plain-texts
-
-without-texts : (c : OfJobs) → (job_number c ≡ job_number texts → ⊥)
-    → AsksOfJobs c (job_of words.pair.first words.pair.tape) (job_of words.pair.second words.pair.tape) 4 1 12
-unfolding has_command text_end read_header
-without-texts header_a ne = refl
-without-texts header_b ne = refl
-without-texts same_tape ne = refl
-without-texts texts ne = absurd (ne refl)
-
 -- another header of the second job
 second-needed : (job : List ℕ) → drop 10 plain_job ≡ drop 10 job → MaskedPair 4 1 (97 ∷ []) (take 1 (drop 9 job)) (drop 10 plain_job) → T (jobs_show plain_job job)
     → NeededOfJobs header_b 10 plain_job job
-second-needed job s t u = record { others = without-second plain_job job s t plain-header; books = jobs-needed plain_job job u }
+second-needed job s t = job-needed header_b plain_job job 10 (λ _. plain-header) (λ ne. absurd (ne refl)) (λ _. s) (λ _. t)
+
+tape-needed : NeededOfJobs same_tape 10 plain_job (job_with 4 17 1 1 4)
+unfolding has_command text_end read_header
+tape-needed =
+    job-needed same_tape plain_job (job_with 4 17 1 1 4) 10 (λ _. plain-header) (λ _. refl) (λ ne. absurd (ne refl)) (λ _. plain-texts) computed.tape
+
+texts-needed : NeededOfJobs texts 12 (job_of words.pair.first words.pair.tape) (job_of words.pair.second words.pair.tape)
+unfolding has_command text_end read_header
+texts-needed =
+    job-needed texts (job_of words.pair.first words.pair.tape) (job_of words.pair.second words.pair.tape) 12 (λ _. refl) (λ _. refl) (λ _. refl)
+    (λ ne. absurd (ne refl)) computed.masked
 
 -- ── texts
 
@@ -240,11 +226,8 @@ of_layout x n u =
 each-told : (xs : List Broken) → EachNeededOfLayout Claim xs → T (all_told xs) → EachTold xs
 each-told [] n u = tt
 each-told (x ∷ xs) n u =
-    let d = reports_differ (first_book x.pair) (second_book x.pair) in
-    let y = not (is_told x.without) || d in (
-      λ t. of_layout x n.0 (subst (λ (s : Bool). T (not s || d)) (is_true (is_told x.without) t) (and_l y (all_told xs) u)),
-      each-told xs n.1 (and_r y (all_told xs) u),
-    )
+    let v = both (not (is_told x.without) || reports_differ (first_book x.pair) (second_book x.pair)) (all_told xs) u in
+    (λ t. of_layout x n.0 (rw (is_true (is_told x.without) t) at v.0), each-told xs n.1 v.1)
 
 abbrev word_tree : Tree
 word_tree =
@@ -262,7 +245,7 @@ words-needed =
       read = refl;
       passes = tt;
       others = others;
-      differ = (jobs-needed (job_of words.pair.first words.pair.tape) (job_of words.pair.second words.pair.tape) computed.masked).differ;
+      differ = texts-needed.books.differ;
     }
   where
     ask : (c : Condition) → T (holds words.pair.first words.pair.second word_tree c) → Asks c words.pair.first words.pair.second word_tree
@@ -285,20 +268,14 @@ each_needed =
       commands = with_256;
       last_command = reports_differ_lem last18 last19 computed.last_differ;
       first_header =
-          record {
-            others = without-first (job_with 4 0 1 1 1) plain_job refl plain-texts plain-header;
-            books = jobs-needed (job_with 4 0 1 1 1) plain_job computed.first_header;
-          };
+          job-needed header_a (job_with 4 0 1 1 1) plain_job 10 (λ ne. absurd (ne refl)) (λ _. plain-header) (λ _. refl) (λ _. plain-texts)
+          computed.first_header;
       second_header = second-needed (job_with 4 0 1 1 1) refl plain-texts computed.second_header;
       width = second-needed (job_with 17 17 1 1 1) refl plain-texts computed.width;
       case = second-needed (job_with 4 17 2 1 1) refl plain-texts computed.case;
       text_length = second-needed (job_with 4 17 1 0 1) refl plain-texts computed.text_length;
-      tape = record { others = without-tape; books = jobs-needed plain_job (job_with 4 17 1 1 4) computed.tape };
-      masked =
-          record {
-            others = without-texts;
-            books = jobs-needed (job_of words.pair.first words.pair.tape) (job_of words.pair.second words.pair.tape) computed.masked;
-          };
+      tape = tape-needed;
+      masked = texts-needed;
       quotes = words-needed;
       each_told = each-told pairs each-needed-of-layout computed.each_told;
       four = reports_differ_lem (first_book refused_by_four) (second_book refused_by_four) computed.four;

@@ -1,15 +1,17 @@
 -- The first program's answers to two masked jobs are alike, and so the same is told of both.
-use mathlib.Core.Path.{◌≡◌, refl, sym, ap, subst, subst₂, ◌∙◌}
-use mathlib.Core.Bool.{Bool, false, cond}
+use mathlib.Core.Path.{◌≡◌, refl, ap}
+use mathlib.Core.Bool.{false}
 use mathlib.Core.List.{List, [], ◌∷◌, ◌++◌}
-use Prim.Native.Nat.{ℕ, zero, suc, ◌+◌, ◌-◌}
+use mathlib.Core.Logic.{⊎_elim}
+use Prim.Native.Nat.{ℕ, suc, ◌-◌}
 use native.Mathlib.Omega.{arith}
-use lib.ListN.{length, take, drop, replicate, length-replicate}
-use lib.Dec.{eqb}
+use lib.ListN.{length, take, drop, replicate, length-replicate, get_or-append}
+use Rattle.std.proofs.lemmas.Bool.{cases_lt}
+use Rattle.std.proofs.lemmas.List.{get_or_past}
 use Rattle.context.specs.Cells.{Text, count}
 use Rattle.layout.specs.declared.Answer.{Answer}
 use Rattle.layout.specs.Layout.{original}
-use Rattle.layout.specs.Outcome.{Outcome, Result, laid_out, outcome}
+use Rattle.layout.specs.Outcome.{Outcome, laid_out, outcome}
 use Rattle.layout.specs.Masking.{MaskedPairForLayout, SameLines, AlikeByLines}
 use Rattle.layout.proofs.TwoCalls.{masking_original, demand_3}
 use Rattle.desk_job.specs.Job.{Answered, refused, text, read_header, accepted, answered_outcome, answered_job as answered_by, leaves}
@@ -21,36 +23,26 @@ use Rattle.two_books.specs.Both.{AnswersAlike}
 -- ── lines of two lists of one length
 
 same-front : (bs cs xs ys : List ℕ) → length bs ≡ length cs → SameLines (bs ++ xs) (cs ++ ys) → SameLines bs cs
-same-front [] [] xs ys l h i = refl
-same-front [] (c ∷ cs) xs ys l h i = absurd (omega (arith, l))
-same-front (b ∷ bs) [] xs ys l h i = absurd (omega (arith, l))
-same-front (b ∷ bs) (c ∷ cs) xs ys l h zero = h 0
-same-front (b ∷ bs) (c ∷ cs) xs ys l h (suc i) = same-front bs cs xs ys (omega (arith, l)) (λ j. h (suc j)) i
+same-front bs cs xs ys l h i =
+    ⊎_elim (λ u. rw (get_or-append bs xs 0 i u, get_or-append cs ys 0 i (omega (arith, l, u))) at (h i))
+    (λ u. rw (get_or_past bs i 0 u, get_or_past cs i 0 (omega (arith, l, u)))) (cases_lt i (length bs))
 
 same_count : (bs cs : List ℕ) → length bs ≡ length cs → SameLines bs cs → count 10 bs ≡ count 10 cs
 same_count [] [] l h = refl
 same_count [] (c ∷ cs) l h = absurd (omega (arith, l))
 same_count (b ∷ bs) [] l h = absurd (omega (arith, l))
-same_count (b ∷ bs) (c ∷ cs) l h =
-    let rest = same_count bs cs (omega (arith, l)) (λ i. h (suc i)) in
-    ap (λ (t : Bool). cond t 1 0 + count 10 bs) (h 0) ∙ ap (λ (n : ℕ). cond (eqb c 10) 1 0 + n) rest
+same_count (b ∷ bs) (c ∷ cs) l h = rw (h 0, same_count bs cs (omega (arith, l)) (λ i. h (suc i)))
 
 -- ── from what a call leaves to the answer
-
-number_of : (x y : Answer) → x ≡ y → x.number ≡ y.number
-number_of x y e = ap (λ (a : Answer). a.number) e
-
-value_of : (x y : Answer) → x ≡ y → x.value ≡ y.value
-value_of x y e = ap (λ (a : Answer). a.value) e
 
 left-alike : (room : ℕ) (x y : Answered) (space : List ℕ) → Fits x room → Fits y room → (leaves x space).answer ≡ (leaves y space).answer
     → SameLines (leaves x space).space (leaves y space).space → AnswersAlike x y
 unfolding leaves
-left-alike room (refused n p) (refused m q) space f g e h = (number_of _ _ e, value_of _ _ e)
-left-alike room (refused n p) (text cs) space f g e h = let k : n ≡ 0 = number_of _ _ e in absurd (omega (arith, k, f))
-left-alike room (text bs) (refused m q) space f g e h = let k : 0 ≡ m = number_of _ _ e in absurd (omega (arith, k, g))
+left-alike room (refused n p) (refused m q) space f g e h = (ap (λ (a : Answer). a.number) e, ap (λ (a : Answer). a.value) e)
+left-alike room (refused n p) (text cs) space f g e h = let k : n ≡ 0 = ap (λ (a : Answer). a.number) e in absurd (omega (arith, k, f))
+left-alike room (text bs) (refused m q) space f g e h = let k : 0 ≡ m = ap (λ (a : Answer). a.number) e in absurd (omega (arith, k, g))
 left-alike room (text bs) (text cs) space f g e h =
-    (value_of _ _ e, same-front bs cs (drop (length bs) space) (drop (length cs) space) (value_of _ _ e) h)
+    let k = ap (λ (a : Answer). a.value) e in (k, same-front bs cs (drop (length bs) space) (drop (length cs) space) k h)
 
 outcomes_alike : (x y : Outcome) (space : List ℕ) → (laid_out x space).answer ≡ (laid_out y space).answer → SameLines (laid_out x space).space (laid_out y space).space
     → AnswersAlike (answered_outcome x (length space)) (answered_outcome y (length space))
@@ -58,8 +50,7 @@ outcomes_alike x y space e h =
     let p = laid-leaves x space in
     let q = laid-leaves y space in
     left-alike (length space) (answered_outcome x (length space)) (answered_outcome y (length space)) space (outcome_fits x (length space)) (outcome_fits y (length space))
-    (sym (ap (λ (r : Result). r.answer) p) ∙ e ∙ ap (λ (r : Result). r.answer) q)
-    (subst₂ SameLines (ap (λ (r : Result). r.space) p) (ap (λ (r : Result). r.space) q) h)
+    (rw (p, q) at e) (rw (p, q) at h)
 
 -- ── of two jobs with one header and one tape
 
@@ -75,14 +66,11 @@ module _ (a b : List ℕ) (width case end : ℕ) (header_a : read_header false a
   abbrev space : List ℕ
   space = replicate 65536 0
 
-  tape-moved : outcome original width case (text_of b) (drop end b) ≡ outcome_of b
-  tape-moved = ap (outcome original width case (text_of b)) (sym same_tape)
-
   by_lines_lem : AlikeByLines (text_of a) (text_of b) (outcome_of a) (outcome_of b) space → AnswersAlike (answered_job a) (answered_job b)
   unfolding answered_job answered_by
   by_lines_lem k =
       let alike = outcomes_alike (outcome_of a) (outcome_of b) space k.alike.answers k.lines in
-      rw (header_a, header_b, tape-moved) (subst (λ (n : ℕ). AnswersAlike (answered_outcome (outcome_of a) n) (answered_outcome (outcome_of b) n)) (length-replicate {A = ℕ} 65536 0) alike)
+      rw (header_a, header_b, ← same_tape) (rw (length-replicate {A = ℕ} 65536 0) at alike)
 
   -- less than a masked pair is enough: what a layout needs, and newlines at the same places
   pub answers-for_layout : MaskedPairForLayout width case (text_of a) (text_of b) (drop end a) → SameLines (text_of a) (text_of b) → AnswersAlike (answered_job a) (answered_job b)

@@ -1,13 +1,12 @@
 -- The conditions are met by a pair of books that differ.
-use mathlib.Core.Path.{◌≡◌, refl, sym, ap, subst, ◌∙◌}
+use mathlib.Core.Path.{◌≡◌, refl}
 use mathlib.Core.Bool.{false, false≢true}
 use mathlib.Core.List.{List}
 use Prim.Native.Nat.{ℕ}
 use Rattle.layout.specs.MaskingNeeds.{masked}
 use Rattle.layout.proofs.MaskingNeeds.{met}
 use Rattle.desk_job.specs.Job.{has_command, text_end, read_header}
-use Rattle.std.specs.Prelude.{Result, Ok, Err}
-use Rattle.book.specs.declared.open.BookFault.{BookFault}
+use Rattle.std.specs.Prelude.{Ok}
 use Rattle.book.specs.Book.{job_end, is_whole, walk, opened, jobs_from}
 use Rattle.book.specs.SmallBooks.{example}
 use Rattle.two_books.specs.MaskedBooks.{MaskedJob, MaskedJobs, equal, masked as masked_jobs, Pairs, MaskedBooks}
@@ -18,10 +17,6 @@ a = worked_book masked.first
 
 abbrev b : List ℕ
 b = worked_book masked.second
-
-abbrev count_of : Result ℕ BookFault → ℕ
-count_of (Err f) = 0
-count_of (Ok count) = count
 
 four-jobs : opened false a ≡ Ok 4
 unfolding opened walk is_whole job_end worked_book masked example
@@ -41,5 +36,5 @@ worked_books =
     record {
       same_length = refl;
       same_commands = (refl, λ _. (refl, λ _. (refl, λ _. (refl, λ _. (refl, λ e. absurd (false≢true e))))));
-      jobs = λ count e. subst (λ (n : ℕ). Pairs MaskedJobs (jobs_from n a 0) (jobs_from n b 0)) (ap count_of (sym four-jobs ∙ e)) four-pairs;
+      jobs = λ count e. let n : 4 ≡ count = cc (four-jobs, e) in rw (← n) four-pairs;
     }

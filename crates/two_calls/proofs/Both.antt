@@ -1,11 +1,10 @@
 -- From two calls to the masking rule, and to one length.
-use mathlib.Core.Path.{◌≡◌, sym, ap, subst₂, ◌∙◌}
+use mathlib.Core.Path.{◌≡◌, sym, ap, ◌∙◌}
 use mathlib.Core.List.{List}
 use Prim.Native.Nat.{ℕ}
 use Rattle.context.specs.Cells.{Text}
 use Rattle.layout.specs.Layout.{original}
 use Rattle.layout.specs.Outcome.{Result, laid_out, outcome}
-use Rattle.layout.specs.Masking.{SameLines}
 use Rattle.layout.specs.MapCall.{Mapped, mapped, numbers}
 use Rattle.layout.proofs.TwoCalls.{masking_original, cells_after_lem}
 use Rattle.layout.proofs.MapCalls.{masking_maps, map-cells_after, maps-masked}
@@ -25,17 +24,15 @@ module _ (a b : Text) (tape : List ℕ) (width case : ℕ) (r : Answer × Answer
         masked =
             λ m e.
             let k = masking_original width case a b tape m xs in
-            let x = outcome original width case a tape in
-            let y = outcome original width case b tape in
-            let q' : ◌≡◌ {A = Result} (record { answer = r.1; space = zs }) (laid_out y xs) = q ∙ ap (λ (s : List ℕ). laid_out y s) (sym e) in
-            let u : ys ≡ (laid_out x xs).space = ap (λ (z : Result). z.space) p in
-            let v : zs ≡ (laid_out y xs).space = ap (λ (z : Result). z.space) q' in (
+            let q' = rw (← e) at q in
+            let u = ap (λ (z : Result). z.space) p in
+            let v = ap (λ (z : Result). z.space) q' in (
               ap (λ (z : Result). z.answer) p ∙ k.answers ∙ sym (ap (λ (z : Result). z.answer) q'),
               record {
-                first = u ∙ sym (cells_after_lem x xs);
-                second = v ∙ sym (cells_after_lem y xs);
+                first = u ∙ sym (cells_after_lem (outcome original width case a tape) xs);
+                second = v ∙ sym (cells_after_lem (outcome original width case b tape) xs);
                 alike = k.spaces;
-                lines = λ w. subst₂ SameLines (sym u) (sym v) (k.lines w);
+                lines = λ w. rw (u, v) (k.lines w);
               },
             );
       }
@@ -52,7 +49,7 @@ module _ (a b : Text) (tape : List ℕ) (width case : ℕ) (r : Answer × Answer
         masked =
             λ m e d.
             let k = masking_maps width case a b tape m xs ms in
-            let q' = second e d in
+            let q' = rw (← e, ← d) at q in
             let u = ap (λ (z : Mapped). z.space) p in
             let v = ap (λ (z : Mapped). z.space) q' in (
               ap (λ (z : Mapped). z.answer) p ∙ k.answers ∙ sym (ap (λ (z : Mapped). z.answer) q'),
@@ -60,21 +57,18 @@ module _ (a b : Text) (tape : List ℕ) (width case : ℕ) (r : Answer × Answer
                 first = u ∙ sym (map-cells_after (outcome original width case a tape) (numbers width case a tape) xs ms);
                 second = v ∙ sym (map-cells_after (outcome original width case b tape) (numbers width case b tape) xs ms);
                 alike = k.spaces;
-                lines = λ w. subst₂ SameLines (sym u) (sym v) (k.lines w);
+                lines = λ w. rw (u, v) (k.lines w);
               },
               λ w. ap (λ (z : Mapped). z.map) p ∙ k.maps w ∙ sym (ap (λ (z : Mapped). z.map) q'),
             );
         by_lines =
             λ m e d.
             let k = maps-masked width case a b tape m xs ms in
-            let q' = second e d in (
-              subst₂ SameLines (sym (ap (λ (z : Mapped). z.space) p)) (sym (ap (λ (z : Mapped). z.space) q')) k.lines,
+            let q' = rw (← e, ← d) at q in (
+              rw (ap (λ (z : Mapped). z.space) p, ap (λ (z : Mapped). z.space) q') k.lines,
               ap (λ (z : Mapped). z.map) p ∙ k.maps ∙ sym (ap (λ (z : Mapped). z.map) q'),
             );
       }
-    where
-      second : xs ≡ us → ms ≡ ls → ◌≡◌ {A = Mapped} (record { answer = r.1; space = zs; map = os }) (mapped width case b tape xs ms)
-      second e d = q ∙ ap (λ (s : List ℕ). mapped width case b tape s ls) (sym e) ∙ ap (mapped width case b tape xs) (sym d)
 
 module _ (text : Text) (tape : List ℕ) (width case : ℕ) (r : Answer × Answer) where
   pub lays_out-twice : (xs us : List ℕ) {ys zs : List ℕ}

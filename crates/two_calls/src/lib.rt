@@ -1,4 +1,5 @@
 // Two calls on one tape: one for each of two texts, which is the masking rule, demand 3, from entry to exit; or both for one text, in two spaces.
+// What is lent stands apart, as in one call.
 #![tactic(auto)]
 
 ghost use Rattle.layout.specs.Outcome.{answer_of};
@@ -23,7 +24,7 @@ pub fn layout_both(
     (first, second)
 }
 
-// Request E3: both with a token map.
+// Request E3: both with a token map. Not one with layout_both, since the promises differ (`LaysOutBoth`, `MapsBoth`).
 pub fn layout_map_both(
     a: &[u8],
     b: &[u8],

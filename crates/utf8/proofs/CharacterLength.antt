@@ -98,7 +98,7 @@ module _ (a b c d : ℕ) where
 
 -- ── the length by the first byte, and by tests of the others
 
-abbrev by_first : ℕ → Bool → Bool → Bool → ℕ
+abbrev pub by_first : ℕ → Bool → Bool → Bool → ℕ
 by_first a two three four =
     cond (ltb a 0x80) 1
     (cond (ltb a 0xC2) 0

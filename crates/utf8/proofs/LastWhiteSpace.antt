@@ -4,8 +4,8 @@ use native.Mathlib.Omega.{arith}
 use mathlib.Core.Path.{◌≡◌, refl, sym, ap, ap₂, ◌∙◌}
 use mathlib.Core.Bool.{Bool, true, false, cond, not, ◌&&◌, false≢true}
 use mathlib.Core.List.{List, [], ◌∷◌, ◌++◌, append-nil, append_assoc}
-use lib.ListN.{length, take, drop, get_or, length-append}
-use lib.Seq.{take-add, drop-cons, get_or-take, get_or-append-add, length-take-le}
+use lib.ListN.{length, take, drop, get_or, length-append, take-append-drop, drop_of_length-le}
+use lib.Seq.{drop-cons, get_or-append-add}
 use lib.Dec.{eqb}
 use borrow.Author.Tests.{eqb-true, eqb-false, not-true}
 use Rattle.std.proofs.lemmas.Bool.{and_parts, both_ways}
@@ -115,31 +115,33 @@ no_end_lem ys h = go (eqb (end_white (pieces ys)) 0) refl
     go true w = sym (eqb-true (end_white (pieces ys)) 0 w)
     go false w = let e = ended ys (end_white (pieces ys)) refl (eqb-false (end_white (pieces ys)) 0 w) in absurd (h e.before e.last e.parts e.is_white)
 
--- ── by the bytes before place n
+-- ── by the last bytes
 
-module _ (text : List ℕ) (n : ℕ) (within : n ≤ length text) where
+module _ (ys : List ℕ) where
   abbrev byte : ℕ → ℕ
-  byte k = get_or text (n - k) 0
+  byte k = get_or ys (length ys - k) 0
 
   abbrev Before : ℕ → Type 0
-  Before k = k ≡ end_white (pieces (take n text))
+  Before k = k ≡ end_white (pieces ys)
 
   -- the bytes of a part at the end
-  part : (us c : List ℕ) → take n text ≡ us ++ c → (k j : ℕ) → k < length c → j + k ≡ length c → get_or c k 0 ≡ byte j
+  part : (us c : List ℕ) → ys ≡ us ++ c → (k j : ℕ) → k < length c → j + k ≡ length c → get_or c k 0 ≡ byte j
   part us c e k j h i =
-      let l : length us + length c ≡ n = sym (length-append us c) ∙ ap length (sym e) ∙ length-take-le n text within in
-      let m : length us + k ≡ n - j = omega arith in
-      sym (get_or-append-add us c k 0) ∙ ap (λ r. get_or r (length us + k) 0) (sym e) ∙ get_or-take n text (length us + k) 0 (omega arith) ∙ ap (λ i. get_or text i 0) m
+      let l : length us + length c ≡ length ys = sym (length-append us c) ∙ ap length (sym e) in
+      let m : length us + k ≡ length ys - j = omega arith in
+      sym (get_or-append-add us c k 0) ∙ ap (λ r. get_or r (length us + k) 0) (sym e) ∙ ap (λ i. get_or ys i 0) m
 
-  long : (us c : List ℕ) → take n text ≡ us ++ c → length c ≤ n
-  long us c e = omega (arith, sym (length-append us c) ∙ ap length (sym e) ∙ length-take-le n text within)
+  long : (us c : List ℕ) → ys ≡ us ++ c → length c ≤ length ys
+  long us c e = omega (arith, sym (length-append us c) ∙ ap length (sym e))
 
-  pub none_before : 0x80 ≤ byte 1 → (2 ≤ n → white_pair (byte 2) (byte 1) ≡ false) → (3 ≤ n → white_triple (byte 3) (byte 2) (byte 1) ≡ false) → Before 0
-  none_before p q r = no_end_lem (take n text) (λ us c e w. go us c e (white_bytes_lem c w))
+  pub none_before :
+      (1 ≤ length ys → is_white_byte (byte 1) ≡ false) → (2 ≤ length ys → white_pair (byte 2) (byte 1) ≡ false)
+      → (3 ≤ length ys → white_triple (byte 3) (byte 2) (byte 1) ≡ false) → Before 0
+  none_before p q r = no_end_lem ys (λ us c e w. go us c e (white_bytes_lem c w))
     where
-      go : (us c : List ℕ) → take n text ≡ us ++ c → white_bytes c ≡ true → ⊥
+      go : (us c : List ℕ) → ys ≡ us ++ c → white_bytes c ≡ true → ⊥
       go us [] e w = false≢true w
-      go us (x ∷ []) e w = both_ways _ (ap is_white_byte (part us (x ∷ []) e 0 1 (omega arith) (omega arith)) ∙ not_white (byte 1) (omega arith) (λ z. omega arith)) w
+      go us (x ∷ []) e w = both_ways _ (ap is_white_byte (part us (x ∷ []) e 0 1 (omega arith) (omega arith)) ∙ p (long us (x ∷ []) e)) w
       go us (x ∷ y ∷ []) e w =
           let f = part us (x ∷ y ∷ []) e in
           both_ways _ (ap₂ white_pair (f 0 2 (omega arith) (omega arith)) (f 1 1 (omega arith) (omega arith)) ∙ q (long us (x ∷ y ∷ []) e)) w
@@ -149,43 +151,46 @@ module _ (text : List ℕ) (n : ℕ) (within : n ≤ length text) where
           both_ways _ (ap (λ k. white_triple k y z) g ∙ ap₂ (white_triple (byte 3)) (f 1 2 (omega arith) (omega arith)) (f 2 1 (omega arith) (omega arith)) ∙ r (long us (x ∷ y ∷ z ∷ []) e)) w
       go us (x ∷ y ∷ z ∷ u ∷ c) e w = false≢true w
 
-  -- what is left from place n - k on, byte by byte
-  next : (k : ℕ) → suc k ≤ n → drop (n - suc k) text ≡ byte (suc k) ∷ drop (n - k) text
-  next k h =
-      let e : suc (n - suc k) ≡ n - k = omega arith in
-      drop-cons text (n - suc k) 0 (omega arith) ∙ ap (λ i. byte (suc k) ∷ drop i text) e
+  -- the last k bytes, and with one more before them
+  abbrev last : ℕ → List ℕ
+  last k = drop (length ys - k) ys
 
-  last : (k : ℕ) → k ≤ n → take n text ≡ take (n - k) text ++ take k (drop (n - k) text)
-  last k h =
-      let e : n - k + k ≡ n = omega arith in
-      ap (λ i. take i text) (sym e) ∙ take-add (n - k) k text
+  last_none : last 0 ≡ []
+  last_none = drop_of_length-le ys (omega arith)
 
-  last_one : 1 ≤ n → take n text ≡ take (n - 1) text ++ (byte 1 ∷ [])
-  last_one h = last 1 h ∙ ap (λ r. take (n - 1) text ++ take 1 r) (next 0 h)
+  last_more : (k : ℕ) → suc k ≤ length ys → last (suc k) ≡ byte (suc k) ∷ last k
+  last_more k h =
+      let e : suc (length ys - suc k) ≡ length ys - k = omega arith in
+      drop-cons ys (length ys - suc k) 0 (omega arith) ∙ ap (λ i. byte (suc k) ∷ drop i ys) e
 
-  last_two : 2 ≤ n → take n text ≡ take (n - 2) text ++ (byte 2 ∷ byte 1 ∷ [])
-  last_two h = last 2 h ∙ ap (λ r. take (n - 2) text ++ take 2 r) (next 1 h ∙ ap (λ r. byte 2 ∷ r) (next 0 (omega arith)))
+  last_one : 1 ≤ length ys → last 1 ≡ byte 1 ∷ []
+  last_one h = last_more 0 h ∙ ap (λ r. byte 1 ∷ r) last_none
 
-  last_three : 3 ≤ n → take n text ≡ take (n - 3) text ++ (byte 3 ∷ byte 2 ∷ byte 1 ∷ [])
-  last_three h =
-      last 3 h
-      ∙ ap (λ r. take (n - 3) text ++ take 3 r) (next 2 h ∙ ap (λ r. byte 3 ∷ r) (next 1 (omega arith) ∙ ap (λ r. byte 2 ∷ r) (next 0 (omega arith))))
+  last_two : 2 ≤ length ys → last 2 ≡ byte 2 ∷ byte 1 ∷ []
+  last_two h = last_more 1 h ∙ ap (λ r. byte 2 ∷ r) (last_one (omega arith))
 
-  ending_in : (us c : List ℕ) → take n text ≡ us ++ c → white_bytes c ≡ true → Before (length c)
-  ending_in us c e w = sym (ap (λ r. end_white (pieces r)) e ∙ is-end us c (white_is c ∙ w))
+  last_three : 3 ≤ length ys → last 3 ≡ byte 3 ∷ byte 2 ∷ byte 1 ∷ []
+  last_three h = last_more 2 h ∙ ap (λ r. byte 3 ∷ r) (last_two (omega arith))
 
-  pub ascii-before : 0 < n → byte 1 < 0x80 → (t : Bool) → is_white_byte (byte 1) ≡ t → Before (cond t 1 0)
-  ascii-before p h t e = sym (ap (λ r. end_white (pieces r)) (last_one p) ∙ end-ascii (take (n - 1) text) (byte 1) h ∙ ap (λ b. cond b 1 0) e)
+  abbrev front : ℕ → List ℕ
+  front k = take (length ys - k) ys
 
-  pub byte-before : 0 < n → is_white_byte (byte 1) ≡ true → Before 1
-  byte-before p w = ending_in (take (n - 1) text) (byte 1 ∷ []) (last_one p) w
+  split : (k : ℕ) (c : List ℕ) → last k ≡ c → ys ≡ front k ++ c
+  split k c e = sym (take-append-drop (length ys - k) ys) ∙ ap (λ r. front k ++ r) e
+
+  ending_in : (k : ℕ) (c : List ℕ) → last k ≡ c → white_bytes c ≡ true → Before (length c)
+  ending_in k c e w = sym (ap (λ r. end_white (pieces r)) (split k c e) ∙ is-end (front k) c (white_is c ∙ w))
+
+  pub byte-before : 1 ≤ length ys → is_white_byte (byte 1) ≡ true → Before 1
+  byte-before p w = ending_in 1 (byte 1 ∷ []) (last_one p) w
+
+  pub pair-before : 2 ≤ length ys → white_pair (byte 2) (byte 1) ≡ true → Before 2
+  pair-before p h = ending_in 2 (byte 2 ∷ byte 1 ∷ []) (last_two p) h
+
+  pub triple_before : 3 ≤ length ys → white_triple (byte 3) (byte 2) (byte 1) ≡ true → Before 3
+  triple_before p h = ending_in 3 (byte 3 ∷ byte 2 ∷ byte 1 ∷ []) (last_three p) h
 
   -- the test that most texts need
-  pub solid_before : 0 < n → 33 ≤ byte 1 → byte 1 ≤ 127 → Before 0
-  solid_before p u v = ascii-before p (omega arith) false (not_white (byte 1) (omega arith) (λ z. omega arith))
-
-  pub pair-before : 2 ≤ n → white_pair (byte 2) (byte 1) ≡ true → Before 2
-  pair-before p h = ending_in (take (n - 2) text) (byte 2 ∷ byte 1 ∷ []) (last_two p) h
-
-  pub triple_before : 3 ≤ n → white_triple (byte 3) (byte 2) (byte 1) ≡ true → Before 3
-  triple_before p h = ending_in (take (n - 3) text) (byte 3 ∷ byte 2 ∷ byte 1 ∷ []) (last_three p) h
+  pub solid_before : 1 ≤ length ys → 33 ≤ byte 1 → byte 1 ≤ 127 → Before 0
+  solid_before p u v =
+      sym (ap (λ r. end_white (pieces r)) (split 1 (byte 1 ∷ []) (last_one p)) ∙ end-ascii (front 1) (byte 1) (omega arith) ∙ ap (λ b. cond b 1 0) (not_white (byte 1) (omega arith) (λ z. omega arith)))

@@ -6,6 +6,8 @@ pub mod Bounds
 pub mod CharacterLength
 pub mod AsciiStart
 pub mod Places
+pub mod Library
+pub mod UnlessZero
 pub mod Whole
 pub mod WhiteSpaceBytes
 pub mod LastWhiteSpace

@@ -1,14 +1,9 @@
--- What the helpers of the code answer. No contract of a public function names these: table 3-7 and the list of white space do not rest on them.
-use Rattle.std.specs.Prelude.{ℕ, ◌+◌, ◌≤◌, ◌≡◌, Bool, cond, true, false, ◌&&◌, ◌||◌, List, [], ◌∷◌, length, take, drop, eqb}
-use Rattle.utf8.specs.Table.{Range, ◌‥◌, holds, is_ascii}
+-- What the helpers of the code answer, and which second bytes table 3-7 has. No contract of a public function names these: the table and the list of white space do not rest on them.
+use Rattle.std.specs.Prelude.{ℕ, zero, suc, Bool, cond, false, ◌&&◌, ◌||◌, List, [], ◌∷◌, length, eqb, Option, Some, None}
+use Rattle.utf8.specs.Table.{Range, ◌‥◌, holds}
 use Rattle.utf8.specs.Pieces.{Piece, bytes_of}
 use Rattle.utf8.specs.WhiteSpace.{is_white_space}
 use Rattle.utf8.specs.Trimming.{is_white_byte}
-
--- 32 bytes from a place on are all there and ASCII
-pub record AsciiBlock (text : List ℕ) (at : ℕ) : Type 0 where
-  pub inside : at + 32 ≤ length text
-  pub ascii : is_ascii (take 32 (drop at text)) ≡ true
 
 -- the second byte's range where the first is one of E0 to F4
 abbrev pub second_after : ℕ → Range
@@ -49,3 +44,8 @@ unfoldable pub end_white : List Piece → ℕ
 end_white [] = 0
 end_white (p ∷ []) = cond (is_white_space p) (length (bytes_of p)) 0
 end_white (p ∷ q ∷ ps) = end_white (q ∷ ps)
+
+-- a length, or none in place of 0
+abbrev pub unless_zero : ℕ → Option ℕ
+unless_zero zero = None
+unless_zero (suc n) = Some (suc n)

@@ -1,4 +1,4 @@
--- `demand_3` meets its contract.
+-- `demand_3` meets its contract. With the lemma named at the function the check finds no proof, since it answers a pair.
 use Rattle.acceptance.proofs.Demands.{demand3}
 use Rattle.acceptance.proofs.demand_3.Goals as goal
 

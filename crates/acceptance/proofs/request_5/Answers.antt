@@ -1,4 +1,4 @@
--- `request_5` meets its contract.
+-- `request_5` meets its contract. With the lemma named at the function the check finds no proof, since it answers a pair.
 use Rattle.acceptance.proofs.Requests.{one_call}
 use Rattle.acceptance.proofs.request_5.Goals as goal
 

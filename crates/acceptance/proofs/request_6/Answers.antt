@@ -1,4 +1,4 @@
--- `request_6` meets its contract.
+-- `request_6` meets its contract. With the lemma named at the function the check finds no proof, since no demand of it names the working space.
 use Rattle.acceptance.proofs.Reports.{report_over}
 use Rattle.acceptance.proofs.request_6.Goals as goal
 

@@ -12,18 +12,16 @@ use Rattle.tokens.specs.TokenPromises.{emit_uncommented, seen_as}
 use Rattle.tokens.proofs.Runs.{acted, as_acts, did-sign, did-sign-as, did-space, then}
 use Rattle.expressions.specs.SharedArms.{closing, list_token, opening}
 use Rattle.expressions.specs.declared.Brackets.{Brackets}
-use Rattle.expressions.specs.declared.Brackets.TheVariants.{Round, Square, Curly}
+use Rattle.expressions.specs.declared.Brackets.TheVariants.{Round}
 use Rattle.expressions.proofs.list_token.Goals as goal
 
 opens : (b : Brackets) (text : List ℕ) → list_token b (seen_as (opening b).0 text) ≡ write_sign (opening b).1 ∷ []
 opens Round text = refl
-opens Square text = refl
-opens Curly text = refl
+opens _ text = refl
 
 closes : (b : Brackets) (text : List ℕ) → list_token b (seen_as (closing b).0 text) ≡ write_sign (closing b).1 ∷ []
 closes Round text = refl
-closes Square text = refl
-closes Curly text = refl
+closes _ text = refl
 
 others : (b : Brackets) (kind : ℕ) (text : List ℕ) → eqb kind Comma ≡ false → eqb kind (opening b).0 ≡ false → eqb kind (closing b).0 ≡ false
     → list_token b (seen_as kind text) ≡ emit_uncommented (seen_as kind text)

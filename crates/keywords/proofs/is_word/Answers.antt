@@ -1,49 +1,30 @@
--- `is_word` meets its contract: after i passes what is left of the two decides.
-use mathlib.Core.Path.{refl, sym, ◌∙◌}
-use Prim.Native.Nat.{◌≤◌}
-use native.Mathlib.Omega.{arith}
-use borrow.Author.Tests.{eq-eqb, ne_eqb}
-use lib.ListN.{length, get_or, length-map}
-use lib.ListN.{drop_of_length-le}
+-- `is_word` meets its contract: where the lengths agree the bytes decide.
+use Rattle.std.proofs.Common.{rules, tests}
+use mathlib.Core.Path.{◌≡◌, sym, ◌∙◌}
+use mathlib.Core.Bool.{Bool, true, false}
+use mathlib.Core.List.{List}
+use Prim.Native.Nat.{ℕ, ◌<◌}
+use borrow.Author.Tests.{ne_eqb}
+use lib.ListN.{length, length-map}
+use Rattle.std.specs.Prelude.{MatchBool}
+use Rattle.std.specs.List.{AllWithin, HoldsAt, zip}
+use Rattle.std.proofs.lemmas.Iterator.{YieldsList-from_slice, YieldsList-from_zip, cases_from_all}
 use Rattle.basics.specs.Case.{to_uppercase}
-use Rattle.basics.proofs.Same.{same-lengths, same_step, same-nil}
-use Rattle.keywords.specs.Words.{capitals}
-use Rattle.keywords.proofs.Capitals.{capitals-at, upper_lem}
+use Rattle.basics.proofs.Same.{same-lengths}
+use Rattle.keywords.specs.Words.{capitals, same}
+use Rattle.keywords.proofs.Capitals.{Alike, Unlike, all-alike, one_unlike}
 use Rattle.keywords.proofs.is_word.Goals as goal
+
+decided : (w caps : List ℕ) (r : Bool) → length w ≡ length caps → MatchBool r (AllWithin Alike (zip w caps) 0 (length (zip w caps))) ((k : ℕ) × (k < length (zip w caps)) × HoldsAt Unlike (zip w caps) k)
+    → r ≡ same (capitals w) caps
+decided w caps true e h = sym (all-alike w caps e h)
+decided w caps false e h = sym (one_unlike w caps h.0 h.1 h.2)
 
 pub returns-then-word-caps : goal.returns-then-word-caps
 returns-then-word-caps c =
-    let a = c.args in
-    let l = length-map a.word.now to_uppercase in
-    sym (same-lengths (capitals a.word.now) a.caps.now (λ q. c.if-word-caps.true (sym l ∙ q)))
+    decided _ _ _ c.if-word-caps.true (cases_from_all c.all.new.self _ _ Alike Unlike c.all.ensures.ran (YieldsList-from_zip (YieldsList-from_slice c.args.word.now cc) (YieldsList-from_slice c.args.caps.now cc)) (λ x q k. search (rules, tests)) (λ x q k. search (rules, tests)))
 
-pub loop-i-init : goal.loop-i-init
-loop-i-init c = refl
-
-pub returns-then-to_ascii_uppercase-caps : goal.returns-then-to_ascii_uppercase-caps
-returns-then-to_ascii_uppercase-caps c =
-    let a = c.args in
-    let w = a.word.now in
-    let i = c.loop-i.i in
-    let l = length-map w to_uppercase in
-    let t = same_step (capitals w) a.caps.now i (omega arith) (omega arith) in
-    let u = c.to_ascii_uppercase.ensures.value ∙ upper_lem (get_or w i 0) in
-    sym (c.loop-i.invariant ∙ t ∙ rw (capitals-at w i (omega arith), ← u) (simp (ne_eqb _ _ c.if-to_ascii_uppercase-caps.true)))
-
-pub loop-i-preserved : goal.loop-i-preserved
-loop-i-preserved c =
-    let a = c.args in
-    let w = a.word.now in
-    let i = c.loop-i.i in
-    let l = length-map w to_uppercase in
-    let t = same_step (capitals w) a.caps.now i (omega arith) (omega arith) in
-    let u = c.to_ascii_uppercase.ensures.value ∙ upper_lem (get_or w i 0) in
-    c.loop-i.invariant ∙ t ∙ rw (capitals-at w i (omega arith), ← u) (simp (eq-eqb _ _ c.if-to_ascii_uppercase-caps.false))
-
-pub returns : goal.returns
-returns c =
-    let a = c.args in
-    let l = length-map a.word.now to_uppercase in
-    let hx : length (capitals a.word.now) ≤ c.loop-i.i = omega arith in
-    let hy : length a.caps.now ≤ c.loop-i.i = omega arith in
-    sym (c.loop-i.invariant ∙ rw (drop_of_length-le (capitals a.word.now) hx, drop_of_length-le a.caps.now hy) same-nil)
+pub returns-else-word-caps : goal.returns-else-word-caps
+returns-else-word-caps c =
+    let l = length-map c.args.word.now to_uppercase in
+    ne_eqb _ _ c.if-word-caps.false ∙ sym (same-lengths (capitals c.args.word.now) c.args.caps.now (λ q. c.if-word-caps.false (sym l ∙ q)))

@@ -13,7 +13,7 @@ returns-in_err-entry c =
     c.from_residual-in_err-entry.ensures ∙ sym (walked c.args.length c.args.bytes.now w g.1 g.2 ∙ no_entry w (sym c.candidate.ensures ∙ c.in_err-entry.was))
 
 pub is_entry-requires : goal.is_entry-requires
-is_entry-requires c = (candidate-stands c.in_ok-word.word.now _ (sym c.candidate.ensures ∙ c.in_ok-entry.was)).stands
+is_entry-requires c = candidate-stands c.in_ok-word.word.now _ (sym c.candidate.ensures ∙ c.in_ok-entry.was)
 
 pub returns : goal.returns
 returns c =

@@ -4,11 +4,8 @@ use mathlib.Core.Path.{◌∙◌}
 use mathlib.Core.Bool.{true, false}
 use Rattle.std.proofs.lemmas.Bool.Decides.{nat_tests}
 use Rattle.keywords.proofs.Sorts.{placed_word, plain_word}
-use Rattle.keywords.proofs.WalkLaws.{letters-fit, word-place}
+use Rattle.keywords.proofs.WalkLaws.{word-place}
 use Rattle.keywords.proofs.word_at.Goals as goal
-
-pub walk_from-requires : goal.walk_from-requires
-walk_from-requires c = (c.requires.0, rw c.capitals_of.ensures (letters-fit c.args.word.now))
 
 pub returns-in-None : goal.returns-in-None
 returns-in-None c = plain_word c.args.word.now (word-place c.args.word.now _ _ c.capitals_of.ensures c.walk_from.ensures ∙ c.in-None.is)

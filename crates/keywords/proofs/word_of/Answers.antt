@@ -6,8 +6,7 @@ use Rattle.keywords.proofs.word_of.Goals as goal
 
 pub word_at-requires : goal.word_at-requires
 word_at-requires c =
-    let x = candidate-stands c.args.word.now c.in-Some.entry (sym c.candidate.ensures ∙ c.in-Some.is) in
-    (x.stands, x.short)
+    candidate-stands c.args.word.now c.in-Some.entry (sym c.candidate.ensures ∙ c.in-Some.is)
 
 pub returns-in-None : goal.returns-in-None
 returns-in-None c = plain_word c.args.word.now (no_word c.args.word.now (sym c.candidate.ensures ∙ c.in-None.is))

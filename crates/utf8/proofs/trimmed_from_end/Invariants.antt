@@ -5,8 +5,8 @@ use lib.ListN.{length, take}
 use Rattle.utf8.specs.Trimming.{trimmed_length}
 use Rattle.utf8.proofs.trimmed_from_end.Given as goal
 
-abbrev pub invariant-loop-n : goal.invariant-loop-n
-invariant-loop-n l = (l.n ≤ length l.text) × (trimmed_length l.text ≡ trimmed_length (take l.n l.text))
+abbrev pub invariant-loop-k : goal.invariant-loop-k
+invariant-loop-k l = (l.n ≤ length l.text) × (trimmed_length l.text ≡ trimmed_length (take l.n l.text))
 
-abbrev pub decreases-loop-n : goal.decreases-loop-n
-decreases-loop-n l = l.n
+abbrev pub decreases-loop-k : goal.decreases-loop-k
+decreases-loop-k l = l.n

@@ -1,27 +1,31 @@
 -- `white_before` meets its contract.
 use native.Mathlib.Omega.{arith}
-use mathlib.Core.Path.{◌≡◌, refl, sym, ◌∙◌}
-use mathlib.Core.Bool.{Bool, true, false, cond}
-use mir.Val.{bool_byte}
-use Rattle.utf8.proofs.LastWhiteSpace.{ascii-before, none_before, pair-before, triple_before}
+use mathlib.Core.Path.{sym, ap, ◌∙◌}
+use lib.ListN.{take}
+use Rattle.utf8.specs.Steps.{unless_zero}
+use Rattle.utf8.proofs.LastWhiteSpace.{byte-before, none_before, pair-before, triple_before}
 use Rattle.utf8.proofs.white_before.Goals as goal
-use Rattle.utf8.proofs.white_before.Goals.{else-n-ge2-via-then-n-ge2+else-is_white_pair as no_pair, else-n-ge2-via-else-n-ge2 as one_byte, else-n-ge3-via-then-n-ge3+else-is_white_triple as no_triple, else-n-ge3-via-else-n-ge3 as two_bytes}
 
-as_number : (b : Bool) → bool_byte b ≡ cond b 1 0
-as_number true = refl
-as_number false = refl
+pub returns-in-len1-up : goal.returns-in-len1-up
+returns-in-len1-up c = ap unless_zero (byte-before (take c.args.n c.args.text.now) c.in-len1-up.len_at_least (sym c.is_white_byte.ensures ∙ c.if-is_white_byte.true))
 
-pub returns-then-c-lt128 : goal.returns-then-c-lt128
-returns-then-c-lt128 c = c.from.ensures ∙ as_number c.is_white_byte.result ∙ ascii-before _ _ c.requires.1 c.requires.0 c.if-c-lt128.true _ (sym c.is_white_byte.ensures)
+pub returns-in-len2-up : goal.returns-in-len2-up
+returns-in-len2-up c = ap unless_zero (pair-before (take c.args.n c.args.text.now) c.in-len2-up.len_at_least (sym c.is_white_pair.ensures ∙ c.if-is_white_pair.true))
 
-pub returns-then-is_white_pair : goal.returns-then-is_white_pair
-returns-then-is_white_pair c = pair-before _ _ c.requires.1 c.if-n-ge2.true (sym c.is_white_pair.ensures ∙ c.if-is_white_pair.true)
+pub returns-in-len3-up : goal.returns-in-len3-up
+returns-in-len3-up c = ap unless_zero (triple_before (take c.args.n c.args.text.now) c.in-len3-up.len_at_least (sym c.is_white_triple.ensures ∙ c.if-is_white_triple.true))
 
-pub returns-then-is_white_triple : goal.returns-then-is_white_triple
-returns-then-is_white_triple c = triple_before _ _ c.requires.1 c.if-n-ge3.true (sym c.is_white_triple.ensures ∙ c.if-is_white_triple.true)
+pub returns-in_default : goal.returns-in_default
+returns-in_default c = ap unless_zero (none_before (take c.args.n c.args.text.now) (λ h. absurd (omega (arith, c.in_default.len_below))) (λ h. absurd (omega (arith, c.in_default.len_below))) (λ h. absurd (omega (arith, c.in_default.len_below))))
 
-pub returns : goal.returns
-returns c =
-    none_before _ _ c.requires.1 c.if-c-lt128.false
-    (λ h. elim c.else-n-ge2.branch [ no_pair w ↦ sym w.is_white_pair.ensures ∙ w.if-is_white_pair.false | one_byte w ↦ absurd (omega arith) ])
-    (λ h. elim c.else-n-ge3.branch [ no_triple w ↦ sym w.is_white_triple.ensures ∙ w.if-is_white_triple.false | two_bytes w ↦ absurd (omega arith) ])
+pub returns-in_default-2 : goal.returns-in_default-2
+returns-in_default-2 c =
+    ap unless_zero (none_before (take c.args.n c.args.text.now) (λ h. sym c.is_white_byte.ensures ∙ c.if-is_white_byte.false) (λ h. absurd (omega (arith, c.in_default.len_below))) (λ h. absurd (omega (arith, c.in_default.len_below))))
+
+pub returns-in_default-3 : goal.returns-in_default-3
+returns-in_default-3 c =
+    ap unless_zero (none_before (take c.args.n c.args.text.now) (λ h. sym c.is_white_byte.ensures ∙ c.if-is_white_byte.false) (λ h. sym c.is_white_pair.ensures ∙ c.if-is_white_pair.false) (λ h. absurd (omega (arith, c.in_default.len_below))))
+
+pub returns-in_default-4 : goal.returns-in_default-4
+returns-in_default-4 c =
+    ap unless_zero (none_before (take c.args.n c.args.text.now) (λ h. sym c.is_white_byte.ensures ∙ c.if-is_white_byte.false) (λ h. sym c.is_white_pair.ensures ∙ c.if-is_white_pair.false) (λ h. sym c.is_white_triple.ensures ∙ c.if-is_white_triple.false))

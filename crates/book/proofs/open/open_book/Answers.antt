@@ -1,20 +1,9 @@
 -- `open_book` meets its contract: behind so many jobs the walk is the one that allows that many fewer than 256.
 use native.Mathlib.Omega.{arith}
-use borrow.Author.Tests.{lt-ltb}
 use mathlib.Core.Path.{sym, ◌∙◌}
 use Prim.Native.Nat.{◌<◌}
-use Rattle.book.specs.Book.{opened}
-use Rattle.book.proofs.Opening.{head-within, job_within, job_after, walk_end, walk-18, loop_full, loop_next, opened-walked}
+use Rattle.book.proofs.Opening.{whole_job, walk_end, walk-18, loop_full, loop_next, opened-walked}
 use Rattle.book.proofs.open.open_book.Goals as goal
-use Rattle.book.proofs.open.open_book.Goals.{then-more-via-then-more, then-more-via-else-more+then-book-gt65536}
-
-pub returns-then-more : goal.returns-then-more
-unfolding opened
-returns-then-more c =
-    elim c.then-more.branch [
-      | then-more-via-then-more w ↦ simp w.if-more.true
-      | then-more-via-else-more+then-book-gt65536 w ↦ simp (w.if-more.false, lt-ltb _ _ w.if-book-gt65536.true)
-    ]
 
 pub returns-then-not-is_whole : goal.returns-then-not-is_whole
 returns-then-not-is_whole c = sym (opened-walked _ _ c.if-more.false c.if-book-gt65536.false ∙ sym c.loop-at.invariant.0 ∙ walk-18 _ _ _ c.loop-at-test.true _ (sym c.if-not-is_whole.ensures))
@@ -22,17 +11,11 @@ returns-then-not-is_whole c = sym (opened-walked _ _ c.if-more.false c.if-book-g
 pub returns-then-jobs-eq256 : goal.returns-then-jobs-eq256
 returns-then-jobs-eq256 c = sym (opened-walked _ _ c.if-more.false c.if-book-gt65536.false ∙ sym c.loop-at.invariant.0 ∙ loop_full _ _ _ c.loop-at-test.true (sym c.if-not-is_whole.ensures) c.if-jobs-eq256.true)
 
-pub job_end-at-requires : goal.job_end-at-requires
-job_end-at-requires c = (head-within _ _ (sym c.if-not-is_whole.ensures), c.if-book-gt65536.false)
-
-pub loop-at-smaller : goal.loop-at-smaller
-loop-at-smaller c = omega (arith, c.job_end-at.ensures, job_within _ _ (sym c.if-not-is_whole.ensures), job_after c.args.book.now c.loop-at.at)
-
 pub loop-at-preserved : goal.loop-at-preserved
 loop-at-preserved c =
     let w = sym c.if-not-is_whole.ensures in
     let f : c.loop-at.jobs < 256 = omega (arith, c.if-jobs-eq256.false) in
-    (rw c.job_end-at.ensures (sym (loop_next _ _ _ c.loop-at-test.true w f) ∙ c.loop-at.invariant.0), (omega (arith, f), omega (arith, c.job_end-at.ensures, job_within _ _ w)))
+    (rw c.job_end-at.ensures (sym (loop_next _ _ _ c.loop-at-test.true w f) ∙ c.loop-at.invariant.0), (omega (arith, f), omega (arith, c.job_end-at.ensures, whole_job _ _ w)))
 
 pub returns : goal.returns
 returns c = sym (opened-walked _ _ c.if-more.false c.if-book-gt65536.false ∙ sym c.loop-at.invariant.0 ∙ walk_end _ _ _ _ (omega arith))

@@ -14,4 +14,4 @@ pub returns : goal.returns
 returns c =
     let a = c.args in
     c.after_text.ensures
-    ∙ advanced-blanks a.blanks a.text.now a.self _ _ refl (ap (trimmed_after (a.self.length + a.blanks) a.self.trimmed) c.trimmed_from_end.ensures)
+    ∙ advanced-blanks a.blanks a.text.now a.self _ _ refl (ap (trimmed_after (a.self.length + a.blanks) a.self.trimmed) c.trimmed_length.ensures)

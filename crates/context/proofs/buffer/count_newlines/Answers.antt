@@ -5,8 +5,8 @@ use mathlib.Core.List.{List}
 use Prim.Native.Nat.{ℕ, ◌+◌}
 use native.Mathlib.Omega.{arith}
 use lib.Dec.{eqb}
-use borrow.Author.Rules.{rules}
 use Rattle.std.specs.List.{count_by}
+use Rattle.std.proofs.lemmas.List.{take_all}
 use Rattle.std.proofs.lemmas.List.Recursion.{is_count_by}
 use Rattle.context.specs.Cells.{count}
 use Rattle.context.proofs.buffer.count_newlines.Goals as goal
@@ -19,6 +19,4 @@ counted : (xs : List ℕ) → count 10 xs ≡ count_by (λ x. eqb x 10) xs
 counted = is_count_by (count 10) (λ x. eqb x 10) refl (λ x xs. added (eqb x 10) (count 10 xs))
 
 pub returns : goal.returns
-returns c =
-    let r : c.count.result ≡ count_by (λ x. eqb x 10) c.args.text.now = search rules in
-    rw (counted c.args.text.now) r
+returns c = rw (counted c.args.text.now, ← take_all c.loop-b.b-index c.args.text.now (omega (arith, c.loop-b.auto.b-index-end))) c.loop-b.invariant

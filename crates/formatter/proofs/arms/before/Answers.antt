@@ -1,4 +1,4 @@
--- `before` meets its contract.
+-- `before` meets its contract. No lemma can stand for several answers: each goal has names of its own for its branch and its call.
 use native.Mathlib.Omega.{arith}
 use mathlib.Core.Path.{◌∙◌, ap, refl, sym}
 use mathlib.Core.Logic.{⊎_elim}

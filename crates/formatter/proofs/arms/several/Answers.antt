@@ -9,4 +9,4 @@ unfolding noted_several
 returns-in-ListClause c = rw c.in-ListClause.is c.several_items.ensures
 
 pub returns-in_default : goal.returns-in_default
-returns-in_default c = asks_nothing c.args.routine c.in_default.not-ListClause c.args.kind (facts_at c.args.facts.now c.args.at)
+returns-in_default c = asks_nothing c.args.routine c.in_default.not-ListClause c.args.kind (facts_at c.args.facts.facts.now c.args.facts.at)

@@ -1,4 +1,4 @@
--- `token` meets its contract.
+-- `token` meets its contract. No lemma can stand for several answers: each goal has names of its own for its branch and its call.
 use mathlib.Core.Path.{refl}
 use mathlib.Core.Logic.{⊎_elim}
 use Rattle.formatter.specs.KnownArms.{known_arms}

@@ -1,15 +1,19 @@
 -- `replay_list` meets its contract: after each turn the definition from the next record on, with what is counted so far, is that of the list.
-use mathlib.Core.Path.{◌∙◌, sym}
+use mathlib.Core.Path.{◌≡◌, ◌∙◌, sym}
 use native.Mathlib.Omega.{arith}
+use borrow.Author.Rules.{rules}
 use Rattle.desk_job.proofs.HeaderReading.{answered-false, answered-true}
 use Rattle.replay_list.proofs.Replaying.{too_short_lem, start, broken-record, next-record, compared_end, input_goes_on, list-goes_on, list-ends}
+use Rattle.replay_list.specs.Replay.{no_records}
 use Rattle.replay_list.proofs.replay.replay_list.Goals as goal
 
 pub returns-then-list-lt8 : goal.returns-then-list-lt8
 returns-then-list-lt8 c = too_short_lem c.args.more c.args.list.now c.if-list-lt8.true
 
 pub loop-at-init : goal.loop-at-init
-loop-at-init c = start c.args.more c.args.list.now c.u64_at-records.result c.if-list-lt8.false c.u64_at-records.ensures
+loop-at-init c =
+    let none : c.default-tally.result ≡ no_records = search rules in
+    rw none (start c.args.more c.args.list.now c.u64_at-records.result c.if-list-lt8.false c.u64_at-records.ensures)
 
 pub returns-in_default : goal.returns-in_default
 returns-in_default c =

@@ -16,14 +16,6 @@ pub returns-then-tape-gt262144 : goal.returns-then-tape-gt262144
 unfolding read_input
 returns-then-tape-gt262144 c = rw (le-ltb _ _ c.if-text-gt262144.false, sym c.ill_formed_at-ill_formed.ensures ∙ c.in_default.is, lt-ltb _ _ c.if-tape-gt262144.true) (refl, tt)
 
-pub invariant_of-check : goal.invariant_of-check
-invariant_of-check c =
-    let well = sym c.ill_formed_at-ill_formed.ensures ∙ c.in_default.is in
-    record { known = record { well_formed = well; start = c.ascii_start-ascii.ensures } }
-
-pub check-requires : goal.check-requires
-check-requires c = (c.if-tape-gt262144.false, c.requires c.if-tape-gt262144.false)
-
 pub returns : goal.returns
 unfolding read_input
 returns c = rw (le-ltb _ _ c.if-text-gt262144.false, sym c.ill_formed_at-ill_formed.ensures ∙ c.in_default.is, le-ltb _ _ c.if-tape-gt262144.false) c.check.ensures

@@ -3,41 +3,17 @@ use native.Mathlib.Omega.{arith}
 use Rattle.tape.proofs.Skips.{skip_first, skip_low, skip_close, skip_open, skip_token, skip_last}
 use Rattle.tape.proofs.scan.skip.Goals as goal
 
-pub overflow_add-i : goal.overflow_add-i
-overflow_add-i c = omega (arith, c.requires.inside)
-
 pub loop-depth-init : goal.loop-depth-init
 loop-depth-init c = skip_first c.requires
 
-pub loop-i-init : goal.loop-i-init
-loop-i-init c = (c.loop-depth.invariant, omega arith, c.loop-depth-test.true)
-
 pub bounds-tape-i : goal.bounds-tape-i
 bounds-tape-i c = let v = c.loop-i.invariant in omega (arith, skip_low v.0, v.2)
-
-pub overflow_add-i-in-loop-i : goal.overflow_add-i-in-loop-i
-overflow_add-i-in-loop-i c = let v = c.loop-i.invariant in omega (arith, skip_low v.0)
-
-pub overflow_add-tokens : goal.overflow_add-tokens
-overflow_add-tokens c = let v = c.loop-i.invariant in omega (arith, skip_low v.0, v.0.few)
-
-pub loop-i-smaller : goal.loop-i-smaller
-loop-i-smaller c = let v = c.loop-i.invariant in omega (arith, skip_low v.0, v.2)
 
 pub loop-i-preserved : goal.loop-i-preserved
 loop-i-preserved c = let v = c.loop-i.invariant in (skip_token v.2 c.loop-i-test.true v.0, omega (arith, v.1), v.2)
 
 pub bounds-tape-i-in-loop-depth : goal.bounds-tape-i-in-loop-depth
 bounds-tape-i-in-loop-depth c = let v = c.loop-i.invariant in omega (arith, skip_low v.0, v.2)
-
-pub overflow_sub-depth : goal.overflow_sub-depth
-overflow_sub-depth c = let v = c.loop-i.invariant in omega (arith, v.2)
-
-pub overflow_add-i-then-tape-i-eq-CLOSE : goal.overflow_add-i-then-tape-i-eq-CLOSE
-overflow_add-i-then-tape-i-eq-CLOSE c = let v = c.loop-i.invariant in omega (arith, skip_low v.0)
-
-pub loop-depth-smaller-then-tape-i-eq-CLOSE : goal.loop-depth-smaller-then-tape-i-eq-CLOSE
-loop-depth-smaller-then-tape-i-eq-CLOSE c = let v = c.loop-i.invariant in omega (arith, skip_low v.0, v.1, v.2)
 
 pub loop-depth-preserved-then-tape-i-eq-CLOSE : goal.loop-depth-preserved-then-tape-i-eq-CLOSE
 loop-depth-preserved-then-tape-i-eq-CLOSE c = let v = c.loop-i.invariant in skip_close v.2 c.if-tape-i-eq-CLOSE.true v.0
