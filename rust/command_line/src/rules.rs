@@ -4,6 +4,8 @@ use std::ffi::OsStr;
 use std::io::Write;
 use std::os::unix::ffi::OsStrExt;
 use std::process::{Command, Output, Stdio};
+use std::thread;
+use std::time::Duration;
 
 /// Runs the program with this input.
 pub fn run(program: &str, arguments: &[&str], input: &[u8]) -> Output {
@@ -71,10 +73,13 @@ pub fn assert_output_kept(program: &str, name: &str, arguments: &[&str], input: 
     }
 }
 
-/// A pipe whose reader has ended.
+/// A pipe that nobody reads. Its reader has ended, but a program that another test is starting holds its end until it runs, so a write is tried until it fails.
 fn closed_pipe() -> Stdio {
     let mut reader = Command::new("true").stdin(Stdio::piped()).spawn().expect("a reader");
-    let pipe = reader.stdin.take().expect("a pipe");
+    let mut pipe = reader.stdin.take().expect("a pipe");
     reader.wait().expect("the reader ends");
+    while pipe.write(b" ").is_ok() {
+        thread::sleep(Duration::from_millis(1));
+    }
     Stdio::from(pipe)
 }
