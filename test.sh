@@ -1,5 +1,5 @@
 #!/bin/sh
-# The tests. Needs rt of the version in rattle-version, cargo, rustc, cc, c++ and the original source (rust/README.md); nothing is fetched.
+# The tests. Needs rt of the version in rattle-version, cargo, rustc, cc, c++, nm and the original source (rust/README.md); nothing is fetched.
 #
 #     sh test.sh          the verdict: `rt ci` proves everything from nothing (what an earlier run on this machine proved it knows by its checksums)
 #                         and tries the must-fail edits, and the rest runs on the programs that it built. Where all of it passes, the last line

@@ -1,7 +1,7 @@
 #!/bin/sh
 # Compiles the headers alone by every compiler at hand, as the oldest C and C++ that they are for and as later ones. Compiles and runs the C tests
-# (tests/c) as C and as C++, without and with the compiler's checks of addresses and undefined behaviour, where it has them. Needs
-# scripts/static_libraries.sh first.
+# (tests/c) as C and as C++, without and with the compiler's checks of addresses and undefined behaviour, where it has them. Tells where the library
+# asks its user for another name than memset. Needs scripts/static_libraries.sh first.
 set -eu
 cd "$(dirname "$0")/.."
 built=target/c_tests
@@ -50,6 +50,12 @@ done
 for standard in c++11 c++17; do
     header c++ $standard "${CXX:-c++}" g++ clang++
 done
+
+asked=$(nm -u target/staticlib/libqdesk.a | sed -n 's/^ *U //p' | sort -u)
+if [ "$asked" != memset ]; then
+    echo "C tests: the library asks for these names, and not for memset alone:" $asked >&2
+    exit 1
+fi
 
 for test in tests/c/*.c; do
     try_both "$(basename "$test" .c)" "${CC:-cc}" -std=c11

@@ -4,7 +4,7 @@ set -eu
 cd "$(dirname "$0")/.."
 
 missing=
-for tool in rt cargo rustc "${CC:-cc}" "${CXX:-c++}"; do
+for tool in rt cargo rustc nm "${CC:-cc}" "${CXX:-c++}"; do
     command -v "$tool" >/dev/null || missing="$missing $tool"
 done
 if [ -n "$missing" ]; then

@@ -17,7 +17,7 @@ fails() { # WORDS VARIABLES...
 }
 
 mkdir "$folder/few" "$folder/other"
-for tool in sh dirname cat rt rustc; do
+for tool in sh dirname cat rt rustc nm; do
     ln -s "$(command -v $tool)" "$folder/few/$tool"
 done
 fails "tools: not found: cargo no-such-compiler c++" PATH="$folder/few" CC=no-such-compiler CXX=c++

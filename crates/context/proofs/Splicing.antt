@@ -46,6 +46,14 @@ module _ {A : Type 0} where
   splice-over (suc m) (b ∷ bs) (x ∷ xs) = ap {B = List A} (λ r. b ∷ r) (splice-over m bs xs)
   splice-over _ _ _ = refl
 
+  splice-under : (m : ℕ) (bs xs : List A) → splice 0 (take m bs) (splice 0 bs xs) ≡ splice 0 bs xs
+  unfolding splice
+  splice-under m bs [] = refl
+  splice-under zero bs (x ∷ xs) = splice-nil 0 _
+  splice-under (suc m) (b ∷ bs) (x ∷ xs) = ap {B = List A} (λ r. b ∷ r) (splice-under m bs xs)
+  splice-under _ _ _ = refl
+
+  -- the front first
   front_back : (k m : ℕ) (bs xs : List A) → k ≤ m → splice k (drop k bs) (splice 0 (take m bs) xs) ≡ splice 0 bs xs
   unfolding splice
   front_back zero m bs xs h = splice-over m bs xs
@@ -53,6 +61,15 @@ module _ {A : Type 0} where
   front_back (suc k) (suc m) bs [] h = refl
   front_back (suc k) (suc m) [] (x ∷ xs) h = ap {B = List A} (λ r. x ∷ r) (splice-nil k xs)
   front_back (suc k) (suc m) (b ∷ bs) (x ∷ xs) h = ap {B = List A} (λ r. b ∷ r) (front_back k m bs xs (le_of_suc-le-suc h))
+
+  -- the back first
+  back_front : (k m : ℕ) (bs xs : List A) → k ≤ m → splice 0 (take m bs) (splice k (drop k bs) xs) ≡ splice 0 bs xs
+  unfolding splice
+  back_front zero m bs xs h = splice-under m bs xs
+  back_front (suc k) zero bs xs h = absurd (not-suc-le-zero h)
+  back_front (suc k) (suc m) bs [] h = refl
+  back_front (suc k) (suc m) [] (x ∷ xs) h = ap {B = List A} (λ r. x ∷ r) (splice-nil k xs)
+  back_front (suc k) (suc m) (b ∷ bs) (x ∷ xs) h = ap {B = List A} (λ r. b ∷ r) (back_front k m bs xs (le_of_suc-le-suc h))
 
   -- ── a loop that writes ps element by element, as far as the list goes
 
@@ -121,3 +138,8 @@ module _ {A : Type 0} where
     pub front_then_back : out ≡ splice 0 (take m ps) xs → ys ≡ splice 0 (take m (take (length ps - k) (drop k ps))) (take (length out - k) (drop k out))
         → take k out ++ (ys ++ drop (length out - k) (drop k out)) ≡ splice 0 (take n ps) xs
     front_then_back f b = cc (part_back k _ out ys b, lent_back k m n ps e, take-take m n ps (omega arith), front_back k m (take n ps) xs h)
+
+    -- the other way round
+    pub back_then_front : ys ≡ splice 0 (take m (take (length ps - k) (drop k ps))) (take (length xs - k) (drop k xs))
+        → out ≡ splice 0 (take m ps) (take k xs ++ (ys ++ drop (length xs - k) (drop k xs))) → out ≡ splice 0 (take n ps) xs
+    back_then_front b f = cc (part_back k _ xs ys b, lent_back k m n ps e, take-take m n ps (omega arith), back_front k m (take n ps) xs h)

@@ -33,12 +33,14 @@ pub(crate) fn fill(out: &mut [u8], n: usize, b: u8)
     out[..end].fill(b);
 }
 
-// The text, from the part's start.
+// The text, from the part's start. By a loop, which takes many bytes at a time: with copy_from_slice the library for C would ask its user for memmove.
 pub fn copy(out: &mut [u8], text: &[u8])
     ensures { out.new ≡ splice 0 text.now out.old }
 {
     let end = text.len().min(out.len());
-    out[..end].copy_from_slice(&text[..end]);
+    for (i, b) in out[..end].iter_mut().enumerate() {
+        *b = text[i];
+    }
 }
 
 // The first N bytes of the text, all read before one is written: the compiler makes one move of them. Copied from one part to the other they would be

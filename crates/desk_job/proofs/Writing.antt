@@ -4,14 +4,15 @@ use mathlib.Core.List.{List, [], ◌∷◌, ◌++◌}
 use Prim.Native.Nat.{ℕ, zero, suc, min, ◌+◌, ◌-◌, ◌/◌, ◌%◌, ◌≤◌, ◌<◌, ◌^◌}
 use mathlib.Core.Logic.{inl, inr}
 use native.Mathlib.Omega.{arith, min_cases}
-use lib.ListN.{length, take, drop, length-append, drop_of_length-le}
+use lib.ListN.{length, take, drop, length-append, length-drop, drop_of_length-le}
+use lib.Seq.{take_all}
 use borrow.Author.Tests.{lt-ltb, le-ltb}
 use Rattle.context.specs.Splice.{splice}
-use Rattle.context.proofs.Splicing.{splice-front, splice-nil, splice-splice, splice-past}
+use Rattle.context.proofs.Splicing.{splice-covers, splice-front, splice-nil, splice-splice, splice-past}
 use Rattle.std.proofs.Common.{decimal as all_digits}
 use Rattle.std.proofs.lemmas.Fmt.{decimal_step, decimal_digit}
 use Rattle.std.proofs.lemmas.Bool.{cases_lt}
-use Rattle.std.proofs.lemmas.List.{drop-append-le}
+use Rattle.std.proofs.lemmas.List.{drop-append-le, length-take-le}
 use Rattle.desk_job.specs.Job.{decimal}
 use Rattle.desk_job.specs.Written.{Written, written}
 use Rattle.desk_job.specs.Puts.{Puts}
@@ -80,6 +81,14 @@ pub wrote_text : (at n k : ℕ) (bs xs part : List ℕ) → at ≤ length xs →
     → Wrote (at + n) (take at xs ++ (part ++ drop k (drop at xs))) at bs xs
 wrote_text at n k bs xs part h e f p =
     wrote (at + n) at bs xs (take at xs ++ (part ++ drop k (drop at xs))) (omega (arith, h, e)) (rw (f, p) (text_put at n bs xs h e))
+
+-- what `copy` lays over that part
+pub put_whole : (at n k : ℕ) (bs xs part : List ℕ) → at ≤ length xs → n ≡ min (length bs) (length xs - at) → k ≡ n → part ≡ splice 0 (take n bs) (take k (drop at xs)) → part ≡ take n bs
+put_whole at n k bs xs part h e f p =
+    let d = length-drop at xs in
+    let l : length (take k (drop at xs)) ≡ n = length-take-le k (drop at xs) (omega (arith, d, e, f)) ∙ f in
+    let m = length-take-le n bs (omega (arith, e)) in
+    p ∙ splice-covers (take n bs) (take k (drop at xs)) (omega (arith, l, m)) ∙ take_all _ (take n bs) (omega (arith, l, m))
 
 -- ── a writer
 

@@ -1,6 +1,8 @@
 // Bytes, decimal numbers and lines of them written into a lent space, as far as it goes.
 ghost use Rattle.std.specs.Prelude.{◌≤◌, length};
 
+use context::copy;
+
 // A lent space, and how far it is written.
 #[derive(Drop)]
 pub struct Writer<'a> {
@@ -30,12 +32,14 @@ impl<'a> Writer<'a> {
         self.end
     }
 
+    // By `copy` of context. On its own, since of a text that the compiler knows it would make a memcpy, which the library for C would ask its user for.
+    #[inline(never)]
     pub fn put_all(&mut self, text: &[u8])
         ensures { Puts self.old text.now self.new }
     {
         let fits = text.len().min(self.out.len() - self.end);
         let end = self.end + fits;
-        self.out[self.end..end].copy_from_slice(&text[..fits]);
+        copy(&mut self.out[self.end..end], &text[..fits]);
         self.end = end;
     }
 

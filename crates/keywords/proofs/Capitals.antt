@@ -10,6 +10,7 @@ use borrow.Author.Tests.{eq-eqb, ne_eqb}
 use lib.Dec.{eqb}
 use lib.ListN.{length, get_or, take, drop, replicate}
 use Rattle.std.proofs.lemmas.Bool.Decides.{nat_tests}
+use Rattle.std.proofs.lemmas.List.{map-append, take-map}
 use Rattle.std.specs.Char.{to_ascii_uppercase}
 use Rattle.std.specs.List.{AllWithin, HoldsAt, zip}
 use Rattle.basics.specs.Case.{to_uppercase}
@@ -61,3 +62,13 @@ first_letters (b ∷ w) zero zero e = refl
 first_letters (b ∷ w) zero (suc m) e = absurd (omega (arith, e))
 first_letters (b ∷ w) (suc k) zero e = absurd (omega (arith, e))
 first_letters (b ∷ w) (suc k) (suc m) e = ap₂ (λ (x : ℕ) (r : List ℕ). x ∷ r) (upper_lem b) (first_letters w k m (omega (arith, e)))
+
+zeros_after : (m k : ℕ) → map to_ascii_uppercase (drop m (replicate k 0)) ≡ drop m (replicate k 0)
+zeros_after zero zero = refl
+zeros_after zero (suc k) = ap (λ (r : List ℕ). 0 ∷ r) (zeros_after zero k)
+zeros_after (suc m) zero = refl
+zeros_after (suc m) (suc k) = zeros_after m k
+
+-- the same, the zeros as they are
+pub letters_put : (w : List ℕ) (k m : ℕ) → m ≡ min (length w) k → take m (map to_ascii_uppercase w) ++ drop m (replicate k 0) ≡ take k (capitals w ++ drop (length w) (replicate k 0))
+letters_put w k m e = rw (take-map to_ascii_uppercase m w, ← zeros_after m k, ← map-append to_ascii_uppercase (take m w) (drop m (replicate k 0))) (first_letters w k m e)

@@ -87,10 +87,10 @@ candidate-is w k d o q h g l s =
 
 -- ── each entry is led to
 
--- the index leads to the entry at each place, so that none stands there twice
+-- the index leads to the entry at each place, so that none stands there twice, and the number of its first letter is not 0
 abbrev led : ℕ → List ℕ → Option code.Entry → Bool
 led i e None = false
-led i e (Some r) = eqb r.place i && eqb r.first (letter_at e 0)
+led i e (Some r) = eqb r.place i && (eqb r.first (letter_at e 0) && leb 1 r.first)
 
 leads : ℕ → List (List ℕ) → List (ℕ × Option code.Entry) → Bool
 leads i [] t = true
@@ -113,14 +113,14 @@ known : (e : List ℕ) (i : ℕ) (o : Option code.Entry) → T (entry e) → T (
 known e i None t u = absurd u
 known e i (Some r) t u =
     let l = both (leb 2 (length e)) (leb (length e) 12) (both (leb 2 (length e) && leb (length e) 12) (capital e) t).0 in
-    let x = both (eqb r.place i) (eqb r.first (letter_at e 0)) u in
+    let x = both (eqb r.place i) (eqb r.first (letter_at e 0) && leb 1 r.first) u in
     record {
       long = leb→le 2 (length e) l.0;
       short = leb→le (length e) 12 l.1;
       entry = r;
       is = refl;
       place = eqb→eq r.place i x.0;
-      begins = eqb→eq r.first (letter_at e 0) x.1;
+      begins = eqb→eq r.first (letter_at e 0) (both (eqb r.first (letter_at e 0)) (leb 1 r.first) x.1).0;
     }
 
 known_at : (i : ℕ) (es : List (List ℕ)) (t : List (ℕ × Option code.Entry)) (j : ℕ) → T (entries es) → T (leads i es t) → j < length es

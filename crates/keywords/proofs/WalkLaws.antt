@@ -1,11 +1,13 @@
 -- The walk: what is known once an entry is equal or is not, and the walk with a word's capitals.
 use mathlib.Core.Path.{◌≡◌, refl, sym, ap, ◌∙◌}
 use mathlib.Core.Bool.{Bool, true, false, and-false}
-use mathlib.Core.List.{List, ◌++◌}
-use Prim.Native.Nat.{ℕ, ◌-◌, ◌≤◌, ◌<◌}
+use mathlib.Core.List.{List, [], ◌∷◌, ◌++◌}
+use Prim.Native.Nat.{ℕ, zero, suc, ◌+◌, ◌-◌, ◌≤◌, ◌<◌}
+use native.Mathlib.Nat.{le_of_suc-le-suc, not-suc-le-zero}
+use native.Mathlib.Numerals.{add-one}
 use native.Mathlib.Omega.{arith}
 use borrow.Author.Tests.{le-leb, lt-leb}
-use lib.ListN.{length, length-append, length-map, length-take, take, drop, replicate}
+use lib.ListN.{length, length-append, length-map, length-take, get_or, set, take, drop, replicate}
 use lib.Dec.{leb, leb→le}
 use lib.Seq.{take-append_seam, take-take}
 use Rattle.basics.specs.Case.{to_uppercase}
@@ -47,3 +49,13 @@ letters_walked w = go (leb (length w) 12) refl
 
 pub word-place : (w letters : List ℕ) (p : Option ℕ) → letters ≡ capital_letters w → p ≡ first_equal (length w) letters words → place_of (capitals w) words ≡ p
 word-place w letters p e q = sym (q ∙ ap (λ (l : List ℕ). first_equal (length w) l words) e ∙ letters_walked w)
+
+-- a byte more in front of the rest
+pub put_next : (ws zs : List ℕ) (i : ℕ) → i < length ws → i < length zs → set (take i ws ++ drop i zs) i (get_or ws i 0) ≡ take (i + 1) ws ++ drop (i + 1) zs
+put_next ws zs i h k = rw add-one (go ws zs i h k)
+  where
+    go : (ws zs : List ℕ) (i : ℕ) → i < length ws → i < length zs → set (take i ws ++ drop i zs) i (get_or ws i 0) ≡ take (suc i) ws ++ drop (suc i) zs
+    go [] zs i h k = absurd (not-suc-le-zero h)
+    go (w ∷ ws) [] i h k = absurd (not-suc-le-zero k)
+    go (w ∷ ws) (z ∷ zs) zero h k = refl
+    go (w ∷ ws) (z ∷ zs) (suc i) h k = ap (λ (l : List ℕ). w ∷ l) (go ws zs i (le_of_suc-le-suc h) (le_of_suc-le-suc k))

@@ -36,13 +36,15 @@ pub fn is_word(word: &[u8], caps: &[u8]) -> bool
 }
 
 // A word's letters in upper case, as many as an entry can have, and zeros after them, in an array since there is no heap: worked out once, before the walk.
+// By a loop: with copy_from_slice the library for C would ask its user for memcpy.
 fn capitals_of(word: &[u8]) -> [u8; LONGEST]
     ensures { result ≡ capital_letters word.now }
 {
     let n = word.len().min(LONGEST);
     let mut letters = [0u8; LONGEST];
-    letters[..n].copy_from_slice(&word[..n]);
-    letters.make_ascii_uppercase();
+    for (i, letter) in letters[..n].iter_mut().enumerate() {
+        *letter = word[i].to_ascii_uppercase();
+    }
     letters
 }
 

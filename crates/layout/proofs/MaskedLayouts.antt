@@ -32,7 +32,7 @@ use Rattle.layout.specs.Calls.{Call, put_spacing, act_at, raw, walk, calls}
 use Rattle.layout.specs.Layout.{step, pieces, written, Version, original, pieces_of, format}
 use Rattle.layout.proofs.EachCall.{Every, each-call, reached_copy}
 use Rattle.layout.specs.SpanStarts.{SpansStart}
-use Rattle.layout.proofs.PieceStarts.{PieceStarts, none-starts, starts-append, spacing-starts, lead-starts, sign_starts, step-starts}
+use Rattle.layout.proofs.PieceStarts.{PieceStarts, none-starts, starts-cells, spacing-starts, lead-starts, sign_starts, step-starts}
 use Rattle.layout.specs.Masking.{OfCopied, EachReachedBelow, EachReachedCopy, quoted, Holds, characters_of, last_is_white, Differ, EndsInWhiteSpace, Masked, MaskedForLayout, SameLines}
 
 -- the tokens are those of a checked tape over a text of so many bytes
@@ -127,8 +127,8 @@ module _ (a b : Text) (same_length : length a ≡ length b) where
   written-starts_both ps qs nil = (none-starts, none-starts)
   written-starts_both ps qs (next {p} {q} {ps = ps'} {qs = qs'} k r) =
       let w = written-starts_both ps' qs' r in (
-        starts-append p.lead _ k.starts_a.0 (starts-append p.body _ k.starts_a.1 w.0),
-        starts-append q.lead _ k.starts_b.0 (starts-append q.body _ k.starts_b.1 w.1),
+        starts-cells p.lead _ k.starts_a.0 (starts-cells p.body _ k.starts_a.1 w.0),
+        starts-cells q.lead _ k.starts_b.0 (starts-cells q.body _ k.starts_b.1 w.1),
       )
 
   written-like : (ps qs : List Piece) → PiecesLike ps qs → Like a b (written ps) (written qs)
@@ -145,8 +145,8 @@ module _ (a b : Text) (same_length : length a ≡ length b) where
       let w = written-starts_both ps' qs' r in
       rw (
         k.leads,
-        trimmed-both q.lead (p.body ++ written ps') (starts-append p.body _ k.starts_a.1 w.0),
-        trimmed-both q.lead (q.body ++ written qs') (starts-append q.body _ k.starts_b.1 w.1),
+        trimmed-both q.lead (p.body ++ written ps') (starts-cells p.body _ k.starts_a.1 w.0),
+        trimmed-both q.lead (q.body ++ written qs') (starts-cells q.body _ k.starts_b.1 w.1),
         trimmed-both p.body (written ps') w.0,
         trimmed-both q.body (written qs') w.1,
         k.trims,

@@ -22,9 +22,14 @@ use Rattle.layout.specs.Layout.{nothing_written, newline_if, do_spacing, step, p
 use Rattle.layout.specs.SpanStarts.{SpansStart}
 use Rattle.layout.proofs.EachCall.{Every, reached_copy}
 
-pub starts-append : (X Y : List Cell) → Starts (bytes_of X) → Starts (bytes_of Y) → Starts (bytes_of (X ++ Y))
-starts-append [] Y u v = v
-starts-append (c ∷ X) Y u v = u
+pub starts-append : (xs ys : List ℕ) → Starts xs → Starts ys → Starts (xs ++ ys)
+starts-append [] ys u v = v
+starts-append (x ∷ xs) ys u v = u
+
+-- the same of cells
+pub starts-cells : (X Y : List Cell) → Starts (bytes_of X) → Starts (bytes_of Y) → Starts (bytes_of (X ++ Y))
+starts-cells [] Y u v = v
+starts-cells (c ∷ X) Y u v = u
 
 -- ── one piece
 
@@ -116,7 +121,7 @@ module _ (config : FormatConfig) (source : Text) where
       let r = step config source c s in
       let p = step-starts c (w.0, tt) s in
       let rest = written (pieces config source cs r.0) in
-      starts-append r.1.lead (r.1.body ++ rest) p.0 (starts-append r.1.body rest p.1 (written-starts cs w.1 r.0))
+      starts-cells r.1.lead (r.1.body ++ rest) p.0 (starts-cells r.1.body rest p.1 (written-starts cs w.1 r.0))
 
 -- ── an accepted call
 

@@ -199,12 +199,14 @@ pub fn clear(map: &mut [u64])
     map.fill(0);
 }
 
-// The first numbers of `notes`, as many as the map has.
+// The first numbers of `notes`, as many as the map has. By a loop, as `copy` of context.
 pub fn copy_front(map: &mut [u64], notes: &[u64])
     requires { length map.old ≤ length notes.now }
     ensures { map.new ≡ take (length map.old) notes.now }
 {
-    map.copy_from_slice(&notes[..map.len()]);
+    for (i, place) in map.iter_mut().enumerate() {
+        *place = notes[i];
+    }
 }
 
 // Where a line that goes on at an offset ends, as an offset of all bytes, since columns are told by these. Most of the time goes into this search.

@@ -205,6 +205,12 @@ unfolding do_spacing
 newline-step true w = record { did = w.did; spent = w.spent }
 newline-step {c} {xs = xs} false w = record { did = w.did ∙ appended-none c.state c xs; spent = w.spent }
 
+pub line-short : (b : List ℕ) → length b < 2 → is_line_comment b ≡ false
+unfolding is_line_comment
+line-short [] h = refl
+line-short (x ∷ []) h = refl
+line-short (x ∷ y ∷ b) h = absurd (omega arith)
+
 comment_acts : (b : List ℕ) (t : Bool) → is_line_comment b ≡ t → emit_comment b ≡ map spacing (arms.line_or_space ∷ []) ++ ((write_text ∷ []) ++ map spacing (cond t (arms.newline ∷ []) []))
 unfolding emit_comment
 comment_acts b t e = grind arith

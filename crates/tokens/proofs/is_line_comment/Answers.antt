@@ -13,6 +13,8 @@ use Rattle.tokens.proofs.is_line_comment.Goals as goal
 turned : (a b : ℕ) → eqb a b ≡ eqb b a
 turned a b = grind (arith, nat_tests)
 
+-- the library asks whether the two hyphens are the text's first bytes, and the definition whether these are hyphens;
+-- of a text of fewer bytes both say no
 two_hyphens : (b : List ℕ) → starts_with eqb b (45 ∷ 45 ∷ []) ≡ is_line_comment b
 unfolding is_line_comment
 two_hyphens [] = refl
