@@ -127,10 +127,15 @@ pub fn report(
     };
     *tally = run.tally;
     for _ in 0..count {
-        run = next(book, run, work, &mut writer);
+        // What is counted so far is what the lent record holds.
+        let counted = Run {
+            at: run.at,
+            tally: *tally,
+        };
+        run = next(book, counted, work, &mut writer);
         *tally = run.tally;
     }
-    put_total(&mut writer, run.tally);
+    put_total(&mut writer, *tally);
     writer.end()
 }
 

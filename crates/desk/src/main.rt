@@ -9,6 +9,6 @@ fn main(rt: HostRuntime) -> io::Result<()> {
     let mut job = [0u8; 65536];
     let mut out = [0u8; 65536];
     let read = input::read_input(&mut rt.stdin(), &mut job);
-    let n = desk_job::print_job(read.bytes, read.more, &mut out);
+    let n = desk_job::print_job(&job[..read.length], read.more, &mut out);
     rt.stdout().write_all(&out[..n])
 }

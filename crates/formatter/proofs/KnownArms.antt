@@ -16,6 +16,7 @@ use Rattle.layout.specs.Routines.{flagged, list_clause_node, inline_node, format
 use Rattle.token_map.specs.Signed.{Signed}
 use Rattle.token_map.specs.declared.Signs.TheVariants as signs
 use Rattle.token_map.proofs.SignedRoutines.{select_signed, simple_signed, settings_signed, with_signed, join_signed, inline_signed, binary_signed, case-signed, when_signed, no_spaces_signed, tight_paren_signed, union_signed, pass_signed}
+use Rattle.formatter.specs.RoutinePromises.{HasList}
 use Rattle.formatter.specs.KnownArms.{counted, known_arms, noted_multi, noted_several}
 use Rattle.formatter.proofs.RoutineLaws.{case-after, union_after, is-list, multi_noted, list-known, list-node, list_node, list_node-same}
 
@@ -70,11 +71,16 @@ unfolding noted_several
 asks_nothing (TheVariants.ListClause list) e k f = absurd (e list refl)
 asks_nothing _ e k f = refl
 
--- the routine of a node, by what the check has noted of it
-pub known : (r : Routine) (kind : ℕ) {f k : ℕ} {kids : Children} → r ≡ routine_of kind → NodeFacts f k kids → arms_of r kids ≡ known_arms r (noted_multi r f)
+-- a routine of the dispatch is a list clause of no other list
+pub has-list : (r : Routine) (kind : ℕ) → r ≡ routine_of kind → HasList r
+has-list (TheVariants.ListClause list) kind e = is-list kind list e
+has-list _ kind e = tt
+
+-- a routine, by what the check has noted of its node
+pub known : (r : Routine) {f k : ℕ} {kids : Children} → HasList r → NodeFacts f k kids → arms_of r kids ≡ known_arms r (noted_multi r f)
 unfolding known_arms noted_multi arms_of
-known (TheVariants.ListClause list) kind {f} {k} {kids} e n = list-known list kids (noted_multi (TheVariants.ListClause list) f) (multi_noted (is-list kind list e) n)
-known _ kind e n = refl
+known (TheVariants.ListClause list) {f} {k} {kids} h n = list-known list kids (noted_multi (TheVariants.ListClause list) f) (multi_noted h n)
+known _ h n = refl
 
 several_counted : (b : Bool) → b ≡ ltb 1 (counted b)
 several_counted b = grind arith

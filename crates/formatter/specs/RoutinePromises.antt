@@ -1,5 +1,5 @@
 -- What the routines and the dispatch ask and promise.
-use Rattle.std.specs.Prelude.{◌≡◌, List, ◌⊎◌, ℕ, ◌+◌, ◌*◌, ◌^◌, ◌≤◌, ◌<◌, length}
+use Rattle.std.specs.Prelude.{◌≡◌, List, ◌⊎◌, ℕ, ◌+◌, ◌*◌, ◌^◌, ◌≤◌, ◌<◌, length, ⊤}
 use Rattle.context.specs.Cells.{Text}
 use Rattle.context.specs.Store.{Store}
 use Rattle.context.specs.declared.FormatConfig.{FormatConfig}
@@ -9,6 +9,8 @@ use Rattle.tape.specs.Tree.{Children, size, height}
 use Rattle.tape.specs.Tape.{head_at}
 use Rattle.tape.specs.SpelledAt.{SpelledAt}
 use Rattle.tape.specs.NodeFacts.{Noted}
+use Rattle.layout.specs.declared.Routine.{Routine}
+use Rattle.layout.specs.declared.Routine.TheVariants.{ListClause}
 use Rattle.layout.specs.Arms.{Arms}
 use Rattle.layout.specs.FormatNode.{format_node}
 use Rattle.layout.specs.Calls.{Call, walk, calls}
@@ -58,6 +60,11 @@ pub record WalkDone (source : Text) (config : FormatConfig) (i : ℕ) (cs : List
 -- the lists of which the check notes whether a clause has one
 abbrev pub IsList : ℕ → Type 0
 IsList list = (list ≡ GroupByList) ⊎ (list ≡ OrderByList)
+
+-- a list clause is of one of these
+abbrev pub HasList : Routine → Type 0
+HasList (ListClause list) = IsList list
+HasList _ = ⊤
 
 -- by a routine
 pub record RoutineDone (source tape : List ℕ) (config : FormatConfig) (i : ℕ) (R : Children → Arms) (c : FormatterContext) (xs ms : List ℕ) (w : Walk) (ys ns : List ℕ) : Type 0 where

@@ -5,9 +5,9 @@
 ghost use Rattle.std.specs.Prelude.{◌≡◌};
 ghost use Rattle.tape.specs.NodeFacts.{facts_at};
 ghost use Rattle.tape.specs.Tape.{head_at};
-ghost use Rattle.layout.specs.FormatNode.{arms_of, routine_of};
+ghost use Rattle.layout.specs.FormatNode.{arms_of};
 ghost use Rattle.formatter.specs.KnownArms.{noted_copied};
-ghost use Rattle.formatter.specs.RoutinePromises.{NodeDone, NodeReady, RoutineDone};
+ghost use Rattle.formatter.specs.RoutinePromises.{HasList, NodeDone, NodeReady, RoutineDone};
 
 use crate::Walk;
 use crate::arms::{after, before, begin, end, multi, several, signs, token};
@@ -35,7 +35,7 @@ fn children(
     routine: Routine,
     c: FormatterContext,
 ) -> Walk
-    requires { NodeReady source.now tape.now facts.now settings.now.config left at c × (routine ≡ routine_of (head_at tape.now at).kind) }
+    requires { NodeReady source.now tape.now facts.now settings.now.config left at c × HasList routine }
     ensures { RoutineDone source.now tape.now settings.now.config at (arms_of routine) c out.old map.old result out.new map.new }
 {
     let multi = multi(Facts::at(facts, at), routine);

@@ -1,22 +1,22 @@
 // What the programs read: an input into a buffer, and whether it goes on after a full one.
 #![tactic(auto)]
 
-ghost use Rattle.std.specs.Prelude.{◌≤◌, length};
+ghost use Rattle.std.specs.Prelude.{◌≡◌, ◌≤◌, length, take};
 
 use std::io::Read;
 
-// The bytes that were read, and whether the input goes on after them. Both hold of each.
+// How many bytes were read, and whether the input goes on after them. A count and no slice, which would keep the buffer borrowed: the clauses speak of the
+// buffer after the call.
 #[derive(Clone, Copy)]
-pub struct Input<'a> {
-    pub bytes: &'a [u8],
+pub struct Input {
+    pub length: usize,
     pub more: bool,
 }
 
-// Reads until the buffer is full or the input ends. A read that fails counts as the input's end. The library's read_to_end needs a heap, and its
-// read_exact doesn't tell how many bytes came before the end. That the bytes are the buffer's front stands in no clause: the result borrows the buffer,
-// which so has no value after the call that a clause could name, and what it ends as is proved only of a body that hands on one field or a call's result.
-fn fill<'a, R: Read>(reader: &mut R, buffer: &'a mut [u8]) -> &'a [u8]
-    ensures { length result.now ≤ length buffer.old }
+// Reads until the buffer is full or the input ends, and tells how many bytes that are. A read that fails counts as the input's end. The library's
+// read_to_end needs a heap, and its read_exact doesn't tell how many bytes came before the end.
+fn fill<R: Read>(reader: &mut R, buffer: &mut [u8]) -> usize
+    ensures { result ≤ length buffer.new }
 {
     let mut length = 0;
     while length < buffer.len() {
@@ -25,14 +25,15 @@ fn fill<'a, R: Read>(reader: &mut R, buffer: &'a mut [u8]) -> &'a [u8]
             Ok(n) => length += n,
         }
     }
-    &buffer[..length]
+    length
 }
 
-pub fn read_input<'a, R: Read>(reader: &mut R, buffer: &'a mut [u8]) -> Input<'a>
-    ensures { length result.bytes.now ≤ length buffer.old }
+pub fn read_input<R: Read>(reader: &mut R, buffer: &mut [u8]) -> Input
+    ensures within { result.length ≤ length buffer.new }
+    ensures prefix { result.length ≡ length (take result.length buffer.new) }
 {
     Input {
-        bytes: fill(reader, buffer),
+        length: fill(reader, buffer),
         more: matches!(reader.read(&mut [0]), Ok(1)),
     }
 }

@@ -9,6 +9,6 @@ fn main(rt: HostRuntime) -> io::Result<()> {
     let mut list = [0u8; 1048576];
     let mut line = [0u8; 128];
     let read = input::read_input(&mut rt.stdin(), &mut list);
-    let n = replay_list::print_replayed(read.bytes, read.more, &mut line);
+    let n = replay_list::print_replayed(&list[..read.length], read.more, &mut line);
     rt.stdout().write_all(&line[..n])
 }

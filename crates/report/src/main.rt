@@ -11,6 +11,12 @@ fn main(rt: HostRuntime) -> io::Result<()> {
     let mut work = [0u8; 65536];
     let mut out = [0u8; 65536];
     let read = input::read_input(&mut rt.stdin(), &mut book);
-    let done = book::report_from(read.bytes, read.more, Tally::default(), &mut work, &mut out);
+    let done = book::report_from(
+        &book[..read.length],
+        read.more,
+        Tally::default(),
+        &mut work,
+        &mut out,
+    );
     rt.stdout().write_all(&out[..done.put])
 }

@@ -5,4 +5,4 @@ use Rattle.book.proofs.Looping.{Fine}
 use Rattle.book.proofs.report.Given as goal
 
 abbrev pub invariant-loop : goal.invariant-loop
-invariant-loop l = Fine l.book (report_of (Ok l.count) l.book l.fn.tally l.fn.work) l.count l.counter l.initial.writer l.run l.tally l.work l.writer
+invariant-loop l = Fine l.book (report_of (Ok l.count) l.book l.fn.tally l.fn.work) l.count l.counter l.initial.writer (record { at = l.run.at; tally = l.tally }) l.tally l.work l.writer

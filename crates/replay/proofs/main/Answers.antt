@@ -7,6 +7,12 @@ use Rattle.replay.proofs.main.Goals as goal
 pub slice_bounds-read_input-end : goal.slice_bounds-read_input-end
 slice_bounds-read_input-end c = sym (length-replicate {A = ℕ} 1048576 0)
 
+pub slice_bounds-list-end : goal.slice_bounds-list-end
+slice_bounds-list-end c = c.read_input-read.ensures.within
+
+pub slice_bounds-print_replayed-end : goal.slice_bounds-print_replayed-end
+slice_bounds-print_replayed-end c = c.read_input-read.ensures.prefix
+
 pub slice_bounds-line-end : goal.slice_bounds-line-end
 slice_bounds-line-end c = within _ _ _ c.print_replayed-n.ensures
 

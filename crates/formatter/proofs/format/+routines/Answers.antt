@@ -7,7 +7,7 @@ use Rattle.tape.specs.Tree.{count_list_items}
 use Rattle.layout.specs.FormatNode.{arms_of}
 use Rattle.formatter.specs.KnownArms.{counted, known_arms, noted_multi, noted_several}
 use Rattle.token_map.proofs.PlaceOfToken.{noted-by_head}
-use Rattle.formatter.proofs.KnownArms.{counted-same, known}
+use Rattle.formatter.proofs.KnownArms.{counted-same, has-list, known}
 use Rattle.formatter.proofs.Walks.{child_noted, copy_ready, decided, fact_fits, left-pos, loop_first, loop_fits, loop_last, node-copied, node-next, node-noted, node-ready, opened-at, routine_done, side_ready, token-next, token-ready}
 use Rattle.tokens.proofs.Choices.{as_spaced, done_at}
 use Rattle.formatter.proofs.format.+routines.Goals as goal
@@ -19,7 +19,7 @@ pub children-overflow_add-i : goal.children-overflow_add-i
 children-overflow_add-i t c = omega (arith, c.requires.0.inside, c.requires.0.sizes.tape-fits)
 
 pub children-loop-i-init : goal.children-loop-i-init
-children-loop-i-init t c = rw (c.begin-local.ensures c.multi-multi.result) (loop_first (arms_of c.args.routine) (known_arms c.args.routine c.multi-multi.result) _ _ c.requires.0 (λ all z. known c.args.routine _ c.requires.1 (node-noted c.requires.0 all z) ∙ ap (known_arms c.args.routine) (sym (c.multi-multi.ensures ∙ ap (noted_multi c.args.routine) c.at.ensures))))
+children-loop-i-init t c = rw (c.begin-local.ensures c.multi-multi.result) (loop_first (arms_of c.args.routine) (known_arms c.args.routine c.multi-multi.result) _ _ c.requires.0 (λ all z. known c.args.routine c.requires.1 (node-noted c.requires.0 all z) ∙ ap (known_arms c.args.routine) (sym (c.multi-multi.ensures ∙ ap (noted_multi c.args.routine) c.at.ensures))))
 
 pub children-bounds-tape-i : goal.children-bounds-tape-i
 children-bounds-tape-i t c = omega (arith, c.loop-i.invariant.inside)
@@ -87,6 +87,9 @@ node-skip-end-requires t c = opened-at c.requires.0
 
 pub node-format_error_verbatim-ctx-requires : goal.node-format_error_verbatim-ctx-requires
 node-format_error_verbatim-ctx-requires t c = copy_ready c.requires.0 c.head_at-h.ensures
+
+pub node-children-requires-in-ListClause : goal.node-children-requires-in-ListClause
+node-children-requires-in-ListClause t c = (omega (arith, c.decreases), (c.requires.0, has-list _ _ (sym c.in-ListClause.is ∙ c.routine_of.ensures)))
 
 pub node-returns-then-is_copied : goal.node-returns-then-is_copied
 node-returns-then-is_copied t c = node-copied c.requires.0 c.requires.1 c.head_at-h.ensures (decided c.requires.0 c.requires.1 c.at.ensures c.is_copied.ensures c.if-is_copied.true) c.skip-end.ensures (c.format_error_verbatim-ctx.ensures c.args.settings.now.config) c.note_none.ensures
