@@ -1,18 +1,15 @@
 -- Laws of `written`: nothing, one byte, writes in a row, and a loop; and of the digits.
-use mathlib.Core.Path.{◌≡◌, refl, sym, ap, ◌∙◌}
+use mathlib.Core.Path.{◌≡◌, refl, sym, ap, subst, ◌∙◌}
 use mathlib.Core.List.{List, [], ◌∷◌, ◌++◌}
-use Prim.Native.Nat.{ℕ, zero, suc, min, ◌+◌, ◌-◌, ◌/◌, ◌%◌, ◌≤◌, ◌<◌, ◌^◌}
-use mathlib.Core.Logic.{inl, inr}
+use Prim.Native.Nat.{ℕ, zero, suc, min, ◌+◌, ◌-◌, ◌/◌, ◌%◌, ◌≤◌, ◌<◌}
+use native.Mathlib.Nat.{suc-ne-zero}
+use native.Mathlib.Numerals.{add-one, sub-one}
 use native.Mathlib.Omega.{arith, min_cases}
-use lib.ListN.{length, take, drop, length-append, length-drop, drop_of_length-le}
-use lib.Seq.{take_all}
+use lib.ListN.{length, get_or, take, set, length-append}
+use lib.Seq.{take-suc, take_all}
 use borrow.Author.Tests.{lt-ltb, le-ltb}
 use Rattle.context.specs.Splice.{splice}
-use Rattle.context.proofs.Splicing.{splice-covers, splice-front, splice-nil, splice-splice, splice-past}
-use Rattle.std.proofs.Common.{decimal as all_digits}
-use Rattle.std.proofs.lemmas.Fmt.{decimal_step, decimal_digit}
-use Rattle.std.proofs.lemmas.Bool.{cases_lt}
-use Rattle.std.proofs.lemmas.List.{drop-append-le, length-take-le}
+use Rattle.context.proofs.Splicing.{splice-nil, splice-splice, splice-past}
 use Rattle.desk_job.specs.Job.{decimal}
 use Rattle.desk_job.specs.Written.{Written, written}
 use Rattle.desk_job.specs.Puts.{Puts}
@@ -37,22 +34,34 @@ module _ {r : ℕ} {out : List ℕ} (at : ℕ) (bs xs : List ℕ) (h : Wrote r o
   unfolding written
   end_of = ap (λ (w : Written). w.end) h
 
-  space-of : out ≡ splice at bs xs
+  pub space-of : out ≡ splice at bs xs
   unfolding written
   space-of = ap (λ (w : Written). w.space) h
 
-  same_length-of : length out ≡ length xs
+  pub same_length-of : length out ≡ length xs
   same_length-of = ap length space-of ∙ length-splice at bs xs
 
   -- a writer ends within the space
   pub within : r ≤ length out
   within = omega (arith, end_of, same_length-of)
 
-wrote_nothing : (at : ℕ) (xs : List ℕ) → at ≤ length xs → Wrote at xs at [] xs
+pub wrote_nothing : (at : ℕ) (xs : List ℕ) → at ≤ length xs → Wrote at xs at [] xs
 wrote_nothing at xs h = wrote at at [] xs xs (omega (arith, h)) (sym (splice-nil at xs))
 
+splice-one : (at b : ℕ) (xs : List ℕ) → set xs at b ≡ splice at (b ∷ []) xs
+unfolding splice
+splice-one at b [] = refl
+splice-one (suc at) b (x ∷ xs) = ap (λ (r : List ℕ). x ∷ r) (splice-one at b xs)
+splice-one zero b (x ∷ xs) = ap (λ (r : List ℕ). b ∷ r) (sym (splice-nil zero xs))
+
+pub wrote_one : (at b : ℕ) (xs : List ℕ) → at < length xs → Wrote (at + 1) (set xs at b) at (b ∷ []) xs
+wrote_one at b xs h = wrote (at + 1) at (b ∷ []) xs (set xs at b) (omega (arith, h)) (splice-one at b xs)
+
+pub wrote_past : (at b : ℕ) (xs : List ℕ) → at ≤ length xs → length xs ≤ at → Wrote at xs at (b ∷ []) xs
+wrote_past at b xs h k = wrote at at (b ∷ []) xs xs (omega (arith, h, k)) (sym (splice-past at (b ∷ []) xs k))
+
 -- two writes, the second where the first ended, are one
-wrote_then : {r s : ℕ} {out end : List ℕ} (at : ℕ) (ps bs xs : List ℕ) → Wrote r out at ps xs → Wrote s end r bs out → Wrote s end at (ps ++ bs) xs
+pub wrote_then : {r s : ℕ} {out end : List ℕ} (at : ℕ) (ps bs xs : List ℕ) → Wrote r out at ps xs → Wrote s end r bs out → Wrote s end at (ps ++ bs) xs
 wrote_then {r} {s} {out} {end} at ps bs xs h k =
     let la = length-append ps bs in
     let lo = same_length-of at ps xs h in
@@ -68,27 +77,13 @@ wrote_then {r} {s} {out} {end} at ps bs xs h k =
     ∙ sym (splice-past (at + length ps) bs (splice at ps xs) (omega (arith, ls, q)))
     ∙ splice-splice at ps bs xs))
 
--- ── a text written in one go, as far as the space goes
+-- a loop that writes a text byte by byte: one pass, and the end
+pub wrote_step : {r s : ℕ} {out end : List ℕ} (at : ℕ) (xs text : List ℕ) (i : ℕ) → i < length text → Wrote r out at (take i text) xs → Wrote s end r (get_or text i 0 ∷ []) out
+    → Wrote s end at (take (i + 1) text) xs
+wrote_step at xs text i l h k = rw (add-one, take-suc text i 0 l) (wrote_then at (take i text) (get_or text i 0 ∷ []) xs h k)
 
-text_put : (at n : ℕ) (bs xs : List ℕ) → at ≤ length xs → n ≡ min (length bs) (length xs - at) → take at xs ++ (take n bs ++ drop n (drop at xs)) ≡ splice at bs xs
-unfolding splice
-text_put zero n bs xs h e = splice-front bs xs (take n bs) n (omega (arith, e)) refl
-text_put (suc at) n bs [] h e = absurd (omega (arith, h))
-text_put (suc at) n bs (x ∷ xs) h e = ap (λ (r : List ℕ). x ∷ r) (text_put at n bs xs (omega (arith, h)) (omega (arith, e)))
-
--- the part of the space from `at` on, of n bytes, was lent and comes back with the text's first n
-pub wrote_text : (at n k : ℕ) (bs xs part : List ℕ) → at ≤ length xs → n ≡ min (length bs) (length xs - at) → k ≡ n → part ≡ take n bs
-    → Wrote (at + n) (take at xs ++ (part ++ drop k (drop at xs))) at bs xs
-wrote_text at n k bs xs part h e f p =
-    wrote (at + n) at bs xs (take at xs ++ (part ++ drop k (drop at xs))) (omega (arith, h, e)) (rw (f, p) (text_put at n bs xs h e))
-
--- what `copy` lays over that part
-pub put_whole : (at n k : ℕ) (bs xs part : List ℕ) → at ≤ length xs → n ≡ min (length bs) (length xs - at) → k ≡ n → part ≡ splice 0 (take n bs) (take k (drop at xs)) → part ≡ take n bs
-put_whole at n k bs xs part h e f p =
-    let d = length-drop at xs in
-    let l : length (take k (drop at xs)) ≡ n = length-take-le k (drop at xs) (omega (arith, d, e, f)) ∙ f in
-    let m = length-take-le n bs (omega (arith, e)) in
-    p ∙ splice-covers (take n bs) (take k (drop at xs)) (omega (arith, l, m)) ∙ take_all _ (take n bs) (omega (arith, l, m))
+pub wrote_all : {r : ℕ} {out : List ℕ} (at : ℕ) (xs text : List ℕ) (i : ℕ) → length text ≤ i → Wrote r out at (take i text) xs → Wrote r out at text xs
+wrote_all {r} {out} at xs text i l h = subst (λ (t : List ℕ). Wrote r out at t xs) (take_all i text l) h
 
 -- ── a writer
 
@@ -104,20 +99,17 @@ puts_all z s h e o = rw (e, o, ← z, ← s) h.wrote
 
 -- ── the digits
 
--- the last digits of a number, as many as there are places
-pub last-digits : (places n : ℕ) → n < 2 ^ 64 → decimal places n ≡ drop (length (all_digits n) - places) (all_digits n)
+pub decimal-none : (places n : ℕ) → places ≡ 0 → decimal places n ≡ []
 unfolding decimal
-last-digits zero n h = sym (drop_of_length-le (all_digits n) (omega arith))
-last-digits (suc k) n h =
-    elim (cases_lt n 10) [
-      | inl l ↦
-          let d = (48 + n) ∷ [] in
-          let all : length d - suc k ≡ 0 = omega arith in
-          rw (lt-ltb n 10 l, decimal_digit n l, all)
-      | inr g ↦
-          let ds = all_digits (n / 10) in
-          let d = (48 + n % 10) ∷ [] in
-          let step : all_digits n ≡ ds ++ d = decimal_step n g h in
-          let from : length (ds ++ d) - suc k ≡ length ds - k = rw length-append (omega arith) in
-          rw (le-ltb n 10 g, step, from, drop-append-le (length ds - k) ds d (omega arith)) (ap (λ (xs : List ℕ). xs ++ d) (last-digits k (n / 10) (omega arith)))
-    ]
+decimal-none zero n z = refl
+decimal-none (suc k) n z = absurd (suc-ne-zero k z)
+
+pub decimal-last : (places n : ℕ) → (places ≡ 0 → ⊥) → n < 10 → decimal places n ≡ (48 + n) ∷ []
+unfolding decimal
+decimal-last zero n z l = absurd (z refl)
+decimal-last (suc k) n z l = simp (lt-ltb n 10 l)
+
+pub decimal-more : (places n : ℕ) → (places ≡ 0 → ⊥) → 10 ≤ n → decimal places n ≡ decimal (places - 1) (n / 10) ++ ((48 + n % 10) ∷ [])
+unfolding decimal
+decimal-more zero n z l = absurd (z refl)
+decimal-more (suc k) n z l = rw (sub-one) (simp (le-ltb n 10 l))

@@ -1,9 +1,6 @@
--- `Writer::put_all` meets its contract.
-use native.Mathlib.Omega.{arith}
-use mathlib.Core.Path.{refl}
-use Rattle.desk_job.proofs.Writing.{put_whole, wrote_text}
+-- `Writer::put_all` meets its contract: it ends within the space.
+use Rattle.desk_job.proofs.Writing.{within}
 use Rattle.desk_job.proofs.write.Writer.put_all.Goals as goal
 
-pub returns : goal.returns
-returns c =
-    record { same = refl; wrote = wrote_text _ _ _ _ _ _ (omega arith) c.min-fits.ensures (omega arith) (put_whole _ _ _ _ _ _ (omega arith) c.min-fits.ensures (omega arith) c.copy.ensures) }
+pub invariant_of-self : goal.invariant_of-self
+invariant_of-self c = record { within = within _ _ _ c.put_all-self.ensures }

@@ -1,8 +1,6 @@
--- `Writer::put_field` meets its contract.
-use Rattle.desk_job.proofs.Writing.{puts_then}
-use Rattle.desk_job.specs.Job.{field}
+-- `Writer::put_field` meets its contract: it ends within the space.
+use Rattle.desk_job.proofs.Writing.{within}
 use Rattle.desk_job.proofs.write.Writer.put_field.Goals as goal
 
-pub returns : goal.returns
-unfolding field
-returns c = puts_then c.put_all.ensures c.put_decimal.ensures
+pub invariant_of-self : goal.invariant_of-self
+invariant_of-self c = record { within = within _ _ _ c.put_field-self.ensures }

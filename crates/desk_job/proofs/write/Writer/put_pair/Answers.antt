@@ -1,8 +1,6 @@
--- `Writer::put_pair` meets its contract.
-use Rattle.desk_job.proofs.Writing.{puts_then}
-use Rattle.desk_job.specs.Job.{pair}
+-- `Writer::put_pair` meets its contract: it ends within the space.
+use Rattle.desk_job.proofs.Writing.{within}
 use Rattle.desk_job.proofs.write.Writer.put_pair.Goals as goal
 
-pub returns : goal.returns
-unfolding pair
-returns c = puts_then (puts_then c.put_field.ensures c.put_field-2.ensures) c.put_all.ensures
+pub invariant_of-self : goal.invariant_of-self
+invariant_of-self c = record { within = within _ _ _ c.put_pair-self.ensures }
