@@ -332,6 +332,8 @@ fn line_or_space(out: &mut [u8], ctx: FormatterContext) -> FormatterContext
     }
 }
 
+// A part of `emit_trivia`, so that a context goes to neither through memory: what is stored there in parts and read whole waits for the stores.
+#[inline(always)]
 pub fn emit_comment(
     settings: &Settings,
     out: &mut [u8],
